@@ -1,0 +1,9 @@
+pub mod Words
+pub mod Calendar
+pub mod Routes
+pub mod Valid
+pub mod Trips
+pub mod Counts
+pub mod Costs
+pub mod Feasible
+pub mod Scenario

@@ -12,3 +12,25 @@ pub mod sequence;
 
 pub use memory::OutOfMemory;
 pub use sequence::Sequence;
+
+pub mod bound;
+pub mod day;
+pub mod fault;
+pub mod flight;
+pub mod parts;
+pub mod place;
+pub mod plan;
+pub mod scenario;
+pub mod words;
+
+pub use bound::{Bound, PriceKey};
+pub use day::Day;
+pub use fault::{Cause, Fault};
+pub use flight::{
+    Connection, Connections, Cost, CostTable, Flight, Flights, Leg, Legs, Nodes, Tables, Values,
+};
+pub use parts::Parts;
+pub use place::{CapKind, Caps, Name, Place, PlaceKind, Places};
+pub use plan::{Plan, Stop, Trip};
+pub use scenario::Scenario;
+pub use words::{is_name, parse_number};

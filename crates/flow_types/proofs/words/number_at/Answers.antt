@@ -1,0 +1,25 @@
+use Rattle.std.proofs.Common.{arith, ◌≡◌, ◌≤◌, true, length}
+use Rattle.std.specs.Str.{all_ascii_digits}
+use Rattle.std.proofs.lemmas.Bool.Decides.{nat_tests}
+use Rattle.flow_types.proofs.WordFacts.{next_digit, IsNextDigit, number_parts}
+use Rattle.flow_types.proofs.words.number_at.Goals as goal
+
+pub overflow_mul-value : goal.overflow_mul-value
+overflow_mul-value c =
+    let next = number_parts c.args.bytes.now c.loop-byte.byte-index c.requires (omega arith) in
+    omega arith
+
+pub overflow_sub-byte : goal.overflow_sub-byte
+overflow_sub-byte c =
+    let next = number_parts c.args.bytes.now c.loop-byte.byte-index c.requires (omega arith) in
+    omega arith
+
+pub overflow_add-value : goal.overflow_add-value
+overflow_add-value c =
+    let next = number_parts c.args.bytes.now c.loop-byte.byte-index c.requires (omega arith) in
+    omega (arith, c.from.ensures)
+
+pub loop-byte-preserved : goal.loop-byte-preserved
+loop-byte-preserved c =
+    let next = number_parts c.args.bytes.now c.loop-byte.byte-index c.requires (omega arith) in
+    omega (arith, c.from.ensures)

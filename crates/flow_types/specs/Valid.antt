@@ -1,0 +1,112 @@
+-- What a valid scenario is, part by part.
+use Rattle.std.specs.Prelude.{◌≡◌, ◌≢◌, ℕ, ◌+◌, ◌<◌, ◌≤◌, Bool, ◌&&◌, nat_le, List, length, Option, Some, None, slice_get, IsTrue, All, AllPairs, sum_by, ℤ, pos, neg_ℤ, ◌≤ℤ◌}
+use Rattle.flow_types.specs.declared.day.Day.{Day}
+use Rattle.flow_types.specs.declared.flight.Connection.{Connection}
+use Rattle.flow_types.specs.declared.flight.Cost.{Cost}
+use Rattle.flow_types.specs.declared.flight.Cost.TheVariants.{Linear, Tables}
+use Rattle.flow_types.specs.declared.flight.CostTable.{CostTable}
+use Rattle.flow_types.specs.declared.flight.Flight.{Flight}
+use Rattle.flow_types.specs.declared.parts.Parts.{Parts}
+use Rattle.flow_types.specs.declared.place.Place.{Place}
+use Rattle.flow_types.specs.declared.place.PlaceKind.{PlaceKind}
+use Rattle.flow_types.specs.declared.place.PlaceKind.TheVariants.{Airport, Sector}
+use Rattle.flow_types.specs.Calendar.{IsDate}
+use Rattle.flow_types.specs.Routes.{is_airport, IsRoute}
+use Rattle.flow_types.specs.Words.{is_name}
+
+-- a date and time of the calendar, and 1 to 512 periods of 1 to 120 minutes
+pub record IsDay (day : Day) : Type 0 where
+  pub year_from : 1 ≤ day.year
+  pub year_to : day.year ≤ 9998
+  pub date : IsDate day.year day.month day.day
+  pub hour : day.hour ≤ 23
+  pub minute : day.minute ≤ 59
+  pub minutes_from : 1 ≤ day.minutes
+  pub minutes_to : day.minutes ≤ 120
+  pub periods_from : 1 ≤ day.periods
+  pub periods_to : day.periods ≤ 512
+
+-- how many arrival capacities a place has: an airport one for each period
+abbrev pub arrival_count : PlaceKind → ℕ → ℕ
+arrival_count Airport periods = periods
+arrival_count Sector periods = 0
+
+-- a name, and capacities of at most 1,000,000 for every period
+pub record IsPlace (periods : ℕ) (place : Place) : Type 0 where
+  pub name : IsTrue (is_name place.name)
+  pub first_count : length place.first ≡ periods
+  pub second_count : length place.second ≡ arrival_count place.kind periods
+  pub first : All (λ c. c ≤ 1000000) place.first
+  pub second : All (λ c. c ≤ 1000000) place.second
+
+-- how many values a table has, 0 where there is no table
+abbrev pub value_count : Option CostTable → ℕ
+value_count None = 0
+value_count (Some table) = length table.values
+
+-- factors of at most 1,000,000, or tables that reach to the greatest delays
+abbrev pub is_cost : List CostTable → ℕ → ℕ → Cost → Bool
+is_cost tables mg md (Linear on_ground airborne) = nat_le on_ground 1000000 && nat_le airborne 1000000
+is_cost tables mg md (Tables total credit) =
+    nat_le (md + 1) (value_count (slice_get tables total)) && nat_le (mg + 1) (value_count (slice_get tables credit))
+
+-- from one airport to another along a route, within the day, at a known cost
+pub record IsFlight (periods : ℕ) (places : List Place) (tables : List CostTable) (flight : Flight) : Type 0 where
+  pub name : IsTrue (is_name flight.name)
+  pub forward : flight.sd ≤ flight.sa
+  pub within : flight.sa < periods
+  pub ground_delay : flight.mg ≤ 511
+  pub arrival_delay : flight.md ≤ 511
+  pub origin : IsTrue (is_airport (slice_get places flight.from))
+  pub destination : IsTrue (is_airport (slice_get places flight.to))
+  pub apart : flight.from ≢ flight.to
+  pub route : IsRoute places flight.from flight.to flight.nodes flight.legs
+  pub cost : IsTrue (is_cost tables flight.mg flight.md flight.cost)
+
+-- within 1,000,000,000 either way
+pub record IsValue (v : ℤ) : Type 0 where
+  pub low : neg_ℤ (pos 1000000000) ≤ℤ v
+  pub high : v ≤ℤ pos 1000000000
+
+pub record IsTable (table : CostTable) : Type 0 where
+  pub name : IsTrue (is_name table.name)
+  pub some : 1 ≤ length table.values
+  pub few : length table.values ≤ 512
+  pub values : All IsValue table.values
+
+-- where a flight begins and ends
+abbrev pub origin_of : Option Flight → Option ℕ
+origin_of None = None
+origin_of (Some flight) = Some flight.from
+
+abbrev pub destination_of : Option Flight → Option ℕ
+destination_of None = None
+destination_of (Some flight) = Some flight.to
+
+-- the second flight departs from where the first arrives
+pub record IsConnection (flights : List Flight) (connection : Connection) : Type 0 where
+  pub first : connection.first < length flights
+  pub second : connection.second < length flights
+  pub together : origin_of (slice_get flights connection.second) ≡ destination_of (slice_get flights connection.first)
+  pub turnaround : connection.turnaround ≤ 511
+
+-- the two join different pairs of flights
+abbrev pub IsOtherConnection : Connection → Connection → Type 0
+IsOtherConnection a b = a.first ≡ b.first → a.second ≢ b.second
+
+-- names differ, every part is as above, and nothing passes its limit
+pub record IsScenario (parts : Parts) : Type 0 where
+  pub day : IsDay parts.day
+  pub places_few : length parts.places ≤ 1000
+  pub places : All (IsPlace parts.day.periods) parts.places
+  pub place_names : AllPairs (λ a b. a.name ≢ b.name) parts.places
+  pub flights_few : length parts.flights ≤ 2000
+  pub flights : All (IsFlight parts.day.periods parts.places parts.tables) parts.flights
+  pub flight_names : AllPairs (λ a b. a.name ≢ b.name) parts.flights
+  pub nodes_few : sum_by (λ flight. length flight.nodes) parts.flights ≤ 20000
+  pub tables_few : length parts.tables ≤ 1000
+  pub tables : All IsTable parts.tables
+  pub table_names : AllPairs (λ a b. a.name ≢ b.name) parts.tables
+  pub connections_few : length parts.connections ≤ 4000
+  pub connections : All (IsConnection parts.flights) parts.connections
+  pub connected_once : AllPairs IsOtherConnection parts.connections
