@@ -1,1 +1,2 @@
+pub mod PairFacts
 pub mod WordFacts

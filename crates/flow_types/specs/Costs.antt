@@ -36,3 +36,12 @@ abbrev pub plan_cost : List CostTable → List Flight → List (List Stop) → �
 plan_cost tables [] plan = pos 0
 plan_cost tables (flight ∷ flights) [] = pos 0
 plan_cost tables (flight ∷ flights) (trip ∷ plan) = trip_cost tables flight trip +ℤ plan_cost tables flights plan
+
+-- the same of a flight, if there is one
+abbrev pub total_at : List CostTable → Option Flight → ℕ → ℤ
+total_at tables None delay = pos 0
+total_at tables (Some flight) delay = total_of tables flight.cost delay
+
+abbrev pub credit_at : List CostTable → Option Flight → ℕ → ℤ
+credit_at tables None delay = pos 0
+credit_at tables (Some flight) delay = credit_of tables flight.cost delay

@@ -1,5 +1,6 @@
 pub mod Words
 pub mod Calendar
+pub mod Capacities
 pub mod Routes
 pub mod Valid
 pub mod Trips

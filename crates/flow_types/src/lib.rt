@@ -15,12 +15,16 @@ pub use sequence::Sequence;
 
 pub mod bound;
 pub mod day;
+pub mod differ;
 pub mod fault;
 pub mod flight;
+pub mod lookup;
 pub mod parts;
 pub mod place;
 pub mod plan;
+pub mod route;
 pub mod scenario;
+pub mod valid;
 pub mod words;
 
 pub use bound::{Bound, PriceKey};

@@ -1,6 +1,8 @@
 //! Trips and plans.
+ghost use Rattle.std.specs.Prelude.{◌≡◌, IfOk};
 
-use crate::Sequence;
+use crate::{OutOfMemory, Sequence};
+use std::alloc::Global;
 
 /// A node of a flight, and the period in which the flight enters it.
 #[derive(Clone, Copy, Debug, PartialEq, Eq)]
@@ -14,3 +16,25 @@ pub type Trip = Sequence<Stop>;
 
 /// A trip for each flight, in the order of the flights.
 pub type Plan = Sequence<Trip>;
+
+impl Sequence<Stop> {
+    /// A trip of these stops, in a block of their size.
+    pub fn from_stops(alloc: Global, stops: &[Stop]) -> Result<Trip, OutOfMemory>
+        ensures { IfOk result (λ trip. trip ≡ stops.now) }
+    {
+        Ok(Sequence::from_vec(Vec::from_slice(alloc, stops)?))
+    }
+}
+
+impl Sequence<Trip> {
+    /// The same plan once more, in blocks of its own.
+    pub fn copy(&self, alloc: Global) -> Result<Plan, OutOfMemory>
+        ensures { IfOk result (λ plan. plan ≡ self.now) }
+    {
+        let mut plan = Plan::empty(alloc);
+        for trip in self.items() {
+            plan.add(Trip::from_stops(alloc, trip.items())?)?;
+        }
+        Ok(plan)
+    }
+}

@@ -9,5 +9,5 @@ use Rattle.flow_types.proofs.words.is_name.Goals as goal
 pub returns-then-bytes-le32 : goal.returns-then-bytes-le32
 returns-then-bytes-le32 c =
     let all : c.all.result ≡ list_all is_name_byte c.args.bytes.now =
-        all_from_yields_List is_name_byte _ _ _ c.all.ensures.ran (YieldsList-from_slice c.args.bytes.now cc) (λ x b q k. search (rules, tests)) in
+    all_from_yields_List is_name_byte _ _ _ c.all.ensures.ran (YieldsList-from_slice c.args.bytes.now cc) (λ x b q k. search (rules, tests)) in
     grind (arith, nat_tests)

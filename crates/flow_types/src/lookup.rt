@@ -1,0 +1,105 @@
+//! What the parts of a scenario say: capacities, costs by delay, plain nodes.
+ghost use Rattle.std.specs.Prelude.{◌≡◌, ◌↔◌, Some, ℕ, ◌==◌, count_by, slice_get, slice_index, slice_index_or, IsTrue, pos};
+ghost use Rattle.flow_types.specs.Capacities.{capacity_of};
+ghost use Rattle.flow_types.specs.Costs.{credit_of, total_of, value_at};
+ghost use Rattle.flow_types.specs.Routes.{IsPlain, next_of};
+
+use crate::flight::{Cost, CostTable, Flight, Leg};
+use crate::place::{CapKind, Place};
+
+/// The capacity of the place in the period, 0 where there is none of this kind.
+pub fn capacity_at(places: &[Place], kind: CapKind, place: u32, period: u16) -> u32
+    ensures { result ≡ capacity_of places.now kind place period }
+{
+    match places.get(place as usize) {
+        None => 0,
+        Some(place) => match kind {
+            CapKind::Dep => number_at(place.first.items(), period),
+            CapKind::Arr => number_at(place.second.items(), period),
+            CapKind::Sector => number_at(place.first.items(), period),
+        },
+    }
+}
+
+// The number at the position, 0 where there is none.
+fn number_at(numbers: &[u32], position: u16) -> u32
+    ensures { result ≡ slice_index numbers.now position }
+{
+    numbers.get(position as usize).copied().unwrap_or(0)
+}
+
+/// What so much arrival delay of the flight costs.
+pub fn total_at(tables: &[CostTable], flight: &Flight, delay: u16) -> i64
+    ensures { result ≡ total_of tables.now flight.now.cost delay }
+{
+    match flight.cost {
+        Cost::Linear { airborne, .. } => i64::from(airborne) * i64::from(delay),
+        Cost::Tables { total, .. } => value_at(tables, total, delay),
+    }
+}
+
+/// How much less so much ground delay of the flight costs than as much in the air.
+pub fn credit_at(tables: &[CostTable], flight: &Flight, delay: u16) -> i64
+    ensures { result ≡ credit_of tables.now flight.now.cost delay }
+{
+    match flight.cost {
+        Cost::Linear { ground, airborne } => {
+            (i64::from(airborne) - i64::from(ground)) * i64::from(delay)
+        }
+        Cost::Tables { credit, .. } => value_at(tables, credit, delay),
+    }
+}
+
+// The value of the table at the delay, 0 where there is none.
+fn value_at(tables: &[CostTable], table: u32, delay: u16) -> i64
+    ensures { result ≡ value_at (slice_get tables.now table) delay }
+{
+    match tables.get(table as usize) {
+        None => 0,
+        Some(table) => signed_at(table.values.items(), delay),
+    }
+}
+
+// The value at the position, 0 where there is none.
+fn signed_at(values: &[i64], position: u16) -> i64
+    ensures { result ≡ slice_index_or values.now position (pos 0) }
+{
+    values.get(position as usize).copied().unwrap_or(0)
+}
+
+/// Whether the node is a sector whose only successor has it as its only predecessor.
+pub fn is_plain(flight: &Flight, node: u16) -> bool
+    ensures { IsTrue result ↔ IsPlain flight.now.nodes flight.now.legs node }
+{
+    let legs = flight.legs.items();
+    0 < node
+        && (node as usize) + 1 < flight.nodes.items().len()
+        && count_from(legs, node) == 1
+        && count_to(legs, next_of(legs, node)) == 1
+}
+
+// How many legs leave the node.
+fn count_from(legs: &[Leg], node: u16) -> usize
+    ensures { result ≡ count_by (λ leg. leg.from == node) legs.now }
+{
+    legs.iter().filter(|leg| leg.from == node).count()
+}
+
+// How many legs enter the node.
+fn count_to(legs: &[Leg], node: u16) -> usize
+    ensures { result ≡ count_by (λ leg. leg.to == node) legs.now }
+{
+    legs.iter().filter(|leg| leg.to == node).count()
+}
+
+// Where the first leg from the node leads; the node itself where none leaves it.
+fn next_of(legs: &[Leg], node: u16) -> u16
+    ensures { result ≡ next_of legs.now node }
+{
+    for leg in legs {
+        if leg.from == node {
+            return leg.to;
+        }
+    }
+    node
+}
