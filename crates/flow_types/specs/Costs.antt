@@ -1,5 +1,5 @@
 -- What a plan costs: each flight's total for its arrival delay less its credit for its ground delay.
-use Rattle.std.specs.Prelude.{ℕ, ◌-◌, ◌*◌, List, [], ◌∷◌, Option, Some, None, slice_get, slice_index_or, ℤ, pos, ◌+ℤ◌, ◌-ℤ◌, ◌*ℤ◌}
+use Rattle.std.specs.Prelude.{ℕ, ◌-◌, ◌*◌, List, [], ◌∷◌, Option, Some, None, slice_get, slice_index_or, ℤ, pos, ◌+ℤ◌, ◌-ℤ◌}
 use Rattle.flow_types.specs.declared.flight.Cost.{Cost}
 use Rattle.flow_types.specs.declared.flight.Cost.TheVariants.{Linear, Tables}
 use Rattle.flow_types.specs.declared.flight.CostTable.{CostTable}
@@ -19,7 +19,7 @@ total_of tables (Tables total credit) delay = value_at (slice_get tables total) 
 
 -- what so much of it costs less for having been spent on the ground
 abbrev pub credit_of : List CostTable → Cost → ℕ → ℤ
-credit_of tables (Linear on_ground airborne) delay = (pos airborne -ℤ pos on_ground) *ℤ pos delay
+credit_of tables (Linear on_ground airborne) delay = pos (airborne * delay) -ℤ pos (on_ground * delay)
 credit_of tables (Tables total credit) delay = value_at (slice_get tables credit) delay
 
 -- the cost of departing and arriving in these periods
@@ -45,3 +45,7 @@ total_at tables (Some flight) delay = total_of tables flight.cost delay
 abbrev pub credit_at : List CostTable → Option Flight → ℕ → ℤ
 credit_at tables None delay = pos 0
 credit_at tables (Some flight) delay = credit_of tables flight.cost delay
+
+abbrev pub trip_cost_at : List CostTable → Option Flight → List Stop → ℤ
+trip_cost_at tables None stops = pos 0
+trip_cost_at tables (Some flight) stops = trip_cost tables flight stops

@@ -1,12 +1,13 @@
 -- What it is for a plan to keep every rule.
-use Rattle.std.specs.Prelude.{◌≡◌, ℕ, ◌+◌, ◌<◌, ◌≤◌, List, [], ◌∷◌, Some, slice_get, slice_index, All}
+use Rattle.std.specs.Prelude.{◌≡◌, ℕ, ◌+◌, ◌<◌, ◌≤◌, List, [], ◌∷◌, Some, slice_get, IsTrue, All}
 use Rattle.flow_types.specs.declared.flight.Connection.{Connection}
 use Rattle.flow_types.specs.declared.flight.Flight.{Flight}
 use Rattle.flow_types.specs.declared.parts.Parts.{Parts}
-use Rattle.flow_types.specs.declared.place.Place.{Place}
-use Rattle.flow_types.specs.declared.place.PlaceKind.TheVariants.{Airport, Sector}
+use Rattle.flow_types.specs.declared.place.CapKind.TheVariants as kind
 use Rattle.flow_types.specs.declared.plan.Stop.{Stop}
+use Rattle.flow_types.specs.Capacities.{capacity_of}
 use Rattle.flow_types.specs.Counts.{departures_at, arrivals_at, occupancy_at}
+use Rattle.flow_types.specs.Routes.{is_airport, is_sector}
 use Rattle.flow_types.specs.Trips.{IsTrip, departure_of, arrival_of}
 use Rattle.std.specs.Option.{option_and_then}
 
@@ -28,9 +29,9 @@ KeepsTurn plan connection =
 pub record IsFeasible (parts : Parts) (plan : List (List Stop)) : Type 0 where
   pub trips : AreTrips parts.day.periods parts.flights plan
   pub turns : All (KeepsTurn plan) parts.connections
-  pub departures : (k t : ℕ) (place : Place) → slice_get parts.places k ≡ Some place → place.kind ≡ Airport
-      → t < parts.day.periods → departures_at parts.flights plan k t ≤ slice_index place.first t
-  pub arrivals : (k t : ℕ) (place : Place) → slice_get parts.places k ≡ Some place → place.kind ≡ Airport
-      → t < parts.day.periods → arrivals_at parts.flights plan k t ≤ slice_index place.second t
-  pub sectors : (k t : ℕ) (place : Place) → slice_get parts.places k ≡ Some place → place.kind ≡ Sector
-      → t < parts.day.periods → occupancy_at parts.flights plan k t ≤ slice_index place.first t
+  pub departures : (k t : ℕ) → IsTrue (is_airport (slice_get parts.places k)) → t < parts.day.periods
+      → departures_at parts.flights plan k t ≤ capacity_of parts.places kind.Dep k t
+  pub arrivals : (k t : ℕ) → IsTrue (is_airport (slice_get parts.places k)) → t < parts.day.periods
+      → arrivals_at parts.flights plan k t ≤ capacity_of parts.places kind.Arr k t
+  pub sectors : (k t : ℕ) → IsTrue (is_sector (slice_get parts.places k)) → t < parts.day.periods
+      → occupancy_at parts.flights plan k t ≤ capacity_of parts.places kind.Sector k t

@@ -44,7 +44,8 @@ pub fn credit_at(tables: &[CostTable], flight: &Flight, delay: u16) -> i64
 {
     match flight.cost {
         Cost::Linear { ground, airborne } => {
-            (i64::from(airborne) - i64::from(ground)) * i64::from(delay)
+            let delay = i64::from(delay);
+            i64::from(airborne) * delay - i64::from(ground) * delay
         }
         Cost::Tables { credit, .. } => value_at(tables, credit, delay),
     }

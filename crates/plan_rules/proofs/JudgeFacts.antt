@@ -1,0 +1,60 @@
+-- The first trips of a plan, and what a place with capacities is.
+use Rattle.std.proofs.Common.{◌≡◌, ℕ, suc, zero, ◌+◌, ◌<◌, ◌≤◌, Bool, true, false, List, [], ◌∷◌, length, map, get_or, set, slice_get, Some, None, Option, IsTrue, refl, sym, ap, ◌∙◌, subst, add-one, arith}
+use Rattle.std.proofs.lemmas.Bool.{false≢true}
+use Rattle.std.proofs.lemmas.Option.{slice_get_past}
+use Rattle.flow_types.specs.declared.flight.Flight.{Flight}
+use Rattle.flow_types.specs.declared.parts.Parts.{Parts}
+use Rattle.flow_types.specs.declared.place.CapKind.{CapKind}
+use Rattle.flow_types.specs.declared.place.CapKind.TheVariants as kind
+use Rattle.flow_types.specs.declared.place.Place.{Place}
+use Rattle.flow_types.specs.declared.plan.Stop.{Stop}
+use Rattle.flow_types.specs.Capacities.{has_kind}
+use Rattle.flow_types.specs.Feasible.{AreTrips}
+use Rattle.flow_types.specs.Trips.{IsTrip}
+use Rattle.plan_rules.specs.Judge.{first_trips}
+use Rattle.plan_rules.specs.Loads.{no_trips}
+
+-- no place, no capacities
+none_has : (k : CapKind) → has_kind k None ≡ false
+none_has kind.Dep = refl
+none_has kind.Arr = refl
+none_has kind.Sector = refl
+
+pub has_kind-within : (k : CapKind) (places : List Place) (n : ℕ) → length places ≤ n → IsTrue (has_kind k (slice_get places n)) → ⊥
+has_kind-within k places n past has =
+    false≢true (sym (none_has k) ∙ ap (has_kind k) (sym (slice_get_past places n past)) ∙ has)
+
+-- none of them yet
+pub first_trips-zero : (flights : List Flight) (plan : List (List Stop)) → length plan ≡ length flights → map (λ flight. []) flights ≡ first_trips zero plan
+first_trips-zero [] [] same = refl
+first_trips-zero [] (trip ∷ plan) same = absurd (omega arith)
+first_trips-zero (flight ∷ flights) [] same = absurd (omega arith)
+first_trips-zero (flight ∷ flights) (trip ∷ plan) same = ap (λ trips. [] ∷ trips) (first_trips-zero flights plan (omega arith))
+
+-- the next one isn't there yet
+pub first_trips-next : (plan : List (List Stop)) (n : ℕ) → n < length plan → slice_get (first_trips n plan) n ≡ Some []
+first_trips-next [] n within = absurd (omega arith)
+first_trips-next (trip ∷ plan) zero within = refl
+first_trips-next (trip ∷ plan) (suc n) within = first_trips-next plan n (omega arith)
+
+-- the next one comes
+pub first_trips-more : (plan : List (List Stop)) (n : ℕ) (d : List Stop) → n < length plan → set (first_trips n plan) n (get_or plan n d) ≡ first_trips (suc n) plan
+first_trips-more [] n d within = absurd (omega arith)
+first_trips-more (trip ∷ plan) zero d within = refl
+first_trips-more (trip ∷ plan) (suc n) d within = ap (λ trips. trip ∷ trips) (first_trips-more plan n d (omega arith))
+
+-- all of them
+pub first_trips-all : (plan : List (List Stop)) (n : ℕ) → length plan ≤ n → first_trips n plan ≡ plan
+first_trips-all [] n past = refl
+first_trips-all (trip ∷ plan) zero past = absurd (omega arith)
+first_trips-all (trip ∷ plan) (suc n) past = ap (λ trips. trip ∷ trips) (first_trips-all plan n (omega arith))
+
+-- each trip of a plan is one of its flight
+pub AreTrips-at : (periods : ℕ) (flights : List Flight) (plan : List (List Stop)) (n : ℕ) (d : List Stop) (flight : Flight)
+    → AreTrips periods flights plan → slice_get flights n ≡ Some flight → n < length plan → IsTrip periods flight (get_or plan n d)
+AreTrips-at periods [] plan n d flight trips here within = cc
+AreTrips-at periods (f ∷ flights) [] n d flight trips here within = absurd trips
+AreTrips-at periods (f ∷ flights) (trip ∷ plan) zero d flight trips here within =
+    let same : f ≡ flight = cc in subst (λ (g : Flight). IsTrip periods g trip) same trips.0
+AreTrips-at periods (f ∷ flights) (trip ∷ plan) (suc n) d flight trips here within =
+    AreTrips-at periods flights plan n d flight trips.1 here (omega arith)

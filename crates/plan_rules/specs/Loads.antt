@@ -1,0 +1,83 @@
+-- What loads count: the departures, arrivals and stays of trips that were added.
+use Rattle.std.specs.Prelude.{◌≡◌, ℕ, ◌<◌, List, [], ◌∷◌, length, map, Option, None, Some, slice_get, slice_index_or, slice_set}
+use Rattle.flow_types.specs.declared.flight.Flight.{Flight}
+use Rattle.flow_types.specs.declared.parts.Parts.{Parts}
+use Rattle.flow_types.specs.declared.place.CapKind.{CapKind}
+use Rattle.flow_types.specs.declared.place.CapKind.TheVariants as kind
+use Rattle.flow_types.specs.declared.plan.Stop.{Stop}
+use Rattle.flow_types.specs.Counts.{departs_at, arrives_at, stays_at, departures_at, arrivals_at, occupancy_at}
+use Rattle.flow_types.specs.Trips.{IsTrip, departure_of, arrival_of}
+use Rattle.plan_rules.specs.Table.{Adds, count_at}
+use Rattle.plan_rules.specs.declared.loads.Loads.{Loads}
+use Rattle.plan_rules.specs.declared.table.Table.{Table}
+
+-- the counts of one kind
+abbrev pub table_of : Loads → CapKind → Table
+table_of loads kind.Dep = loads.departures
+table_of loads kind.Arr = loads.arrivals
+table_of loads kind.Sector = loads.inside
+
+-- how many flights depart from, arrive at or are inside the place in the period
+abbrev pub load_at : Loads → CapKind → ℕ → ℕ → ℕ
+load_at loads kind place period = count_at (table_of loads kind) place period
+
+-- when a flight that is there departs and arrives
+abbrev pub departure_at : Loads → ℕ → Option ℕ
+departure_at loads flight = slice_index_or loads.leaves.items flight None
+
+abbrev pub arrival_at : Loads → ℕ → Option ℕ
+arrival_at loads flight = slice_index_or loads.arrives.items flight None
+
+-- as many places and periods
+pub record HasSize (places periods : ℕ) (table : Table) : Type 0 where
+  pub wide : table.places ≡ places
+  pub long : table.periods ≡ periods
+
+-- the loads have room for the scenario's places, periods and flights
+pub record IsMadeFor (parts : Parts) (loads : Loads) : Type 0 where
+  pub departures : HasSize (length parts.places) parts.day.periods loads.departures
+  pub arrivals : HasSize (length parts.places) parts.day.periods loads.arrivals
+  pub inside : HasSize (length parts.places) parts.day.periods loads.inside
+  pub leaves : length loads.leaves.items ≡ length parts.flights
+  pub arrives : length loads.arrives.items ≡ length parts.flights
+
+-- each flight has a trip of its own, or no stops: it isn't there
+abbrev pub IsTripOrNone : ℕ → Flight → List Stop → Type 0
+IsTripOrNone periods flight [] = Unit {0}
+IsTripOrNone periods flight (stop ∷ rest) = IsTrip periods flight (stop ∷ rest)
+
+abbrev pub AreTripsOrNone : ℕ → List Flight → List (List Stop) → Type 0
+AreTripsOrNone periods [] [] = Unit {0}
+AreTripsOrNone periods [] (trip ∷ trips) = ⊥
+AreTripsOrNone periods (flight ∷ flights) [] = ⊥
+AreTripsOrNone periods (flight ∷ flights) (trip ∷ trips) =
+    IsTripOrNone periods flight trip × AreTripsOrNone periods flights trips
+
+-- no flight is there
+abbrev pub no_trips : Parts → List (List Stop)
+no_trips parts = map (λ flight. []) parts.flights
+
+-- The loads count these trips, one for each flight; a flight with no stops isn't there.
+pub record AreLoads (parts : Parts) (trips : List (List Stop)) (loads : Loads) : Type 0 where
+  pub made : IsMadeFor parts loads
+  pub each : AreTripsOrNone parts.day.periods parts.flights trips
+  pub departures : (k t : ℕ) → k < length parts.places → t < parts.day.periods
+      → load_at loads kind.Dep k t ≡ departures_at parts.flights trips k t
+  pub arrivals : (k t : ℕ) → k < length parts.places → t < parts.day.periods
+      → load_at loads kind.Arr k t ≡ arrivals_at parts.flights trips k t
+  pub sectors : (k t : ℕ) → k < length parts.places → t < parts.day.periods
+      → load_at loads kind.Sector k t ≡ occupancy_at parts.flights trips k t
+  pub leaves : (f : ℕ) → f < length parts.flights → departure_at loads f ≡ departure_of (slice_index_or trips f [])
+  pub arrives : (f : ℕ) → f < length parts.flights → arrival_at loads f ≡ arrival_of (slice_index_or trips f [])
+
+-- the stops are a trip of the flight at the position
+abbrev pub IsTripAt : Parts → ℕ → List Stop → Type 0
+IsTripAt parts number stops = (flight : Flight) → slice_get parts.flights number ≡ Some flight → IsTrip parts.day.periods flight stops
+
+-- one trip more
+pub record AddsTrip (flight : Flight) (number : ℕ) (stops : List Stop) (old new : Loads) : Type 0 where
+  pub departures : Adds (λ k t. departs_at k t flight stops) old.departures new.departures
+  pub arrivals : Adds (λ k t. arrives_at k t flight stops) old.arrivals new.arrivals
+  pub inside : Adds (λ k t. stays_at k t flight stops) old.inside new.inside
+  pub leaves : new.leaves.items ≡ slice_set old.leaves.items number (departure_of stops)
+  pub arrives : new.arrives.items ≡ slice_set old.arrives.items number (arrival_of stops)

@@ -1,0 +1,61 @@
+//! What a plan costs.
+ghost use Rattle.std.specs.Prelude.{◌≡◌, ◌<◌, ◌≤ℤ◌, length, neg_ℤ, pos};
+ghost use Rattle.flow_types.specs.Costs.{credit_at, plan_cost, total_at, trip_cost_at};
+ghost use Rattle.flow_types.specs.Feasible.{AreTrips};
+ghost use Rattle.flow_types.specs.Scenario.{flight_at, parts_of};
+
+use crate::stays::{arrival_of, departure_of};
+use flow_types::{Plan, Scenario, Stop};
+
+/// The cost of the plan, each of whose trips is one of its flight: for each flight the total of
+/// its arrival delay less the credit of its ground delay. It takes no memory.
+pub fn cost(s: &Scenario, plan: &Plan) -> i64
+    requires { AreTrips (parts_of s.now).day.periods (parts_of s.now).flights plan.now }
+    ensures { result ≡ plan_cost (parts_of s.now).tables (parts_of s.now).flights plan.now }
+{
+    let trips = plan.items();
+    let mut cost = 0i64;
+    for at in 0..trips.len() {
+        cost += trip_cost(s, at as u32, trips[at].items());
+    }
+    cost
+}
+
+// The cost of the flight's trip.
+fn trip_cost(s: &Scenario, flight: u32, stops: &[Stop]) -> i64
+    requires { flight < length (parts_of s.now).flights }
+    ensures value { result ≡ trip_cost_at (parts_of s.now).tables (flight_at s.now flight) stops.now }
+    ensures low { neg_ℤ (pos 200000000000) ≤ℤ result }
+    ensures high { result ≤ℤ pos 200000000000 }
+{
+    let Some(departure) = departure_of(stops) else {
+        return 0;
+    };
+    let Some(arrival) = arrival_of(stops) else {
+        return 0;
+    };
+    let details = &s.flights()[flight as usize];
+    let paid = total(s, flight, arrival.saturating_sub(details.sa));
+    let saved = credit(s, flight, departure.saturating_sub(details.sd));
+    paid - saved
+}
+
+// What the arrival delay costs.
+fn total(s: &Scenario, flight: u32, delay: u16) -> i64
+    requires { flight < length (parts_of s.now).flights }
+    ensures value { result ≡ total_at (parts_of s.now).tables (flight_at s.now flight) delay }
+    ensures low { neg_ℤ (pos 100000000000) ≤ℤ result }
+    ensures high { result ≤ℤ pos 100000000000 }
+{
+    s.total(flight, delay)
+}
+
+// How much less the ground delay costs than as much in the air.
+fn credit(s: &Scenario, flight: u32, delay: u16) -> i64
+    requires { flight < length (parts_of s.now).flights }
+    ensures value { result ≡ credit_at (parts_of s.now).tables (flight_at s.now flight) delay }
+    ensures low { neg_ℤ (pos 100000000000) ≤ℤ result }
+    ensures high { result ≤ℤ pos 100000000000 }
+{
+    s.credit(flight, delay)
+}

@@ -1,0 +1,24 @@
+//! The rules of a plan: how many flights are where, whether a plan keeps every rule, and what it
+//! costs.
+//!
+//! A caller makes `Loads` once for a scenario and lends them to `judge`, which takes no memory.
+//! `judge` answers `Keeps`, with the plan's cost, exactly where the plan is feasible; the loads
+//! then count its trips. `cost` is the sum of the costs of a plan's trips.
+//!
+//! Time: `judge` looks at each stop with the legs of its flight, at each period that a flight
+//! spends in a sector, and at each place and period once. `Loads` take twelve bytes a place and
+//! period, and eight a flight.
+#![tactic(auto)]
+
+pub mod broken;
+pub mod costs;
+pub mod judging;
+pub mod loads;
+pub mod stays;
+pub mod table;
+pub mod trips;
+
+pub use broken::Broken;
+pub use costs::cost;
+pub use judging::{Verdict, judge};
+pub use loads::Loads;

@@ -1,0 +1,123 @@
+//! How many flights depart, arrive or are inside a sector in each period.
+ghost use Rattle.std.specs.Prelude.{◌≡◌, ℕ, IfOk, None, length, replicate, slice_index_or};
+
+use crate::stays::{add_arrival, add_departure, add_stays, arrival_of, departure_of};
+use crate::table::Table;
+use flow_types::{CapKind, Flight, OutOfMemory, Scenario, Stop};
+use std::alloc::Global;
+
+/// The counts and end times of trips, at most one a flight, of the scenario that they were made
+/// for. They take twelve bytes a place and period, and eight a flight.
+#[derive(Debug, Drop)]
+pub struct Loads {
+    departures: Table,
+    arrivals: Table,
+    inside: Table,
+    leaves: Vec<Option<u16>>,
+    arrives: Vec<Option<u16>>,
+}
+
+impl Loads {
+    ghost use Rattle.std.specs.Prelude.{◌≡◌, ◌<◌, List, [], Some, length, slice_get, slice_set, IfOk};
+    ghost use Rattle.flow_types.specs.declared.parts.Parts.{Parts};
+    ghost use Rattle.flow_types.specs.declared.plan.Stop.{Stop};
+    ghost use Rattle.flow_types.specs.Scenario.{parts_of};
+    ghost use Rattle.plan_rules.specs.Loads.{AddsTrip, AreLoads, IsMadeFor, IsTripAt, arrival_at, departure_at, load_at, no_trips, table_of};
+
+    /// Loads of a scenario, with no trips.
+    pub fn new(alloc: Global, s: &Scenario) -> Result<Loads, OutOfMemory>
+        ensures { IfOk result (AreLoads (parts_of s.now) (no_trips (parts_of s.now))) }
+    {
+        let places = s.places().len();
+        let periods = s.day().periods;
+        let flights = s.flights().len();
+        Ok(Loads {
+            departures: Table::new(alloc, places, periods)?,
+            arrivals: Table::new(alloc, places, periods)?,
+            inside: Table::new(alloc, places, periods)?,
+            leaves: no_times(alloc, flights)?,
+            arrives: no_times(alloc, flights)?,
+        })
+    }
+
+    /// Takes every trip out. The loads stay those of the scenario that they were made for.
+    pub fn clear(&mut self)
+        ensures { (parts : Parts) → IsMadeFor parts self.old → AreLoads parts (no_trips parts) self.new }
+    {
+        self.departures.clear();
+        self.arrivals.clear();
+        self.inside.clear();
+        clear_times(&mut self.leaves);
+        clear_times(&mut self.arrives);
+    }
+
+    /// Adds a trip of the flight, which isn't there yet. The loads were made for the scenario.
+    pub fn add(&mut self, s: &Scenario, flight: u32, stops: &[Stop])
+        requires made { IsMadeFor (parts_of s.now) self.old }
+        requires flight { flight < length (parts_of s.now).flights }
+        ensures { (trips : List (List Stop)) → AreLoads (parts_of s.now) trips self.old
+            → slice_get trips flight ≡ Some [] → IsTripAt (parts_of s.now) flight stops.now
+            → AreLoads (parts_of s.now) (slice_set trips flight stops.now) self.new }
+    {
+        self.add_trip(&s.flights()[flight as usize], flight as usize, stops);
+    }
+
+    // Adds a trip of the flight, which has that number.
+    fn add_trip(&mut self, flight: &Flight, number: usize, stops: &[Stop])
+        requires leaves { number < length self.old.leaves.items }
+        requires arrives { number < length self.old.arrives.items }
+        ensures { AddsTrip flight.now number stops.now self.old self.new }
+    {
+        add_departure(&mut self.departures, flight, stops);
+        add_arrival(&mut self.arrivals, flight, stops);
+        add_stays(&mut self.inside, flight, stops);
+        self.leaves[number] = departure_of(stops);
+        self.arrives[number] = arrival_of(stops);
+    }
+
+    /// How many flights depart from, arrive at or are inside the place in the period.
+    pub fn load(&self, kind: CapKind, place: u32, period: u16) -> u32
+        requires place { place < (table_of self.now kind).places }
+        requires period { period < (table_of self.now kind).periods }
+        ensures { result ≡ load_at self.now kind place period }
+    {
+        match kind {
+            CapKind::Dep => self.departures.get(place, period),
+            CapKind::Arr => self.arrivals.get(place, period),
+            CapKind::Sector => self.inside.get(place, period),
+        }
+    }
+
+    /// When the flight departs, nothing where it isn't there.
+    pub fn departure(&self, flight: u32) -> Option<u16>
+        requires { flight < length self.now.leaves.items }
+        ensures { result ≡ departure_at self.now flight }
+    {
+        self.leaves[flight as usize]
+    }
+
+    /// When the flight arrives, nothing where it isn't there.
+    pub fn arrival(&self, flight: u32) -> Option<u16>
+        requires { flight < length self.now.arrives.items }
+        ensures { result ≡ arrival_at self.now flight }
+    {
+        self.arrives[flight as usize]
+    }
+}
+
+// So many flights that aren't there.
+fn no_times(alloc: Global, flights: usize) -> Result<Vec<Option<u16>>, OutOfMemory>
+    ensures { IfOk result (λ times. times.items ≡ replicate flights None) }
+{
+    Ok(vec![in alloc; None; flights]?)
+}
+
+// Makes every flight one that isn't there.
+fn clear_times(times: &mut Vec<Option<u16>>)
+    ensures length { length times.new.items ≡ length times.old.items }
+    ensures none { (f : ℕ) → slice_index_or times.new.items f None ≡ None }
+{
+    for time in times.iter_mut() {
+        *time = None;
+    }
+}
