@@ -1,2 +1,3 @@
+pub mod CostFacts
 pub mod PairFacts
 pub mod WordFacts

@@ -16,7 +16,7 @@ pub struct Scenario {
 }
 
 impl Scenario {
-    ghost use Rattle.std.specs.Prelude.{◌≡◌, ◌<◌, ◌↔◌, length, slice_get, IsTrue, IsOk, IfOk, IfErr};
+    ghost use Rattle.std.specs.Prelude.{◌≡◌, ◌<◌, ◌≤ℤ◌, ◌↔◌, length, neg_ℤ, pos, slice_get, IsTrue, IsOk, IfOk, IfErr};
     ghost use Rattle.flow_types.specs.Capacities.{capacity_of, has_kind};
     ghost use Rattle.flow_types.specs.Costs.{credit_at, total_at};
     ghost use Rattle.flow_types.specs.Scenario.{IsPlainAt, flight_at, parts_of};
@@ -92,7 +92,9 @@ impl Scenario {
     /// scenario's, and the delay is at most its greatest one.
     pub fn total(&self, flight: u32, delay: u16) -> i64
         requires { flight < length (parts_of self.now).flights }
-        ensures { result ≡ total_at (parts_of self.now).tables (flight_at self.now flight) delay }
+        ensures value { result ≡ total_at (parts_of self.now).tables (flight_at self.now flight) delay }
+        ensures low { neg_ℤ (pos 100000000000) ≤ℤ result }
+        ensures high { result ≤ℤ pos 100000000000 }
     {
         total_at(self.tables(), &self.flights()[flight as usize], delay)
     }
@@ -101,7 +103,9 @@ impl Scenario {
     /// The flight is one of the scenario's, and the delay is at most its greatest ground delay.
     pub fn credit(&self, flight: u32, delay: u16) -> i64
         requires { flight < length (parts_of self.now).flights }
-        ensures { result ≡ credit_at (parts_of self.now).tables (flight_at self.now flight) delay }
+        ensures value { result ≡ credit_at (parts_of self.now).tables (flight_at self.now flight) delay }
+        ensures low { neg_ℤ (pos 100000000000) ≤ℤ result }
+        ensures high { result ≤ℤ pos 100000000000 }
     {
         credit_at(self.tables(), &self.flights()[flight as usize], delay)
     }

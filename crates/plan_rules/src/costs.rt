@@ -1,6 +1,6 @@
 //! What a plan costs.
 ghost use Rattle.std.specs.Prelude.{◌≡◌, ◌<◌, ◌≤ℤ◌, length, neg_ℤ, pos};
-ghost use Rattle.flow_types.specs.Costs.{credit_at, plan_cost, total_at, trip_cost_at};
+ghost use Rattle.flow_types.specs.Costs.{plan_cost, trip_cost_at};
 ghost use Rattle.flow_types.specs.Feasible.{AreTrips};
 ghost use Rattle.flow_types.specs.Scenario.{flight_at, parts_of};
 
@@ -35,27 +35,7 @@ fn trip_cost(s: &Scenario, flight: u32, stops: &[Stop]) -> i64
         return 0;
     };
     let details = &s.flights()[flight as usize];
-    let paid = total(s, flight, arrival.saturating_sub(details.sa));
-    let saved = credit(s, flight, departure.saturating_sub(details.sd));
+    let paid = s.total(flight, arrival.saturating_sub(details.sa));
+    let saved = s.credit(flight, departure.saturating_sub(details.sd));
     paid - saved
-}
-
-// What the arrival delay costs.
-fn total(s: &Scenario, flight: u32, delay: u16) -> i64
-    requires { flight < length (parts_of s.now).flights }
-    ensures value { result ≡ total_at (parts_of s.now).tables (flight_at s.now flight) delay }
-    ensures low { neg_ℤ (pos 100000000000) ≤ℤ result }
-    ensures high { result ≤ℤ pos 100000000000 }
-{
-    s.total(flight, delay)
-}
-
-// How much less the ground delay costs than as much in the air.
-fn credit(s: &Scenario, flight: u32, delay: u16) -> i64
-    requires { flight < length (parts_of s.now).flights }
-    ensures value { result ≡ credit_at (parts_of s.now).tables (flight_at s.now flight) delay }
-    ensures low { neg_ℤ (pos 100000000000) ≤ℤ result }
-    ensures high { result ≤ℤ pos 100000000000 }
-{
-    s.credit(flight, delay)
 }
