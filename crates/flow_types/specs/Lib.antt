@@ -8,3 +8,4 @@ pub mod Counts
 pub mod Costs
 pub mod Feasible
 pub mod Scenario
+pub mod Bounds

@@ -1,0 +1,4 @@
+pub mod BoundFacts
+pub mod ChainFacts
+pub mod EarliestFacts
+pub mod PairFacts
