@@ -1,5 +1,5 @@
 -- What is planned for a day of chains.
-use Rattle.std.specs.Prelude.{◌≡◌, ◌⊎◌, ℕ, List, [], ◌∷◌, Option, None, Some, All, ℤ, pos, ◌+ℤ◌}
+use Rattle.std.specs.Prelude.{◌≡◌, ℕ, List, [], ◌∷◌, Option, None, Some, All, ℤ, pos, ◌+ℤ◌}
 use Rattle.std.specs.List.{Any, AllZip}
 use Rattle.flow_types.specs.declared.bound.Bound.{Bound}
 use Rattle.flow_types.specs.declared.bound.Bound.TheVariants.{AtLeast, NoPlan}
@@ -8,6 +8,8 @@ use Rattle.flow_types.specs.declared.parts.Parts.{Parts}
 use Rattle.flow_types.specs.declared.plan.Stop.{Stop}
 use Rattle.flow_types.specs.Costs.{plan_cost}
 use Rattle.flow_types.specs.Feasible.{IsFeasible}
+use Rattle.chain_plan.specs.declared.outcome.Outcome.{Outcome}
+use Rattle.chain_plan.specs.declared.outcome.Costed.{Costed}
 use Rattle.chain_plan.specs.Chains.{HasEarliest, IsLeastPair, earliest_plan}
 
 abbrev pub total_of_all : List ℤ → ℤ
@@ -31,3 +33,11 @@ IsFirstPlan parts (Some plan) =
 pub record IsCosted (parts : Parts) (plan : List (List Stop)) (cost : ℤ) : Type 0 where
   pub feasible : IsFeasible parts plan
   pub price : cost ≡ plan_cost parts.tables parts.flights plan
+
+-- the plan that was kept, if one was
+abbrev pub plan_in : Option Costed → Option (List (List Stop))
+plan_in None = None
+plan_in (Some kept) = Some kept.plan
+
+abbrev pub plan_of : Outcome → Option (List (List Stop))
+plan_of outcome = plan_in outcome.kept

@@ -1,0 +1,2 @@
+pub mod HeldBy
+pub mod Pieces

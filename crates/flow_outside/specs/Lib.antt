@@ -1,0 +1,5 @@
+pub mod Counts
+pub mod Held
+pub mod Loads
+pub mod Memory
+pub mod Written

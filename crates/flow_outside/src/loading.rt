@@ -1,0 +1,92 @@
+//! A whole text, read from files.
+ghost use Rattle.std.specs.Prelude.{◌≡◌, ◌<◌, ◌≤◌, ◌↔◌, length, take, IfOk, OnErr, vec_len};
+ghost use Rattle.flow_outside.specs.Counts.{Rose};
+ghost use Rattle.flow_outside.specs.Held.{Told, HasName};
+ghost use Rattle.flow_outside.specs.Loads.{OnRead, UnlessRead, IsTooLong, IfTooLong};
+
+use crate::{Failed, Files};
+use std::alloc::Global;
+use thiserror::Error;
+
+/// Why a text was not loaded.
+#[derive(Clone, Copy, Debug, PartialEq, Eq, Error)]
+pub enum LoadFault {
+    /// The size was not answered, or a read failed.
+    #[error("the text could not be read")]
+    Read,
+    /// The text is longer than the limit. It has so many bytes.
+    #[error("the text is too long: {0} bytes")]
+    TooLong(u64),
+    /// There was no memory to hold the text.
+    #[error("out of memory")]
+    OutOfMemory,
+}
+
+/// Loads all that the name holds, of at most `limit` bytes. It asks the size once, takes memory for
+/// so many bytes, and reads until it has them or a read gives none.
+///
+/// `Read` comes where the size isn't answered or a read fails, and so always where the files tell
+/// that they don't have the name. `TooLong` comes where the size is above the limit.
+pub fn load<F: Files>(
+    alloc: Global,
+    files: &mut F,
+    name: &str,
+    limit: u64,
+) -> Result<Vec<u8>, LoadFault>
+    ensures text { IfOk result (λ text.
+        Told (F.held files.old) name.now (λ bytes. text.items ≡ bytes)) }
+    ensures within { IfOk result (λ text. vec_len text ≤ limit) }
+
+    ensures too_long { UnlessRead result
+        (Told (F.held files.old) name.now (λ bytes. IsTooLong result ↔ (limit < length bytes))) }
+    ensures size { IfTooLong result (λ n.
+        Told (F.held files.old) name.now (λ bytes. n ≡ length bytes)) }
+    ensures above { IfTooLong result (λ n. limit < n) }
+
+    // A name that the files tell they don't have is answered by `Read`.
+    ensures present { UnlessRead result (HasName (F.held files.old) name.now) }
+    ensures read { OnRead result
+        (HasName (F.held files.old) name.now → Rose (F.faults files.old) (F.faults files.new)) }
+
+    ensures counts { F.faults files.old ≤ F.faults files.new }
+    ensures held { F.held files.new ≡ F.held files.old }
+    ensures stores { F.store_faults files.new ≡ F.store_faults files.old }
+{
+    let Ok(size) = files.size(name) else {
+        return Err(LoadFault::Read);
+    };
+    if size > limit {
+        return Err(LoadFault::TooLong(size));
+    }
+    let Ok(mut text) = vec![in alloc; 0; size as usize] else {
+        return Err(LoadFault::OutOfMemory);
+    };
+    let Ok(taken) = fill(files, name, &mut text) else {
+        return Err(LoadFault::Read);
+    };
+    text.truncate(taken);
+    Ok(text)
+}
+
+/// Reads into the buffer from its front, until it is full or a read gives nothing. Answers how
+/// many bytes were read.
+fn fill<F: Files>(files: &mut F, name: &str, buffer: &mut [u8]) -> Result<usize, Failed>
+    ensures within { IfOk result (λ n. n ≤ length buffer.old) }
+    ensures text { IfOk result (λ n. Told (F.held files.old) name.now
+        (λ bytes. length bytes ≡ length buffer.old → take n buffer.new ≡ bytes)) }
+    ensures failed { OnErr result
+        (HasName (F.held files.old) name.now → Rose (F.faults files.old) (F.faults files.new)) }
+    ensures counts { F.faults files.old ≤ F.faults files.new }
+    ensures held { F.held files.new ≡ F.held files.old }
+    ensures stores { F.store_faults files.new ≡ F.store_faults files.old }
+{
+    let mut taken = 0;
+    while taken < buffer.len() {
+        let count = files.read_at(name, taken as u64, &mut buffer[taken..])?;
+        if count == 0 {
+            break;
+        }
+        taken += count;
+    }
+    Ok(taken)
+}

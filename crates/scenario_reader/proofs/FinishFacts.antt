@@ -1,0 +1,207 @@
+-- The flights that a list of begun ones becomes.
+use Rattle.std.proofs.Common.{◌≡◌, ℕ, zero, suc, ◌+◌, ◌<◌, ◌≤◌, Bool, true, false, cond, ltb, ◌==◌, List, [], ◌∷◌, ◌++◌, length, get_or, drop, Some, None, Result, Ok, Err, refl, sym, ap, subst, arith, ◌∙◌, All, append_assoc, length-append, position}
+use Rattle.std.specs.Prelude.{sum_by}
+use Rattle.std.proofs.lemmas.List.{append-nil, drop_all}
+use Rattle.std.proofs.lemmas.List.Sums.{sum_by-cons}
+use Rattle.std.proofs.Math.Seq.{drop-cons}
+use Rattle.flow_types.specs.Valid.{IsFlight, IsScenario}
+use Rattle.flow_types.specs.declared.fault.Cause.TheVariants.{DeadEnd, NoRoute}
+use Rattle.flow_types.specs.declared.fault.Fault.{Fault}
+use Rattle.flow_types.specs.declared.flight.Flight.{Flight}
+use Rattle.flow_types.specs.declared.place.Place.{Place}
+use Rattle.text_records.specs.Flaws.{◌>>=◌, Refuses}
+use Rattle.text_records.specs.declared.flaw.ReadError.{ReadError}
+use Rattle.text_records.specs.declared.flaw.ReadError.TheVariants as error
+use Rattle.scenario_reader.specs.Finish.{finished_flight, finished_flights, flight_with, has_route, leads_on, node_of, nodes_of}
+use Rattle.scenario_reader.specs.Sketch.{node_count, node_total, Sketch}
+use Rattle.scenario_reader.specs.Validity.{IsBegun, IsSketch}
+use Rattle.scenario_reader.specs.declared.begun.Begun.{Begun}
+use Rattle.scenario_reader.proofs.NameFacts.{position-none}
+use Rattle.scenario_reader.proofs.PlaceFacts.{node_outside}
+use Rattle.scenario_reader.proofs.RouteFacts.{flight_is, passed_few}
+
+-- ---- a node by its position
+
+pub node_found : (nodes : List ℕ) (place k : ℕ) → position (λ node. node == place) nodes ≡ Some k → k ≡ node_of nodes place
+node_found nodes place k h = by (ltb (node_of nodes place) (length nodes)) (node_of nodes place) h
+  where
+    by : (b : Bool) (n : ℕ) → cond b (Some n) None ≡ Some k → k ≡ n
+    by true n e = some_is k n (sym e)
+      where
+        some_is : (x y : ℕ) → Some x ≡ Some y → x ≡ y
+        some_is x y e = cc
+    by false n e = absurd cc
+
+pub node_missing : (nodes : List ℕ) (place : ℕ) → position (λ node. node == place) nodes ≡ None → length nodes ≡ node_of nodes place
+node_missing nodes place h = sym (node_outside nodes place (position-none (λ node. node == place) nodes h))
+
+-- ---- the loop over the flights
+
+-- the flights so far, and then those that the rest becomes
+abbrev pub with_front : List Flight → Result (List Flight) Fault → Result (List Flight) Fault
+with_front front read = read >>= λ flights. Ok (front ++ flights)
+
+regroup : (front : List Flight) (flight : Flight) (read : Result (List Flight) Fault)
+    → with_front front (read >>= λ others. Ok (flight ∷ others)) ≡ with_front (front ++ flight ∷ []) read
+regroup front flight (Ok others) = ap (λ (fs : List Flight). Ok fs) (sym (append_assoc front (flight ∷ []) others))
+regroup front flight (Err fault) = refl
+
+rest_at : (flights : List Begun) (i : ℕ) (flight : Begun) → i < length flights → flight ≡ get_or flights i flight → drop i flights ≡ flight ∷ drop (i + 1) flights
+rest_at flights i flight within here =
+    let one : i + 1 ≡ suc i = omega arith in
+    rw one (drop-cons flights i flight within ∙ ap (λ (f : Begun). f ∷ drop (suc i) flights) (sym here))
+
+pub one_more : (front : List Flight) (flights : List Begun) (i : ℕ) (flight : Begun) (found : Flight) (total : Result (List Flight) Fault)
+    → i < length flights → flight ≡ get_or flights i flight → finished_flight flight ≡ Ok found
+    → with_front front (finished_flights (drop i flights)) ≡ total
+    → with_front (front ++ found ∷ []) (finished_flights (drop (i + 1) flights)) ≡ total
+unfolding finished_flights
+one_more front flights i flight found total within here is so_far =
+    let rest = rest_at flights i flight within here in
+    let step : with_front front (finished_flights (drop i flights)) ≡ with_front (front ++ found ∷ []) (finished_flights (drop (i + 1) flights)) =
+    rw (rest, is) (regroup front found (finished_flights (drop (i + 1) flights))) in
+    sym step ∙ so_far
+
+pub refused_at : (e : ReadError) (front : List Flight) (flights : List Begun) (i : ℕ) (flight : Begun) (total : Result (List Flight) Fault)
+    → i < length flights → flight ≡ get_or flights i flight → Refuses e (finished_flight flight)
+    → with_front front (finished_flights (drop i flights)) ≡ total → Refuses e total
+unfolding finished_flights
+refused_at error.OutOfMemory front flights i flight total within here refuses so_far = tt
+refused_at (error.Fault fault) front flights i flight total within here refuses so_far =
+    let rest = rest_at flights i flight within here in
+    let step : with_front front (finished_flights (drop i flights)) ≡ Err fault = rw (rest, refuses) refl in
+    sym so_far ∙ step
+
+pub all_done : (front : List Flight) (flights : List Begun) (i : ℕ) (total : Result (List Flight) Fault) → length flights ≤ i
+    → with_front front (finished_flights (drop i flights)) ≡ total → total ≡ Ok front
+unfolding finished_flights
+all_done front flights i total le so_far =
+    let step : with_front front (finished_flights (drop i flights)) ≡ Ok front =
+    rw (drop_all i flights le) (ap (λ (fs : List Flight). Ok fs) (append-nil front)) in
+    sym so_far ∙ step
+
+-- ---- the scenario
+
+-- the value of a step that did not fail
+bind_ok : {A B : Type 0} (read : Result A Fault) (next : A → Result B Fault) (y : B) → (read >>= next) ≡ Ok y → (x : A) × (read ≡ Ok x) × (next x ≡ Ok y)
+bind_ok (Ok x) next y e = (x, refl, e)
+bind_ok (Err fault) next y e = absurd cc
+
+abbrev done : {A : Type 0} → A → Result A Fault
+done x = Ok x
+
+ok_is : {A : Type 0} (x y : A) → done x ≡ done y → x ≡ y
+ok_is x y e = cc
+
+-- a begun flight came to its end as this one
+pub record IsFinished (flight : Begun) (found : Flight) : Type 0 where
+  pub route : has_route flight ≡ true
+  pub onward : leads_on flight ≡ true
+  pub is : flight_with flight (nodes_of flight) ≡ found
+
+finished_is : (flight : Begun) (found : Flight) → finished_flight flight ≡ Ok found → IsFinished flight found
+unfolding finished_flight
+finished_is flight found e = by (has_route flight) refl e
+  where
+    onward : (b : Bool) → leads_on flight ≡ b → has_route flight ≡ true
+        → cond b (done (flight_with flight (nodes_of flight))) (Err (record { at = flight.at; field = 1; cause = DeadEnd })) ≡ Ok found → IsFinished flight found
+    onward true leads route e = record { route = route; onward = leads; is = ok_is _ _ e }
+    onward false leads route e = absurd cc
+
+    by : (b : Bool) → has_route flight ≡ b
+        → cond b (cond (leads_on flight) (done (flight_with flight (nodes_of flight))) (Err (record { at = flight.at; field = 1; cause = DeadEnd })))
+        (Err (record { at = flight.at; field = 1; cause = NoRoute })) ≡ Ok found → IsFinished flight found
+    by true route e = onward (leads_on flight) refl route e
+    by false route e = absurd cc
+
+-- each of these became the one beside it
+abbrev Become : List Begun → List Flight → Type 0
+Become [] [] = Unit {0}
+Become [] (found ∷ founds) = ⊥
+Become (flight ∷ flights) [] = ⊥
+Become (flight ∷ flights) (found ∷ founds) = IsFinished flight found × Become flights founds
+
+become : (flights : List Begun) (founds : List Flight) → finished_flights flights ≡ Ok founds → Become flights founds
+unfolding finished_flights
+become [] founds e = subst (λ (fs : List Flight). Become [] fs) (ok_is [] founds e) tt
+become (flight ∷ flights) founds e =
+    let first = bind_ok (finished_flight flight) (λ f. finished_flights flights >>= λ others. Ok (f ∷ others)) founds e in
+    let rest = bind_ok (finished_flights flights) (λ others. Ok (first.0 ∷ others)) founds first.2 in
+    subst (λ (fs : List Flight). Become (flight ∷ flights) fs) (ok_is (first.0 ∷ rest.0) founds rest.2)
+    (finished_is flight first.0 first.1, become flights rest.0 rest.1)
+
+as_long : (flights : List Begun) (founds : List Flight) → Become flights founds → length founds ≡ length flights
+as_long [] [] b = refl
+as_long [] (found ∷ founds) b = absurd b
+as_long (flight ∷ flights) [] b = absurd b
+as_long (flight ∷ flights) (found ∷ founds) b = ap suc (as_long flights founds b.1)
+
+are_flights : (periods : ℕ) (places : List Place) (flights : List Begun) (founds : List Flight) → All (IsBegun periods places) flights → Become flights founds
+    → All (IsFlight periods places []) founds
+are_flights periods places [] [] all b k d h = absurd (omega arith)
+are_flights periods places [] (found ∷ founds) all b k d h = absurd b
+are_flights periods places (flight ∷ flights) [] all b k d h = absurd b
+are_flights periods places (flight ∷ flights) (found ∷ founds) all b zero d h =
+    subst (λ (f : Flight). IsFlight periods places [] f) b.0.is
+    (flight_is periods places flight (record { begun = all 0 flight (omega arith); route = b.0.route; onward = b.0.onward }))
+are_flights periods places (flight ∷ flights) (found ∷ founds) all b (suc k) d h =
+    are_flights periods places flights founds (λ j e within. all (suc j) e (omega arith)) b.1 k d (omega arith)
+
+same_names : (flights : List Begun) (founds : List Flight) → Become flights founds → (k : ℕ) (d : Begun) (e : Flight) → k < length flights
+    → (get_or founds k e).name ≡ (get_or flights k d).name
+same_names [] founds b k d e h = absurd (omega arith)
+same_names (flight ∷ flights) [] b k d e h = absurd b
+same_names (flight ∷ flights) (found ∷ founds) b zero d e h = ap (λ (f : Flight). f.name) (sym b.0.is)
+same_names (flight ∷ flights) (found ∷ founds) b (suc k) d e h = same_names flights founds b.1 k d e (omega arith)
+
+-- the flights have no more nodes than were counted
+few_nodes : (periods : ℕ) (places : List Place) (flights : List Begun) (founds : List Flight) → All (IsBegun periods places) flights → Become flights founds
+    → sum_by (λ (f : Flight). length f.nodes) founds ≤ node_total flights
+few_nodes periods places [] [] all b = omega arith
+few_nodes periods places [] (found ∷ founds) all b = absurd b
+few_nodes periods places (flight ∷ flights) [] all b = absurd b
+few_nodes periods places (flight ∷ flights) (found ∷ founds) all b =
+    let rest = few_nodes periods places flights founds (λ j e within. all (suc j) e (omega arith)) b.1 in
+    let nodes : length found.nodes ≡ length (nodes_of flight) = ap (λ (f : Flight). length f.nodes) (sym b.0.is) in
+    let passed = passed_few places flight (all 0 flight (omega arith)).network in
+    let many = length-append flight.passed (flight.to ∷ []) in
+    rw (sum_by-cons (λ (f : Flight). length f.nodes) found founds, sum_by-cons node_count flight flights) (omega arith)
+
+any_begun : (flights : List Begun) → 0 < length flights → Begun
+any_begun [] h = absurd (omega arith)
+any_begun (flight ∷ flights) h = flight
+
+pub scenario_is : (sketch : Sketch) (founds : List Flight) → IsSketch sketch → finished_flights sketch.flights ≡ Ok founds
+    → IsScenario (record { day = sketch.day; places = sketch.places; flights = founds; tables = []; connections = [] })
+scenario_is sketch founds valid e =
+    let b = become sketch.flights founds e in
+    let long = as_long sketch.flights founds b in
+    let few = few_nodes sketch.day.periods sketch.places sketch.flights founds valid.flights b in
+    let total = valid.nodes_few in
+    record {
+      day = valid.day;
+      places_few = valid.places_few;
+      places = valid.places;
+      place_names = valid.place_names;
+      flights_few = rw long valid.flights_few;
+      flights = are_flights sketch.day.periods sketch.places sketch.flights founds valid.flights b;
+      flight_names = λ i j d before within same.
+          let within_flights : j < length sketch.flights = omega arith in
+          let begun : Begun = any_begun sketch.flights (omega arith) in
+          valid.flight_names i j begun before within_flights
+          (sym (same_names sketch.flights founds b i begun d (omega arith)) ∙ same ∙ same_names sketch.flights founds b j begun d within_flights);
+      nodes_few = omega arith;
+      tables_few = omega arith;
+      tables = λ k d h. absurd (omega arith);
+      table_names = λ i j d before within. absurd (omega arith);
+      connections_few = omega arith;
+      connections = λ k d h. absurd (omega arith);
+      connected_once = λ i j d before within. absurd (omega arith);
+    }
+
+pub passed_within : (sketch : Sketch) → IsSketch sketch → All (λ flight. length flight.passed ≤ 30) sketch.flights
+passed_within sketch valid k d h =
+    let network = (valid.flights k d h).network in
+    let few = passed_few sketch.places (get_or sketch.flights k d) network in
+    let most = network.reached_few in
+    omega arith

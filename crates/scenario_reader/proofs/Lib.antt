@@ -1,0 +1,9 @@
+pub mod NameFacts
+pub mod FlightFacts
+pub mod PlaceFacts
+pub mod NetworkFacts
+pub mod SketchFacts
+pub mod CountFacts
+pub mod RouteFacts
+pub mod FinishFacts
+pub mod ReadingFacts

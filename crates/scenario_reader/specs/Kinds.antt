@@ -1,0 +1,15 @@
+-- The kinds of records.
+use Rattle.std.specs.Prelude.{ℕ, List, Option, Some, None, codes, if◌then◌else◌}
+use Rattle.std.specs.Str.{bytes_eq}
+use Rattle.scenario_reader.specs.declared.kind.Kind.{Kind}
+use Rattle.scenario_reader.specs.declared.kind.Kind.TheVariants as kind
+
+-- the kind that the first field names
+abbrev pub kind_of : List ℕ → Option Kind
+kind_of word =
+    if bytes_eq word (codes "day") then Some kind.Day
+    else if bytes_eq word (codes "airport") then Some kind.Airport
+    else if bytes_eq word (codes "sector") then Some kind.Sector
+    else if bytes_eq word (codes "flight") then Some kind.Flight
+    else if bytes_eq word (codes "leg") then Some kind.Leg
+    else None

@@ -1,0 +1,13 @@
+pub mod Names
+pub mod Kinds
+pub mod Dates
+pub mod Moments
+pub mod Sketch
+pub mod Places
+pub mod Flights
+pub mod Legs
+pub mod Finish
+pub mod Validity
+pub mod Reading
+pub mod Drafts
+pub mod Seen

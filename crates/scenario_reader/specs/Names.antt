@@ -1,0 +1,20 @@
+-- Names that are known already, by their positions.
+use Rattle.std.specs.Prelude.{ℕ, List, length, Option, Result, Ok, Err, is_some, nat_le, position, if◌then◌else◌}
+use Rattle.std.specs.Str.{bytes_eq}
+use Rattle.flow_types.specs.declared.fault.Cause.TheVariants.{Limit, Repeated}
+use Rattle.text_records.specs.Fields.{name_in}
+use Rattle.text_records.specs.Flaws.{◌>>=◌, flaw_at}
+use Rattle.text_records.specs.Rows.{Fields}
+use Rattle.text_records.specs.declared.flaw.Flaw.{Flaw}
+
+-- where the name stands
+abbrev pub position_of : List ℕ → List (List ℕ) → Option ℕ
+position_of name names = position (bytes_eq name) names
+
+-- a name that isn't there yet, where there is room for one more
+unfoldable pub new_name : ℕ → List (List ℕ) → Fields → Result (List ℕ) Flaw
+new_name limit names fields = do
+  name ← name_in fields 2
+  if is_some (position_of name names) then Err (flaw_at 2 Repeated)
+      else if nat_le limit (length names) then Err (flaw_at 2 Limit)
+      else Ok name

@@ -1,0 +1,24 @@
+-- What has been read so far.
+use Rattle.std.specs.Prelude.{ℕ, ◌+◌, List, length, map, sum_by}
+use Rattle.flow_types.specs.declared.day.Day.{Day}
+use Rattle.flow_types.specs.declared.place.Place.{Place}
+use Rattle.scenario_reader.specs.declared.begun.Begun.{Begun}
+
+pub record Sketch : Type 0 where
+  pub day : Day
+  pub places : List Place
+  pub flights : List Begun
+
+abbrev pub place_names : List Place → List (List ℕ)
+place_names places = map (λ place. place.name) places
+
+abbrev pub flight_names : List Begun → List (List ℕ)
+flight_names flights = map (λ flight. flight.name) flights
+
+-- how many nodes a flight has: its two airports and the sectors that a leg leads to
+abbrev pub node_count : Begun → ℕ
+node_count flight = length flight.reached + 2
+
+-- how many the flights have in all
+abbrev pub node_total : List Begun → ℕ
+node_total flights = sum_by node_count flights

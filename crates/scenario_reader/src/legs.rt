@@ -1,0 +1,145 @@
+//! The record `leg`.
+ghost use Rattle.std.specs.Prelude.{◌≡◌, ◌≤◌, ◌<◌, ◌&&◌, ◌||◌, ◌==◌, Some, IfOk, IsTrue, false, length, slice_get};
+ghost use Rattle.csv.specs.Records.{fields_of};
+ghost use Rattle.text_records.specs.Flaws.{Finds};
+ghost use Rattle.scenario_reader.specs.Legs.{adds_node, end_in, flight_at, flight_in, is_among, is_back, is_full, is_joined, is_own, leg_of, own_at, own_in, start_in};
+ghost use Rattle.scenario_reader.specs.Validity.{IsNewLeg};
+
+use crate::begun::{Begun, FlightBook, Hop, is_among};
+use crate::places::{PlaceBook, is_sector};
+use csv::ByteRecord;
+use flow_types::{Cause, Place};
+use text_records::{Flaw, end_after, name_at, number_at};
+
+// A flight that has room for a leg, with its position.
+fn flight_at(flights: &[Begun], flight: Option<u32>) -> Result<(u32, &Begun), Flaw>
+    ensures found { Finds (λ found. (found.0, found.1.now)) result (flight_at flights.now flight) }
+    ensures here { IfOk result (λ found. slice_get flights.now found.0 ≡ Some found.1.now) }
+    ensures room { IfOk result (λ found. length found.1.now.legs < 64) }
+{
+    let unknown = Flaw {
+        field: 2,
+        cause: Cause::UnknownName,
+    };
+    let Some(k) = flight else {
+        return Err(unknown);
+    };
+    let Some(flight) = flights.get(k as usize) else {
+        return Err(unknown);
+    };
+    if flight.legs.items().len() >= 64 {
+        return Err(Flaw {
+            field: 2,
+            cause: Cause::Limit,
+        });
+    }
+    Ok((k, flight))
+}
+
+/// The flight that gets a leg, with its position.
+#[tactic(auto, unfolding(crate::specs::Legs::flight_in))]
+pub fn flight_in<'a>(book: &'a FlightBook, row: &ByteRecord) -> Result<(u32, &'a Begun), Flaw>
+    ensures found { Finds (λ found. (found.0, found.1.now)) result (flight_in book.now (fields_of row.now)) }
+    ensures here { IfOk result (λ found. slice_get book.now found.0 ≡ Some found.1.now) }
+    ensures room { IfOk result (λ found. length found.1.now.legs < 64) }
+{
+    let name = name_at(row, 2)?;
+    flight_at(book.flights(), book.find(name))
+}
+
+// Whether the place is a sector, or one of the flight's two airports.
+fn is_own(places: &[Place], flight: &Begun, place: u32) -> bool
+    ensures { result ≡ is_own places.now flight.now place }
+{
+    is_sector(places, place) || place == flight.from || place == flight.to
+}
+
+// The place, which has to be one that the flight may use.
+fn own_at(number: u32, places: &[Place], flight: &Begun, place: Option<u32>) -> Result<u32, Flaw>
+    ensures found { Finds (λ place. place) result (own_at number places.now flight.now place) }
+    ensures own { IfOk result (λ place. IsTrue (is_own places.now flight.now place)) }
+{
+    match place {
+        Some(place) if is_own(places, flight, place) => Ok(place),
+        _ => Err(Flaw {
+            field: number,
+            cause: Cause::UnknownName,
+        }),
+    }
+}
+
+#[tactic(auto, unfolding(crate::specs::Legs::own_in))]
+fn own_in(number: u32, book: &PlaceBook, flight: &Begun, row: &ByteRecord) -> Result<u32, Flaw>
+    requires { 1 ≤ number }
+    ensures found { Finds (λ place. place) result (own_in number book.now flight.now (fields_of row.now)) }
+    ensures own { IfOk result (λ place. IsTrue (is_own book.now flight.now place)) }
+{
+    let name = name_at(row, number)?;
+    own_at(number, book.places(), flight, book.find(name))
+}
+
+// Where the leg starts.
+#[tactic(auto, unfolding(crate::specs::Legs::start_in))]
+fn start_in(book: &PlaceBook, flight: &Begun, row: &ByteRecord) -> Result<u32, Flaw>
+    ensures found { Finds (λ place. place) result (start_in book.now flight.now (fields_of row.now)) }
+    ensures start { IfOk result (λ place. IsTrue (place == flight.now.from || is_among flight.now.reached place)) }
+{
+    let place = own_in(3, book, flight, row)?;
+    if place != flight.from && !is_among(flight.reached.items(), place) {
+        return Err(Flaw {
+            field: 3,
+            cause: Cause::Unreached,
+        });
+    }
+    Ok(place)
+}
+
+// Whether a new node would be one too many.
+fn is_full(total: u32, flight: &Begun) -> bool
+    ensures { result ≡ is_full total flight.now }
+{
+    flight.reached.items().len() >= 30 || total >= 20_000
+}
+
+// Where the leg leads.
+#[tactic(auto, unfolding(crate::specs::Legs::end_in))]
+fn end_in(
+    book: &PlaceBook,
+    total: u32,
+    flight: &Begun,
+    from: u32,
+    row: &ByteRecord,
+) -> Result<u32, Flaw>
+    ensures found { Finds (λ place. place) result (end_in book.now total flight.now from (fields_of row.now)) }
+    ensures own { IfOk result (λ place. IsTrue (is_own book.now flight.now place)) }
+    ensures once { IfOk result (λ place. is_joined flight.now.legs from place ≡ false) }
+    ensures onward { IfOk result (λ place. is_back flight.now from place ≡ false) }
+    ensures few { IfOk result (λ place. (adds_node flight.now place && is_full total flight.now) ≡ false) }
+{
+    let place = own_in(4, book, flight, row)?;
+    let refused = |cause| Err(Flaw { field: 4, cause });
+    if flight.is_joined(from, place) {
+        return refused(Cause::Repeated);
+    }
+    if flight.is_back(from, place) {
+        return refused(Cause::BackLeg);
+    }
+    if flight.adds_node(place) && is_full(total, flight) {
+        return refused(Cause::Limit);
+    }
+    Ok(place)
+}
+
+/// The leg that a `leg` record tells of its flight.
+#[tactic(auto, unfolding(crate::specs::Legs::leg_of))]
+pub fn leg_of(book: &PlaceBook, total: u32, flight: &Begun, row: &ByteRecord) -> Result<Hop, Flaw>
+    requires { length flight.now.legs < 64 }
+    ensures found { Finds (λ leg. leg) result (leg_of book.now total flight.now (fields_of row.now)) }
+    ensures valid { IfOk result (IsNewLeg book.now total flight.now) }
+{
+    let from = start_in(book, flight, row)?;
+    let to = end_in(book, total, flight, from, row)?;
+    let least = number_at(row, 5, 0, 511)? as u16;
+    end_after(row, 5)?;
+    Ok(Hop { from, to, least })
+}

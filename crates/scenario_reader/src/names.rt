@@ -1,0 +1,88 @@
+//! Names by their positions.
+ghost use Rattle.std.specs.Prelude.{◌≡◌, ◌<◌, ◌++◌, ◌∷◌, [], None, IfOk, IfSome, OnOk, OnErr, IsTrue, length};
+ghost use Rattle.csv.specs.Records.{fields_of};
+ghost use Rattle.flow_types.specs.Words.{is_name};
+ghost use Rattle.text_records.specs.Flaws.{Finds};
+ghost use Rattle.scenario_reader.specs.Names.{new_name, position_of};
+
+use csv::ByteRecord;
+use flow_types::{Cause, OutOfMemory};
+use indexmap::IndexSet;
+use std::alloc::Global;
+use std::marker::Model;
+use text_records::{Flaw, name_at};
+
+/// Names in the order in which they came, found by their bytes. Contracts see it as the list.
+#[derive(Drop)]
+pub struct NameIndex {
+    names: IndexSet<Vec<u8>>,
+}
+
+impl Model for NameIndex {
+    ghost use Rattle.std.specs.Prelude.{ℕ, List, map};
+
+    ghost Value = { List (List ℕ) };
+
+    ghost view = { λ index. map (λ name. name.items) index.names.keys };
+}
+
+impl NameIndex {
+    /// No names. It takes no memory.
+    pub fn empty(alloc: Global) -> Self
+        ensures { result ≡ [] }
+    {
+        NameIndex {
+            names: IndexSet::new(alloc),
+        }
+    }
+
+    /// How many names there are.
+    pub fn len(&self) -> usize
+        ensures { result ≡ length self.now }
+    {
+        self.names.len()
+    }
+
+    /// The position of the name.
+    pub fn find(&self, name: &[u8]) -> Option<usize>
+        ensures position { result ≡ position_of name.now self.now }
+        ensures within { IfSome result (λ k. k < length self.now) }
+    {
+        self.names.get_index_of(name)
+    }
+
+    /// Adds a name at the end.
+    pub fn add(&mut self, alloc: Global, name: &[u8]) -> Result<(), OutOfMemory>
+        requires { position_of name.now self.old ≡ None }
+        ensures ok { OnOk result (self.new ≡ self.old ++ name.now ∷ []) }
+        ensures err { OnErr result (self.new ≡ self.old) }
+    {
+        let name = Vec::from_slice(alloc, name)?;
+        self.names.insert_full(name)?;
+        Ok(())
+    }
+}
+
+/// The name in field 2, which isn't among these yet, and of which there may be so many.
+#[tactic(auto, unfolding(crate::specs::Names::new_name))]
+pub fn new_name<'a>(limit: usize, names: &NameIndex, row: &'a ByteRecord) -> Result<&'a [u8], Flaw>
+    ensures found { Finds (λ name. name.now) result (new_name limit names.now (fields_of row.now)) }
+    ensures named { IfOk result (λ name. IsTrue (is_name name.now)) }
+    ensures fresh { IfOk result (λ name. position_of name.now names.now ≡ None) }
+    ensures room { OnOk result (length names.now < limit) }
+{
+    let name = name_at(row, 2)?;
+    if names.find(name).is_some() {
+        return Err(Flaw {
+            field: 2,
+            cause: Cause::Repeated,
+        });
+    }
+    if names.len() >= limit {
+        return Err(Flaw {
+            field: 2,
+            cause: Cause::Limit,
+        });
+    }
+    Ok(name)
+}

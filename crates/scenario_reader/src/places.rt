@@ -1,0 +1,195 @@
+//! The day, airports and sectors.
+ghost use Rattle.std.specs.Prelude.{◌≡◌, ◌<◌, ◌≤◌, ◌++◌, ◌∷◌, [], None, IfOk, IfSome, OnOk, OnErr, IsTrue, All, length, replicate, slice_get};
+ghost use Rattle.csv.specs.Records.{fields_of};
+ghost use Rattle.flow_types.specs.Routes.{is_airport, is_sector};
+ghost use Rattle.flow_types.specs.Valid.{IsDay, IsPlace};
+ghost use Rattle.text_records.specs.Flaws.{Finds, Gives};
+ghost use Rattle.scenario_reader.specs.Names.{position_of};
+ghost use Rattle.scenario_reader.specs.Places.{airport_of, day_of, sector_of};
+ghost use Rattle.scenario_reader.specs.Sketch.{place_names};
+
+use crate::date::moment_of;
+use crate::names::{NameIndex, new_name};
+use csv::ByteRecord;
+use flow_types::{Caps, Day, OutOfMemory, Place, PlaceKind, Places, Sequence};
+use std::alloc::{AllocError, Global};
+use std::marker::Model;
+use text_records::{Flaw, Trouble, end_after, field_at, number_at};
+
+/// The places so far, found by their names. Contracts see it as the list.
+#[derive(Drop)]
+pub struct PlaceBook {
+    places: Places,
+    index: NameIndex,
+}
+
+impl Model for PlaceBook {
+    ghost use Rattle.std.specs.Prelude.{◌≡◌, ◌≤◌, List, length};
+    ghost use Rattle.flow_types.specs.declared.place.Place.{Place};
+    ghost use Rattle.scenario_reader.specs.Sketch.{place_names};
+
+    ghost Value = { List Place };
+
+    ghost view = { λ book. book.places };
+
+    ghost invariant = { λ book. (book.index ≡ place_names book.places) × (length book.places ≤ 1000) };
+}
+
+impl PlaceBook {
+    /// No places. It takes no memory.
+    pub fn empty(alloc: Global) -> Self
+        ensures { result ≡ [] }
+    {
+        PlaceBook {
+            places: Sequence::empty(alloc),
+            index: NameIndex::empty(alloc),
+        }
+    }
+
+    /// The places.
+    pub fn places(&self) -> &[Place]
+        ensures { result.now ≡ self.now }
+    {
+        self.places.items()
+    }
+
+    /// The names of the places.
+    pub fn names(&self) -> &NameIndex
+        ensures { result.now ≡ place_names self.now }
+    {
+        &self.index
+    }
+
+    /// The place of this name.
+    pub fn find(&self, name: &[u8]) -> Option<u32>
+        ensures { result ≡ position_of name.now (place_names self.now) }
+    {
+        match self.index.find(name) {
+            Some(place) => Some(place as u32),
+            None => None,
+        }
+    }
+
+    /// The book with one more place, of a new name.
+    pub fn with_place(self, alloc: Global, place: Place) -> Result<Self, OutOfMemory>
+        requires fresh { position_of place.name (place_names self) ≡ None }
+        requires room { length self < 1000 }
+        ensures { IfOk result (λ book. book ≡ self ++ place ∷ []) }
+    {
+        let PlaceBook {
+            mut places,
+            mut index,
+        } = self;
+        index.add(alloc, place.name.items())?;
+        places.add(place)?;
+        Ok(PlaceBook { places, index })
+    }
+
+    /// The places alone.
+    pub fn into_places(self) -> Places
+        ensures { result ≡ self }
+    {
+        let PlaceBook { places, index: _ } = self;
+        places
+    }
+}
+
+/// The day that a `day` record tells.
+#[tactic(auto, unfolding(crate::specs::Places::day_of))]
+pub fn day_of(row: &ByteRecord) -> Result<Day, Flaw>
+    ensures found { Finds (λ day. day) result (day_of (fields_of row.now)) }
+    ensures valid { IfOk result IsDay }
+{
+    let moment = moment_of(field_at(row, 2)?)?;
+    let minutes = number_at(row, 3, 1, 120)? as u16;
+    let periods = number_at(row, 4, 1, 512)? as u16;
+    end_after(row, 4)?;
+    Ok(Day {
+        year: moment.year,
+        month: moment.month,
+        day: moment.day,
+        hour: moment.hour,
+        minute: moment.minute,
+        minutes,
+        periods,
+    })
+}
+
+/// The airport that an `airport` record tells.
+#[tactic(auto, unfolding(crate::specs::Places::airport_of))]
+pub fn airport_of(
+    alloc: Global,
+    periods: u16,
+    names: &NameIndex,
+    row: &ByteRecord,
+) -> Result<Place, Trouble>
+    ensures found { Gives (λ place. place) result (airport_of periods names.now (fields_of row.now)) }
+    ensures valid { IfOk result (IsPlace periods) }
+    ensures fresh { IfOk result (λ place. position_of place.name names.now ≡ None) }
+    ensures room { OnOk result (length names.now < 1000) }
+{
+    let name = new_name(1000, names, row)?;
+    let departures = number_at(row, 3, 0, 1_000_000)? as u32;
+    let arrivals = number_at(row, 4, 0, 1_000_000)? as u32;
+    end_after(row, 4)?;
+    Ok(Place {
+        name: Sequence::from_vec(Vec::from_slice(alloc, name)?),
+        kind: PlaceKind::Airport,
+        first: caps_of(alloc, periods, departures)?,
+        second: caps_of(alloc, periods, arrivals)?,
+    })
+}
+
+/// The sector that a `sector` record tells.
+#[tactic(auto, unfolding(crate::specs::Places::sector_of))]
+pub fn sector_of(
+    alloc: Global,
+    periods: u16,
+    names: &NameIndex,
+    row: &ByteRecord,
+) -> Result<Place, Trouble>
+    ensures found { Gives (λ place. place) result (sector_of periods names.now (fields_of row.now)) }
+    ensures valid { IfOk result (IsPlace periods) }
+    ensures fresh { IfOk result (λ place. position_of place.name names.now ≡ None) }
+    ensures room { OnOk result (length names.now < 1000) }
+{
+    let name = new_name(1000, names, row)?;
+    let capacity = number_at(row, 3, 0, 1_000_000)? as u32;
+    end_after(row, 3)?;
+    Ok(Place {
+        name: Sequence::from_vec(Vec::from_slice(alloc, name)?),
+        kind: PlaceKind::Sector,
+        first: caps_of(alloc, periods, capacity)?,
+        second: Sequence::empty(alloc),
+    })
+}
+
+// The same capacity for every period.
+fn caps_of(alloc: Global, periods: u16, capacity: u32) -> Result<Caps, AllocError>
+    requires { capacity ≤ 1000000 }
+    ensures caps { IfOk result (λ caps. caps ≡ replicate periods capacity) }
+    ensures many { IfOk result (λ caps. length caps ≡ periods) }
+    ensures few { IfOk result (λ caps. All (λ c. c ≤ 1000000) caps) }
+{
+    Ok(Sequence::from_vec(vec![in alloc; capacity; periods as usize]?))
+}
+
+/// Whether the place is an airport.
+pub fn is_airport(places: &[Place], place: u32) -> bool
+    ensures { result ≡ is_airport (slice_get places.now place) }
+{
+    match places.get(place as usize) {
+        Some(place) => place.kind == PlaceKind::Airport,
+        None => false,
+    }
+}
+
+/// Whether the place is a sector.
+pub fn is_sector(places: &[Place], place: u32) -> bool
+    ensures { result ≡ is_sector (slice_get places.now place) }
+{
+    match places.get(place as usize) {
+        Some(place) => place.kind == PlaceKind::Sector,
+        None => false,
+    }
+}

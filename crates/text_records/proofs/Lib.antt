@@ -1,0 +1,3 @@
+pub mod RowFacts
+pub mod FieldFacts
+pub mod ReaderFacts

@@ -1,0 +1,73 @@
+use crate::flaw::ReadError;
+use crate::{Flaw, Rows, Trouble, end_after, field_at, in_record, name_at, number_at};
+use csv::ByteRecord;
+use flow_types::{Cause, Fault};
+use std::alloc::Global;
+use std::test::Fail;
+
+// How many fields each record of a text has.
+fn widths(alloc: Global, text: &[u8]) -> Result<Vec<usize>, Fail> {
+    let mut rows = Rows::of_text(alloc, text);
+    let mut row = ByteRecord::new(alloc);
+    let mut found = Vec::new(alloc);
+    for _ in 0..text.len() {
+        if !rows.next_row(&mut row)? {
+            return Ok(found);
+        }
+        found.push(row.len())?;
+    }
+    Ok(found)
+}
+
+#[test]
+fn rows_of_differing_lengths(rt: HostRuntime) -> Result<(), Fail> {
+    let text = b"a,b\r\n\n\n\"c\n,\"\"d\",,\ne";
+    let found = widths(rt.alloc(), text)?;
+    assert_eq!(rt; found.as_slice(), [2, 3, 1].as_slice());
+    assert_eq!(rt; widths(rt.alloc(), b"\n\r\n")?.len(), 0);
+    assert_eq!(rt; widths(rt.alloc(), b"")?.len(), 0);
+    Ok(())
+}
+
+#[test]
+fn a_byte_order_mark_is_no_field(rt: HostRuntime) -> Result<(), Fail> {
+    let mut rows = Rows::of_text(rt.alloc(), b"\xEF\xBB\xBFday,1\n");
+    let mut row = ByteRecord::new(rt.alloc());
+    assert!(rt; rows.next_row(&mut row)?);
+    assert_eq!(rt; field_at(&row, 1)?, b"day".as_slice());
+    assert!(rt; !rows.next_row(&mut row)?);
+    assert!(rt; !rows.next_row(&mut row)?);
+    Ok(())
+}
+
+#[test]
+fn flaws_of_fields(rt: HostRuntime) -> Result<(), Fail> {
+    let mut rows = Rows::of_text(rt.alloc(), b"A-1,x y,007,12a,9");
+    let mut row = ByteRecord::new(rt.alloc());
+    assert!(rt; rows.next_row(&mut row)?);
+    let flaw = |field, cause| Flaw { field, cause };
+    assert_eq!(rt; name_at(&row, 1)?, b"A-1".as_slice());
+    assert_eq!(rt; name_at(&row, 2).err(), Some(flaw(2, Cause::BadName)));
+    assert_eq!(rt; name_at(&row, 6).err(), Some(flaw(6, Cause::MissingField)));
+    assert_eq!(rt; number_at(&row, 3, 0, 7), Ok(7));
+    assert_eq!(rt; number_at(&row, 3, 8, 9), Err(flaw(3, Cause::OutOfRange)));
+    assert_eq!(rt; number_at(&row, 4, 0, 9), Err(flaw(4, Cause::BadNumber)));
+    assert_eq!(rt; end_after(&row, 4), Err(flaw(5, Cause::ExtraField)));
+    assert_eq!(rt; end_after(&row, 5), Ok(()));
+    Ok(())
+}
+
+#[test]
+fn a_flaw_in_its_record(rt: HostRuntime) {
+    let flaw = Flaw {
+        field: 3,
+        cause: Cause::BadName,
+    };
+    let fault = Fault {
+        at: 7,
+        field: 3,
+        cause: Cause::BadName,
+    };
+    assert_eq!(rt; in_record(7, Trouble::Flaw(flaw)), ReadError::Fault(fault));
+    assert_eq!(rt; in_record(7, Trouble::OutOfMemory), ReadError::OutOfMemory);
+}
