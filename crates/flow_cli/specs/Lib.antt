@@ -1,0 +1,4 @@
+pub mod Answer
+pub mod Status
+pub mod Texts
+pub mod Words

@@ -1,0 +1,74 @@
+-- The texts that are printed, byte by byte.
+use Rattle.std.specs.Prelude.{ℕ, List, [], ◌∷◌, ◌++◌, Option, None, Some, slice_get, codes, ℤ, option_map}
+use Rattle.std.specs.Fmt.{decimal, signed_decimal}
+use Rattle.flow_types.specs.declared.bound.Bound.{Bound}
+use Rattle.flow_types.specs.declared.bound.Bound.TheVariants.{AtLeast, NoPlan}
+use Rattle.flow_types.specs.declared.flight.Flight.{Flight}
+use Rattle.flow_types.specs.declared.parts.Parts.{Parts}
+use Rattle.flow_types.specs.declared.place.Place.{Place}
+use Rattle.flow_types.specs.declared.plan.Stop.{Stop}
+use Rattle.flow_types.specs.Costs.{plan_cost}
+use Rattle.flow_types.specs.Trips.{place_at}
+use Rattle.flow_cli.specs.declared.status.Status.{Status}
+use Rattle.flow_cli.specs.declared.status.Status.TheVariants.{Done, Infeasible}
+use Rattle.flow_cli.specs.Status.{status_of}
+
+-- the word for a status
+abbrev pub status_word : Status → List ℕ
+status_word Done = codes "optimal"
+status_word Infeasible = codes "infeasible"
+status_word status = codes "open"
+
+-- a cost, or that there is no plan; a bound, or that there is none
+abbrev pub cost_word : Option ℤ → List ℕ
+cost_word None = codes "none"
+cost_word (Some cost) = signed_decimal cost
+
+abbrev pub bound_word : Bound → List ℕ
+bound_word NoPlan = codes "none"
+bound_word (AtLeast least) = signed_decimal least
+
+-- a line: what it says, and its word
+abbrev pub line_text : List ℕ → List ℕ → List ℕ
+line_text label word = label ++ (word ++ codes "\n")
+
+-- four lines: the status, the cost, the bound, and how many nodes the search has
+abbrev pub claim_text : Option ℤ → Bound → ℕ → List ℕ
+claim_text cost bound nodes =
+    line_text (codes "status,") (status_word (status_of cost bound))
+    ++ (line_text (codes "cost,") (cost_word cost)
+    ++ (line_text (codes "bound,") (bound_word bound)
+    ++ line_text (codes "nodes,") (decimal nodes)))
+
+-- the name of a place, empty where there is none
+abbrev pub name_at : Option Place → List ℕ
+name_at None = []
+name_at (Some place) = place.name
+
+-- a place and a period for each stop
+abbrev pub stop_text : List Place → Flight → Stop → List ℕ
+stop_text places flight stop =
+    codes "," ++ (name_at (slice_get places (place_at flight stop.node)) ++ (codes "," ++ decimal stop.time))
+
+abbrev pub stops_text : List Place → Flight → List Stop → List ℕ
+stops_text places flight [] = []
+stops_text places flight (stop ∷ stops) = stop_text places flight stop ++ stops_text places flight stops
+
+-- a line for the trip of a flight
+abbrev pub trip_text : List Place → Flight → List Stop → List ℕ
+trip_text places flight stops = codes "trip," ++ (flight.name ++ (stops_text places flight stops ++ codes "\n"))
+
+abbrev pub trips_text : List Place → List Flight → List (List Stop) → List ℕ
+trips_text places flights [] = []
+trips_text places [] (trip ∷ plan) = []
+trips_text places (flight ∷ flights) (trip ∷ plan) = trip_text places flight trip ++ trips_text places flights plan
+
+abbrev pub plan_text : Parts → Option (List (List Stop)) → List ℕ
+plan_text parts None = []
+plan_text parts (Some plan) = trips_text parts.places parts.flights plan
+
+-- the claim, and the trips where there is a plan
+abbrev pub report_text : Parts → Option (List (List Stop)) → Bound → ℕ → List ℕ
+report_text parts plan bound nodes =
+    claim_text (option_map (plan_cost parts.tables parts.flights) plan) bound nodes
+    ++ plan_text parts plan

@@ -1,0 +1,236 @@
+//! The texts that are printed.
+ghost use Rattle.std.specs.Prelude.{◌≡◌, ◌++◌, Option, None, Some, IfOk, IfSome, OnOk, codes, option_map, slice_get};
+ghost use Rattle.std.specs.Fmt.{decimal, signed_decimal};
+ghost use Rattle.chain_plan.specs.Outcome.{IsCosted, plan_of};
+ghost use Rattle.chain_plan.specs.declared.outcome.Costed.{Costed};
+ghost use Rattle.flow_types.specs.Scenario.{parts_of};
+ghost use Rattle.flow_types.specs.Trips.{place_at};
+ghost use Rattle.flow_cli.specs.Status.{status_of};
+ghost use Rattle.flow_cli.specs.Texts.{bound_word, claim_text, cost_word, line_text, name_at, report_text, status_word, stop_text, stops_text, trip_text, trips_text};
+
+use crate::status::Status;
+use chain_plan::Outcome;
+use flow_types::{Bound, Flight, OutOfMemory, Place, Plan, Scenario, Stop, Trip};
+use std::alloc::Global;
+
+/// The status of a plan's cost, if there is one, beside the bound.
+pub fn status_of(cost: Option<i64>, bound: Bound) -> Status
+    ensures { result ≡ status_of cost bound }
+{
+    match bound {
+        Bound::NoPlan => Status::Infeasible,
+        Bound::AtLeast(least) => match cost {
+            None => Status::OpenGap,
+            Some(cost) => {
+                if i128::from(cost) == least {
+                    Status::Done
+                } else {
+                    Status::OpenGap
+                }
+            }
+        },
+    }
+}
+
+// The word for the status.
+fn status_word(status: Status) -> &'static [u8]
+    ensures { result.now ≡ status_word status }
+{
+    match status {
+        Status::Done => b"optimal",
+        Status::Infeasible => b"infeasible",
+        _ => b"open",
+    }
+}
+
+// Adds bytes at the end.
+fn put(out: &mut Vec<u8>, bytes: &[u8]) -> Result<(), OutOfMemory>
+    ensures { OnOk result (out.new.items ≡ out.old.items ++ bytes.now) }
+{
+    out.extend_from_slice(bytes)?;
+    Ok(())
+}
+
+// Adds a line at the end.
+fn put_line(out: &mut Vec<u8>, label: &[u8], word: &[u8]) -> Result<(), OutOfMemory>
+    ensures { OnOk result (out.new.items ≡ out.old.items ++ line_text label.now word.now) }
+{
+    put(out, label)?;
+    put(out, word)?;
+    put(out, b"\n")
+}
+
+// Adds the line of the status.
+fn put_status(out: &mut Vec<u8>, status: Status) -> Result<(), OutOfMemory>
+    ensures { OnOk result (out.new.items ≡ out.old.items ++ line_text (codes "status,") (status_word status)) }
+{
+    put_line(out, b"status,", status_word(status))
+}
+
+// Adds the line of the cost.
+fn put_cost(alloc: Global, out: &mut Vec<u8>, cost: Option<i64>) -> Result<(), OutOfMemory>
+    ensures { OnOk result (out.new.items ≡ out.old.items ++ line_text (codes "cost,") (cost_word cost)) }
+{
+    match cost {
+        None => put_line(out, b"cost,", b"none"),
+        Some(cost) => put_line(out, b"cost,", cost.to_string(alloc)?.as_bytes()),
+    }
+}
+
+// Adds the line of the bound.
+fn put_bound(alloc: Global, out: &mut Vec<u8>, bound: Bound) -> Result<(), OutOfMemory>
+    ensures { OnOk result (out.new.items ≡ out.old.items ++ line_text (codes "bound,") (bound_word bound)) }
+{
+    match bound {
+        Bound::NoPlan => put_line(out, b"bound,", b"none"),
+        Bound::AtLeast(least) => put_line(out, b"bound,", least.to_string(alloc)?.as_bytes()),
+    }
+}
+
+// Adds the line of the nodes.
+fn put_nodes(alloc: Global, out: &mut Vec<u8>, nodes: u64) -> Result<(), OutOfMemory>
+    ensures { OnOk result (out.new.items ≡ out.old.items ++ line_text (codes "nodes,") (decimal nodes)) }
+{
+    put_line(out, b"nodes,", nodes.to_string(alloc)?.as_bytes())
+}
+
+// Adds the four lines of a claim.
+fn put_claim(
+    alloc: Global,
+    out: &mut Vec<u8>,
+    cost: Option<i64>,
+    bound: Bound,
+    nodes: u64,
+) -> Result<(), OutOfMemory>
+    ensures { OnOk result (out.new.items ≡ out.old.items ++ claim_text cost bound nodes) }
+{
+    put_status(out, status_of(cost, bound))?;
+    put_cost(alloc, out, cost)?;
+    put_bound(alloc, out, bound)?;
+    put_nodes(alloc, out, nodes)
+}
+
+// The name of the place at the node of the flight, empty where there is none.
+fn name_at<'a>(places: &'a [Place], flight: &Flight, node: u16) -> &'a [u8]
+    ensures { result.now ≡ name_at (slice_get places.now (place_at flight.now node)) }
+{
+    let place = flight
+        .nodes
+        .items()
+        .get(node as usize)
+        .copied()
+        .unwrap_or(0);
+    match places.get(place as usize) {
+        None => b"",
+        Some(place) => place.name.items(),
+    }
+}
+
+// Adds a stop of the flight.
+fn put_stop(
+    alloc: Global,
+    out: &mut Vec<u8>,
+    places: &[Place],
+    flight: &Flight,
+    stop: Stop,
+) -> Result<(), OutOfMemory>
+    ensures { OnOk result (out.new.items ≡ out.old.items ++ stop_text places.now flight.now stop) }
+{
+    put(out, b",")?;
+    put(out, name_at(places, flight, stop.node))?;
+    put(out, b",")?;
+    put(out, stop.time.to_string(alloc)?.as_bytes())
+}
+
+// Adds the stops of the flight.
+fn put_stops(
+    alloc: Global,
+    out: &mut Vec<u8>,
+    places: &[Place],
+    flight: &Flight,
+    stops: &[Stop],
+) -> Result<(), OutOfMemory>
+    ensures { OnOk result (out.new.items ≡ out.old.items ++ stops_text places.now flight.now stops.now) }
+{
+    for stop in stops {
+        put_stop(alloc, out, places, flight, *stop)?;
+    }
+    Ok(())
+}
+
+// Adds the line for the trip of the flight.
+fn put_trip(
+    alloc: Global,
+    out: &mut Vec<u8>,
+    places: &[Place],
+    flight: &Flight,
+    stops: &[Stop],
+) -> Result<(), OutOfMemory>
+    ensures { OnOk result (out.new.items ≡ out.old.items ++ trip_text places.now flight.now stops.now) }
+{
+    put(out, b"trip,")?;
+    put(out, flight.name.items())?;
+    put_stops(alloc, out, places, flight, stops)?;
+    put(out, b"\n")
+}
+
+// Adds a line for each flight's trip.
+fn put_trips(
+    alloc: Global,
+    out: &mut Vec<u8>,
+    places: &[Place],
+    flights: &[Flight],
+    trips: &[Trip],
+) -> Result<(), OutOfMemory>
+    ensures { OnOk result (out.new.items ≡ out.old.items ++ trips_text places.now flights.now trips.now) }
+{
+    for at in 0..flights.len().min(trips.len()) {
+        put_trip(alloc, out, places, &flights[at], trips[at].items())?;
+    }
+    Ok(())
+}
+
+/// The cost of the plan that was kept, if one was.
+pub fn cost_of(outcome: &Outcome) -> Option<i64>
+    ensures { result ≡ option_map (λ (kept : Costed). kept.cost) outcome.now.kept }
+{
+    match &outcome.kept {
+        None => None,
+        Some(kept) => Some(kept.cost),
+    }
+}
+
+/// The text that is printed for an outcome: the status, the cost, the bound and the number of
+/// nodes, and a line for each trip of the plan, if there is one.
+pub fn plan_report(
+    alloc: Global,
+    s: &Scenario,
+    outcome: &Outcome,
+    nodes: u64,
+) -> Result<Vec<u8>, OutOfMemory>
+    requires { IfSome outcome.now.kept (λ kept. IsCosted (parts_of s.now) kept.plan kept.cost) }
+    ensures { IfOk result (λ text. text.items ≡ report_text (parts_of s.now) (plan_of outcome.now) outcome.now.bound nodes) }
+{
+    let mut out = Vec::new(alloc);
+    match &outcome.kept {
+        None => put_claim(alloc, &mut out, None, outcome.bound, nodes)?,
+        Some(kept) => {
+            put_claim(alloc, &mut out, Some(kept.cost), outcome.bound, nodes)?;
+            put_trips(alloc, &mut out, s.places(), s.flights(), kept.plan.items())?;
+        }
+    }
+    Ok(out)
+}
+
+/// The text that is printed for a text of too many bytes.
+pub fn too_long(alloc: Global, size: u64) -> Result<Vec<u8>, OutOfMemory>
+    ensures { IfOk result (λ text. text.items ≡ codes "refused,toolong," ++ (decimal size ++ codes "\n")) }
+{
+    let mut out = Vec::new(alloc);
+    put_line(
+        &mut out,
+        b"refused,toolong,",
+        size.to_string(alloc)?.as_bytes(),
+    )?;
+    Ok(out)
+}
