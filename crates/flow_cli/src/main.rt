@@ -40,3 +40,6 @@ fn arguments(rt: &HostRuntime) -> Result<Vec<String>, OutOfMemory> {
         Err(_) => Ok(words),
     }
 }
+
+#[cfg(test)]
+mod tests;
