@@ -15,3 +15,6 @@ pub mod outcome;
 pub mod pairs;
 
 pub use outcome::{Costed, Outcome, plan_chains};
+
+#[cfg(test)]
+mod tests;

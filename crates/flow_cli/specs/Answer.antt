@@ -47,15 +47,17 @@ pub record IsRefused (bytes printed : List ℕ) (status : Status) : Type 0 where
   pub form : HasFirstForm bytes → ⊥
   pub text : printed ≡ codes "refused,notyet\n"
 
--- the name holds these bytes, and they are planned or refused
+-- the name is there and holds these bytes, which are planned or refused
 pub record IsOfBytes (held : Option Held) (name printed : List ℕ) (status : Status) : Type 0 where
+  pub present : HasName held name
   pub bytes : List ℕ
   pub source : Told held name (λ told. bytes ≡ told)
   pub within : length bytes ≤ most_bytes
   pub answer : IsPlanned bytes printed status ⊎ IsRefused bytes printed status
 
--- the name holds more bytes than a scenario may have
+-- the name is there and holds more bytes than a scenario may have
 pub record IsOfTooMany (held : Option Held) (name printed : List ℕ) (status : Status) : Type 0 where
+  pub present : HasName held name
   pub ends : status ≡ TooLong
   pub size : ℕ
   pub source : Told held name (λ told. size ≡ length told)

@@ -71,7 +71,8 @@ make N
 trial N
 ";
 
-// Runs the words on a file `day.csv` of this text, and compares what is printed.
+// Runs the words on a file `day.csv` of this text, and compares what is printed. A run without
+// memory prints nothing.
 fn expect(
     rt: &impl Abort,
     alloc: Global,
@@ -88,6 +89,10 @@ fn expect(
         given.push(String::from_str(alloc, word)?)?;
     }
     let ends = run(alloc, &given, &mut files, &mut out);
+    if ends == Status::OutOfMemory {
+        assert!(rt; out.bytes().is_empty());
+        return Err(Fail::from("no memory"));
+    }
     assert_eq!(rt; ends, status);
     assert_eq!(rt; out.bytes(), printed);
     Ok(())

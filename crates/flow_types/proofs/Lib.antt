@@ -1,3 +1,4 @@
 pub mod CostFacts
 pub mod PairFacts
 pub mod WordFacts
+pub mod WorkedCases

@@ -38,3 +38,6 @@ pub use place::{CapKind, Caps, Name, Place, PlaceKind, Places};
 pub use plan::{Plan, Stop, Trip};
 pub use scenario::Scenario;
 pub use words::{is_name, parse_number};
+
+#[cfg(test)]
+mod tests;

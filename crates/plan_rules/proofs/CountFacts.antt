@@ -77,6 +77,10 @@ pub stays_at-le : (periods k t : ℕ) (flight : Flight) (trip : List Stop) → I
 stays_at-le periods k t flight [] trip = omega arith
 stays_at-le periods k t flight (stop ∷ rest) trip = (stays_once periods k t flight stop rest trip.2).once
 
+pub stays_at-once : (periods k t : ℕ) (flight : Flight) (trip : List Stop) → IsTrip periods flight trip → stays_at k t flight trip ≤ 1
+stays_at-once periods k t flight [] trip = absurd trip
+stays_at-once periods k t flight (stop ∷ rest) trip = (stays_once periods k t flight stop rest trip.2).once
+
 -- one more flight is there
 pub AreTripsOrNone-set : (periods : ℕ) (flights : List Flight) (trips : List (List Stop)) (n : ℕ) (flight : Flight) (stops : List Stop)
     → slice_get flights n ≡ Some flight → IsTripOrNone periods flight stops → AreTripsOrNone periods flights trips → AreTripsOrNone periods flights (set trips n stops)

@@ -13,6 +13,7 @@
 pub mod broken;
 pub mod costs;
 pub mod judging;
+pub mod laws;
 pub mod loads;
 pub mod stays;
 pub mod table;
@@ -21,4 +22,8 @@ pub mod trips;
 pub use broken::Broken;
 pub use costs::cost;
 pub use judging::{Verdict, judge};
+pub use laws::trips_are_counted_once;
 pub use loads::Loads;
+
+#[cfg(test)]
+mod tests;

@@ -7,3 +7,4 @@ pub mod CountFacts
 pub mod RouteFacts
 pub mod FinishFacts
 pub mod ReadingFacts
+mod Worked

@@ -1,4 +1,4 @@
--- The kinds of records.
+-- The kinds of records that are read so far. Any other word in the first field is an unknown kind.
 use Rattle.std.specs.Prelude.{ℕ, List, Option, Some, None, codes, if◌then◌else◌}
 use Rattle.std.specs.Str.{bytes_eq}
 use Rattle.scenario_reader.specs.declared.kind.Kind.{Kind}

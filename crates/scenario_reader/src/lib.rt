@@ -1,14 +1,29 @@
-//! Reads the text of a scenario.
+//! Reads the text of a scenario: the day, its airports and sectors, its flights and their legs.
+//!
+//! A text is records of comma-separated fields, one kind of record a line (`day`, `airport`,
+//! `sector`, `flight`, `leg`). `scenario_of` in `specs/` says what a text means: a fold of one step
+//! a record over the records that `csv` gives, where each step checks field by field, so that what
+//! it answers is the scenario or the first fault, by record, then field, then cause. `read_scenario`
+//! is proved to give exactly that scenario (clause `scenario`), and to answer `NotYet` exactly where
+//! the text has none or a flight has two ways on from a node (clauses `form` and `not_yet`). Want of
+//! memory is the third answer, of which no clause says when it comes.
+//!
+//! The scenario that is built is known to be valid without a second test: every draft keeps the
+//! rules (`IsSketch`), and a network whose destination is reached and that has no dead end is a
+//! route.
+//!
+//! Memory: the text, the scenario, and as much again as the names and legs of its flights while
+//! they are read; nothing grows with records or lines that add nothing. Time: the length of the
+//! text, a look-up by hash for each name, and for each leg the at most 64 legs and 32 nodes of its
+//! flight.
 #![tactic(auto)]
 
-ghost use Rattle.std.specs.Prelude.{◌≡◌, ◌≤◌, ◌<◌, ◌↔◌, Ok, Err, All, IfOk, OnOk, IsTrue, length};
-ghost use Rattle.flow_types.specs.Routes.{IsChain};
+ghost use Rattle.std.specs.Prelude.{◌≡◌, ◌≤◌, Ok, Err, IfOk, OnOk, length};
 ghost use Rattle.flow_types.specs.Scenario.{parts_of};
-ghost use Rattle.text_records.specs.Flaws.{Reads};
-ghost use Rattle.scenario_reader.specs.Reading.{HasFirstForm, records_step, scenario_of};
-ghost use Rattle.scenario_reader.specs.Seen.{sketch_of};
+ghost use Rattle.scenario_reader.specs.Reading.{HasFirstForm, scenario_of};
 
 mod begun;
+mod chains;
 mod date;
 mod draft;
 mod finish;
@@ -17,90 +32,22 @@ mod kind;
 mod legs;
 mod names;
 mod places;
+mod reading;
 mod records;
 
-use crate::draft::Draft;
-use crate::finish::finished;
-use crate::records::{first_step, record_step};
-use csv::ByteRecord;
-use flow_types::{Cause, Fault, Leg, Scenario};
+use crate::chains::is_of_chains;
+use crate::reading::read_exactly;
+use flow_types::Scenario;
 use std::alloc::Global;
-use text_records::{ReadError, Rows, Trouble, in_record};
+use text_records::ReadError;
 
 /// Why a text isn't read.
 #[derive(Clone, Copy, Debug, PartialEq, Eq)]
 pub enum Refusal {
-    /// The text isn't a scenario of the form that is read so far.
+    /// The text isn't a scenario, or not one that is read so far: each of its records a `day`,
+    /// `airport`, `sector`, `flight` or `leg`, and no two legs of a flight from one node.
     NotYet,
     OutOfMemory,
-}
-
-// The draft of all records from the second on.
-fn draft_of(
-    alloc: Global,
-    first: Draft,
-    rows: &mut Rows,
-    row: &mut ByteRecord,
-) -> Result<Draft, ReadError>
-    requires { length rows.old ≤ 67108864 }
-    ensures { Reads sketch_of result (records_step 2 (sketch_of first) rows.old) }
-{
-    let mut draft = first;
-    let mut at = 2;
-    'records: while rows.next_row(row)? {
-        draft = match record_step(alloc, draft, at, row) {
-            Ok(next) => next,
-            Err(trouble) => return Err(in_record(at, trouble)),
-        };
-        at += 1;
-    }
-    Ok(draft)
-}
-
-// The scenario of a text, or its first fault.
-fn read_exactly(alloc: Global, text: &[u8]) -> Result<Scenario, ReadError>
-    requires { length text.now ≤ 67108864 }
-    ensures { Reads parts_of result (scenario_of text.now) }
-{
-    let mut rows = Rows::of_text(alloc, text);
-    let mut row = ByteRecord::new(alloc);
-    if !rows.next_row(&mut row)? {
-        return Err(ReadError::Fault(Fault {
-            at: 1,
-            field: 1,
-            cause: Cause::NoDay,
-        }));
-    }
-    let first = match first_step(alloc, &row) {
-        Ok(first) => first,
-        Err(flaw) => return Err(in_record(1, Trouble::Flaw(flaw))),
-    };
-    let draft = draft_of(alloc, first, &mut rows, &mut row)?;
-    finished(alloc, draft)
-}
-
-// Whether no two legs leave one node.
-fn is_chain(legs: &[Leg]) -> bool
-    ensures { IsTrue result ↔ IsChain legs.now }
-{
-    for i in 0..legs.len() {
-        for j in i + 1..legs.len() {
-            if legs[i].from == legs[j].from {
-                return false;
-            }
-        }
-    }
-    true
-}
-
-// Whether each flight has one way on from each node.
-fn is_of_chains(scenario: &Scenario) -> bool
-    ensures { IsTrue result ↔ All (λ flight. IsChain flight.legs) (parts_of scenario.now).flights }
-{
-    scenario
-        .flights()
-        .iter()
-        .all(|flight| is_chain(flight.legs.items()))
 }
 
 /// The scenario of a text of at most 64 MiB.

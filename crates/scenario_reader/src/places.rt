@@ -1,5 +1,5 @@
 //! The day, airports and sectors.
-ghost use Rattle.std.specs.Prelude.{◌≡◌, ◌<◌, ◌≤◌, ◌++◌, ◌∷◌, [], None, IfOk, IfSome, OnOk, OnErr, IsTrue, All, length, replicate, slice_get};
+ghost use Rattle.std.specs.Prelude.{◌≡◌, ◌<◌, ◌≤◌, ◌++◌, ◌∷◌, [], None, IfOk, OnOk, All, length, replicate, slice_get};
 ghost use Rattle.csv.specs.Records.{fields_of};
 ghost use Rattle.flow_types.specs.Routes.{is_airport, is_sector};
 ghost use Rattle.flow_types.specs.Valid.{IsDay, IsPlace};

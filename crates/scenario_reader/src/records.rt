@@ -1,7 +1,7 @@
 //! What each record does to what was read before it.
 ghost use Rattle.std.specs.Prelude.{◌≡◌, ◌+◌, ◌<◌, ◌≤◌, [], None, Some, IfOk, OnOk, length, slice_get};
 ghost use Rattle.csv.specs.Records.{fields_of};
-ghost use Rattle.text_records.specs.Flaws.{Finds, Gives, Reads, in_record};
+ghost use Rattle.text_records.specs.Flaws.{Finds, Gives};
 ghost use Rattle.scenario_reader.specs.Flights.{flight_of};
 ghost use Rattle.scenario_reader.specs.Legs.{leg_in};
 ghost use Rattle.scenario_reader.specs.Names.{position_of};

@@ -1,5 +1,5 @@
 //! Fields by their numbers, and what they have to be.
-ghost use Rattle.std.specs.Prelude.{◌≤◌, IfOk, IsTrue, length};
+ghost use Rattle.std.specs.Prelude.{◌≤◌, IfOk, IsTrue};
 ghost use Rattle.csv.specs.Records.{fields_of};
 ghost use Rattle.flow_types.specs.Words.{is_name};
 ghost use Rattle.text_records.specs.Fields.{ends_after, field_in, name_in, number_in};

@@ -1,7 +1,7 @@
 use Rattle.std.proofs.Common.{◌≡◌, ◌∷◌, length, ap, arith}
 use Rattle.csv.specs.Records.{fields_of}
 use Rattle.scenario_reader.proofs.ReadingFacts.{next_record, no_record, refused_record}
-use Rattle.scenario_reader.proofs.draft_of.Goals as goal
+use Rattle.scenario_reader.proofs.reading.draft_of.Goals as goal
 
 pub returns-in-Err : goal.returns-in-Err
 returns-in-Err c =

@@ -3,7 +3,7 @@ use Rattle.std.proofs.lemmas.Result.{err_from_is_err_and}
 use Rattle.csv.specs.Records.{fields_of}
 use Rattle.text_records.specs.Rows.{rows_of}
 use Rattle.scenario_reader.proofs.ReadingFacts.{first_refused, no_first, rest_is, rest_refused}
-use Rattle.scenario_reader.proofs.read_exactly.Goals as goal
+use Rattle.scenario_reader.proofs.reading.read_exactly.Goals as goal
 
 pub returns-then-not-branch : goal.returns-then-not-branch
 returns-then-not-branch c =

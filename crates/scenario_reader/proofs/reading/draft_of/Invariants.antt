@@ -1,7 +1,7 @@
 use Rattle.std.proofs.Common.{◌≡◌, ◌+◌, ◌≤◌, length}
 use Rattle.scenario_reader.specs.Reading.{records_step}
 use Rattle.scenario_reader.specs.Seen.{sketch_of}
-use Rattle.scenario_reader.proofs.draft_of.Given as goal
+use Rattle.scenario_reader.proofs.reading.draft_of.Given as goal
 
 -- what is left decides, and the numbers of its records are small
 abbrev pub invariant-records : goal.invariant-records

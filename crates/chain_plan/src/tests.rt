@@ -1,0 +1,179 @@
+//! What no clause says: that a day is planned with ample memory, and what its plan and bound are.
+ghost use Rattle.std.specs.Prelude.{◌↔◌, All, IsTrue};
+ghost use Rattle.flow_types.specs.Routes.{IsChain};
+
+use super::*;
+use crate::earliest::{earliest_arrival, earliest_trip, has_earliest, least_time};
+use crate::pairs::least_pair;
+use flow_types::{
+    Bound, Connections, Cost, Day, Flight, Flights, Leg, OutOfMemory, Parts, Place, PlaceKind,
+    Places, Scenario, Sequence, Stop, Tables,
+};
+use std::alloc::Global;
+use std::test::Fail;
+
+const DAY: Day = Day {
+    year: 2011,
+    month: 3,
+    day: 14,
+    hour: 6,
+    minute: 0,
+    minutes: 15,
+    periods: 12,
+};
+
+fn list<T: Copy>(alloc: Global, items: &[T]) -> Result<Sequence<T>, OutOfMemory> {
+    Ok(Sequence::from_vec(Vec::from_slice(alloc, items)?))
+}
+
+fn airport(alloc: Global, name: &[u8], leave: u32, arrive: u32) -> Result<Place, OutOfMemory> {
+    Ok(Place {
+        name: list(alloc, name)?,
+        kind: PlaceKind::Airport,
+        first: list(alloc, &[leave; 12])?,
+        second: list(alloc, &[arrive; 12])?,
+    })
+}
+
+fn sector(alloc: Global, name: &[u8], inside: u32) -> Result<Place, OutOfMemory> {
+    Ok(Place {
+        name: list(alloc, name)?,
+        kind: PlaceKind::Sector,
+        first: list(alloc, &[inside; 12])?,
+        second: Sequence::empty(alloc),
+    })
+}
+
+// A flight from the first airport to the second by way of the sector, which takes so long.
+fn flight(alloc: Global, name: &[u8], sd: u16, md: u16, least: u16) -> Result<Flight, OutOfMemory> {
+    let legs = [
+        Leg {
+            from: 0,
+            to: 1,
+            least: 0,
+        },
+        Leg {
+            from: 1,
+            to: 2,
+            least,
+        },
+    ];
+    Ok(Flight {
+        name: list(alloc, name)?,
+        from: 0,
+        to: 1,
+        sd,
+        sa: sd + 2,
+        mg: 4,
+        md,
+        nodes: list(alloc, &[0, 2, 1])?,
+        legs: list(alloc, &legs)?,
+        cost: Cost::Linear {
+            ground: 1,
+            airborne: 2,
+        },
+    })
+}
+
+// The first flight with another one, from an airport that so many may leave in a period.
+fn two_flights(alloc: Global, leave: u32, second: Flight) -> Result<Scenario, Fail> {
+    let mut places = Places::empty(alloc);
+    places.add(airport(alloc, b"ORIG", leave, 9)?)?;
+    places.add(airport(alloc, b"DEST", 9, 9)?)?;
+    places.add(sector(alloc, b"S", 9)?)?;
+    let mut flights = Flights::empty(alloc);
+    flights.add(flight(alloc, b"F1", 0, 5, 2)?)?;
+    flights.add(second)?;
+    let parts = Parts {
+        day: DAY,
+        places,
+        flights,
+        tables: Tables::empty(alloc),
+        connections: Connections::empty(alloc),
+    };
+    Ok(Scenario::new(parts).map_err(|_| "the parts are valid")?)
+}
+
+// Whether no two legs leave one node.
+fn is_chain(legs: &[Leg]) -> bool
+    ensures { IsTrue result ↔ IsChain legs.now }
+{
+    for i in 0..legs.len() {
+        for j in i + 1..legs.len() {
+            if legs[i].from == legs[j].from {
+                return false;
+            }
+        }
+    }
+    true
+}
+
+// Whether no flight has two legs from one node.
+fn are_chains(flights: &[Flight]) -> bool
+    ensures { IsTrue result ↔ All (λ flight. IsChain flight.legs) flights.now }
+{
+    flights.iter().all(|flight| is_chain(flight.legs.items()))
+}
+
+#[test]
+fn days_of_two_flights_are_planned(rt: HostRuntime) -> Result<(), Fail> {
+    let alloc = rt.alloc();
+    // How many may leave in a period, and the second flight's scheduled departure, greatest
+    // arrival delay and least time; the stop times of the plan that is kept, if one is, and the
+    // bound on every plan.
+    let rows = [
+        (1, 0, 5, 2, None, Bound::AtLeast(0)),
+        (2, 0, 5, 2, Some([0, 0, 2]), Bound::AtLeast(0)),
+        (1, 1, 5, 2, Some([1, 1, 3]), Bound::AtLeast(0)),
+        (1, 1, 5, 4, Some([1, 1, 5]), Bound::AtLeast(4)),
+        (1, 1, 5, 7, Some([1, 1, 8]), Bound::AtLeast(10)),
+        (1, 1, 5, 8, None, Bound::NoPlan),
+        (1, 1, 0, 3, None, Bound::NoPlan),
+    ];
+    for (leave, sd, md, least, times, bound) in rows {
+        let s = two_flights(alloc, leave, flight(alloc, b"F2", sd, md, least)?)?;
+        assert!(rt; are_chains(s.flights()));
+        let outcome = plan_chains(alloc, &s)?;
+        assert_eq!(rt; outcome.bound, bound);
+        match (outcome.kept, times) {
+            (None, None) => (),
+            (Some(kept), Some([first, second, third])) => {
+                assert_eq!(rt; Bound::AtLeast(i128::from(kept.cost)), bound);
+                assert!(rt; kept.plan.items().len() == 2);
+                let stops = [
+                    Stop {
+                        node: 0,
+                        time: first,
+                    },
+                    Stop {
+                        node: 1,
+                        time: second,
+                    },
+                    Stop {
+                        node: 2,
+                        time: third,
+                    },
+                ];
+                assert_eq!(rt; kept.plan.items()[1].items(), stops.as_slice());
+            }
+            _ => panic!(rt; "sd {sd}, md {md}, least {least}"),
+        }
+    }
+    Ok(())
+}
+
+#[test]
+fn one_flight_is_looked_at(rt: HostRuntime) -> Result<(), Fail> {
+    let alloc = rt.alloc();
+    let s = two_flights(alloc, 9, flight(alloc, b"F2", 1, 5, 4)?)?;
+    let flights = s.flights();
+    assert!(rt; flights.len() == 2);
+    assert!(rt; flights[1].nodes.items().len() == 3);
+    assert_eq!(rt; least_time(&flights[1]), 4);
+    assert_eq!(rt; earliest_arrival(&flights[1]), 5);
+    assert!(rt; has_earliest(s.day().periods, &flights[1]));
+    let trip = earliest_trip(alloc, s.day().periods, &flights[1])?;
+    assert_eq!(rt; trip.items().len(), 3);
+    assert_eq!(rt; least_pair(&s, 1, &flights[1]), 4);
+    Ok(())
+}

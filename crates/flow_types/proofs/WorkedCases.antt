@@ -1,0 +1,209 @@
+-- Two flights of one route, and a flight with its aircraft's flight back: what the definitions say
+-- of them, computed.
+use Rattle.std.proofs.Common.{◌≡◌, ℕ, suc, zero, ◌+◌, ◌<◌, ◌≤◌, Bool, true, false, ◌&&◌, nat_le, List, [], ◌∷◌, length, get_or, slice_get, None, Some, IsTrue, All, pos, ap, refl, arith}
+use Rattle.std.proofs.lemmas.Bool.Decides.{nat_tests}
+use Rattle.flow_types.specs.declared.day.Day.{Day}
+use Rattle.flow_types.specs.declared.flight.Connection.{Connection}
+use Rattle.flow_types.specs.declared.flight.Cost.{Cost}
+use Rattle.flow_types.specs.declared.flight.Cost.TheVariants.{Linear, Tables}
+use Rattle.flow_types.specs.declared.flight.CostTable.{CostTable}
+use Rattle.flow_types.specs.declared.flight.Flight.{Flight}
+use Rattle.flow_types.specs.declared.flight.Leg.{Leg}
+use Rattle.flow_types.specs.declared.parts.Parts.{Parts}
+use Rattle.flow_types.specs.declared.place.CapKind.TheVariants as kind
+use Rattle.flow_types.specs.declared.place.Place.{Place}
+use Rattle.flow_types.specs.declared.place.PlaceKind.TheVariants.{Airport, Sector}
+use Rattle.flow_types.specs.declared.plan.Stop.{Stop}
+use Rattle.flow_types.specs.Capacities.{capacity_of}
+use Rattle.flow_types.specs.Costs.{plan_cost}
+use Rattle.flow_types.specs.Counts.{departures_at, arrivals_at, occupancy_at}
+use Rattle.flow_types.specs.Feasible.{IsFeasible}
+use Rattle.flow_types.specs.Routes.{is_airport, is_sector}
+use Rattle.flow_types.specs.Trips.{IsLegBetween, IsTrip}
+
+-- the test holds of each number below n
+abbrev all_below : ℕ → (ℕ → Bool) → Bool
+all_below zero test = true
+all_below (suc n) test = test 0 && all_below n (λ k. test (suc k))
+
+both : (a b : Bool) → a && b ≡ true → (a ≡ true) × (b ≡ true)
+both true b all = (refl, all)
+both false b all = cc
+
+below : (n k : ℕ) (test : ℕ → Bool) → all_below n test ≡ true → k < n → test k ≡ true
+below zero k test all less = let none : ⊥ = omega (arith, less) in absurd none
+below (suc n) zero test all less = (both (test 0) _ all).0
+below (suc n) (suc k) test all less = below n k (λ k. test (suc k)) (both (test 0) _ all).1 (omega (arith, less))
+
+least_or_same : (a b : ℕ) → nat_le a b ≡ true → a ≤ b
+least_or_same a b test = grind (arith, nat_tests)
+
+-- the count is within the capacity in each place and period, as computed
+within : (places periods : ℕ) (count capacity : ℕ → ℕ → ℕ) → all_below places (λ k. all_below periods (λ t. nat_le (count k t) (capacity k t))) ≡ true
+    → (k t : ℕ) → k < places → t < periods → count k t ≤ capacity k t
+within places periods count capacity all k t place period =
+    least_or_same (count k t) (capacity k t)
+    (below periods t (λ t. nat_le (count k t) (capacity k t)) (below places k (λ k. all_below periods (λ t. nat_le (count k t) (capacity k t))) all place) period)
+
+airport_within : (places : List Place) (k : ℕ) → is_airport (slice_get places k) ≡ true → k < length places
+airport_within [] k is = cc
+airport_within (place ∷ places) zero is = omega arith
+airport_within (place ∷ places) (suc k) is = omega (arith, airport_within places k is)
+
+sector_within : (places : List Place) (k : ℕ) → is_sector (slice_get places k) ≡ true → k < length places
+sector_within [] k is = cc
+sector_within (place ∷ places) zero is = omega arith
+sector_within (place ∷ places) (suc k) is = omega (arith, sector_within places k is)
+
+-- the same capacity in each of eight periods
+abbrev all_day : ℕ → List ℕ
+all_day n = n ∷ n ∷ n ∷ n ∷ n ∷ n ∷ n ∷ n ∷ []
+
+-- an airport, another one and a sector, with the first's capacity to leave, the second's to arrive
+-- at, and the sector's
+abbrev places_with : ℕ → ℕ → ℕ → List Place
+places_with leave arrive inside =
+    record { name = 79 ∷ []; kind = Airport; first = all_day leave; second = all_day 9 }
+    ∷ record { name = 68 ∷ []; kind = Airport; first = all_day 9; second = all_day arrive }
+    ∷ record { name = 83 ∷ []; kind = Sector; first = all_day inside; second = [] } ∷ []
+
+-- through the sector, in two periods
+abbrev legs : List Leg
+legs = record { from = 0; to = 1; least = 0 } ∷ record { from = 1; to = 2; least = 2 } ∷ []
+
+abbrev flight_with : List ℕ → ℕ → ℕ → ℕ → Cost → Flight
+flight_with name from to sd cost =
+    record { name = name; from = from; to = to; sd = sd; sa = sd + 2; mg = 4; md = 5; nodes = from ∷ 2 ∷ to ∷ []; legs = legs; cost = cost }
+
+abbrev there : Flight
+there = flight_with (49 ∷ []) 0 1 0 (Linear 1 2)
+
+abbrev beside : Flight
+beside = flight_with (50 ∷ []) 0 1 0 (Linear 1 2)
+
+abbrev back : Flight
+back = flight_with (51 ∷ []) 1 0 3 (Linear 1 2)
+
+abbrev day_with : List Place → Flight → List Connection → Parts
+day_with places second connections = record {
+  day = record { year = 2011; month = 3; day = 14; hour = 6; minute = 0; minutes = 15; periods = 8 };
+  places = places;
+  flights = there ∷ second ∷ [];
+  tables = [];
+  connections = connections;
+}
+
+-- a trip that departs in one period, and is in the sector up to another one
+abbrev trip_at : ℕ → ℕ → List Stop
+trip_at departure arrival =
+    record { node = 0; time = departure } ∷ record { node = 1; time = departure } ∷ record { node = 2; time = arrival } ∷ []
+
+abbrev plan_with : List Stop → List (List Stop)
+plan_with second = trip_at 0 2 ∷ second ∷ []
+
+-- of which one may leave in a period
+abbrev two_flights : Parts
+two_flights = day_with (places_with 1 9 9) beside []
+
+there_is : IsTrip 8 there (trip_at 0 2)
+there_is = (
+  refl,
+  record { early = omega arith; late = omega arith },
+  (
+    (0, record { from = 0; to = 1; least = 0 }, omega arith, refl, record { from = refl; to = refl; least = omega arith }),
+    record { early = omega arith; late = omega arith },
+    (
+      (1, record { from = 1; to = 2; least = 2 }, omega arith, refl, record { from = refl; to = refl; least = omega arith }),
+      record { early = omega arith; late = omega arith },
+      refl,
+    ),
+  ),
+)
+
+beside_is : IsTrip 8 beside (trip_at 1 3)
+beside_is = (
+  refl,
+  record { early = omega arith; late = omega arith },
+  (
+    (0, record { from = 0; to = 1; least = 0 }, omega arith, refl, record { from = refl; to = refl; least = omega arith }),
+    record { early = omega arith; late = omega arith },
+    (
+      (1, record { from = 1; to = 2; least = 2 }, omega arith, refl, record { from = refl; to = refl; least = omega arith }),
+      record { early = omega arith; late = omega arith },
+      refl,
+    ),
+  ),
+)
+
+-- The second flight departs a period late: the plan keeps every rule.
+keeps : IsFeasible two_flights (plan_with (trip_at 1 3))
+keeps =
+    let places = two_flights.places in
+    let flights = two_flights.flights in
+    let plan = plan_with (trip_at 1 3) in
+    record {
+      trips = (there_is, (beside_is, tt));
+      turns = λ k d less. let none : ⊥ = omega (arith, less) in absurd none;
+      departures = λ k t is period. within 3 8 (departures_at flights plan) (capacity_of places kind.Dep) refl k t (airport_within places k is) period;
+      arrivals = λ k t is period. within 3 8 (arrivals_at flights plan) (capacity_of places kind.Arr) refl k t (airport_within places k is) period;
+      sectors = λ k t is period. within 3 8 (occupancy_at flights plan) (capacity_of places kind.Sector) refl k t (sector_within places k is) period;
+    }
+
+-- The flight that departs in the first period is in the sector for two, and counts there no longer.
+in_the_sector : occupancy_at (there ∷ []) (trip_at 0 2 ∷ []) 2 0 + occupancy_at (there ∷ []) (trip_at 0 2 ∷ []) 2 1 ≡ 2
+in_the_sector = refl
+
+out_of_the_sector : occupancy_at (there ∷ []) (trip_at 0 2 ∷ []) 2 2 ≡ 0
+out_of_the_sector = refl
+
+-- It costs one period on the ground; each further period in the air costs two, and one in the table
+-- what it says.
+costs_one : plan_cost two_flights.tables two_flights.flights (plan_with (trip_at 1 3)) ≡ pos 1
+costs_one = refl
+
+costs_six : plan_cost two_flights.tables two_flights.flights (plan_with (trip_at 2 6)) ≡ pos 6
+costs_six = refl
+
+abbrev tables : List CostTable
+tables = record { name = 84 ∷ []; values = pos 0 ∷ pos 5 ∷ pos 10 ∷ [] } ∷ record { name = 67 ∷ []; values = pos 0 ∷ pos 2 ∷ pos 4 ∷ [] } ∷ []
+
+costs_by_tables : plan_cost tables (there ∷ flight_with (50 ∷ []) 0 1 0 (Tables 0 1) ∷ []) (plan_with (trip_at 1 3)) ≡ pos 3
+costs_by_tables = refl
+
+-- Both depart in the period in which one may.
+breaks_departures : IsFeasible two_flights (plan_with (trip_at 0 2)) → ⊥
+breaks_departures feasible = let both : 2 ≤ 1 = feasible.departures 0 0 refl (omega arith) in omega arith
+
+-- Both arrive in a period in which one may.
+breaks_arrivals : IsFeasible (day_with (places_with 9 1 9) beside []) (plan_with (trip_at 0 2)) → ⊥
+breaks_arrivals feasible = let both : 2 ≤ 1 = feasible.arrivals 1 2 refl (omega arith) in omega arith
+
+-- Both are in the sector in which one may be, in the period before they arrive.
+breaks_sectors : IsFeasible (day_with (places_with 9 9 1) beside []) (plan_with (trip_at 0 2)) → ⊥
+breaks_sectors feasible = let both : 2 ≤ 1 = feasible.sectors 2 1 refl (omega arith) in omega arith
+
+-- The flight back leaves one period after the aircraft has come, and the turnaround is two.
+breaks_a_turnaround : IsFeasible (day_with (places_with 9 9 9) back (record { first = 0; second = 1; turnaround = 2 } ∷ [])) (plan_with (trip_at 3 5)) → ⊥
+breaks_a_turnaround feasible =
+    let turn : 2 + 2 ≤ 3 = feasible.turns 0 (record { first = 0; second = 1; turnaround = 2 }) (omega arith) 2 3 refl refl in omega arith
+
+-- The second flight departs later than its greatest ground delay.
+breaks_a_window : IsFeasible two_flights (plan_with (trip_at 5 7)) → ⊥
+breaks_a_window feasible = let late : 5 ≤ 4 = feasible.trips.1.0.1.late in omega arith
+
+-- It takes one period where its leg takes two.
+no_leg : (k : ℕ) (leg : Leg) → k < 2 → get_or legs k leg ≡ leg → IsLegBetween (record { node = 1; time = 1 }) (record { node = 2; time = 2 }) leg → ⊥
+no_leg zero leg less same between = let to : 1 ≡ leg.to = ap (λ (l : Leg). l.to) same in omega (arith, between.to)
+no_leg (suc zero) leg less same between = let least : 2 ≡ leg.least = ap (λ (l : Leg). l.least) same in omega (arith, between.least)
+no_leg (suc (suc k)) leg less same between = omega (arith, less)
+
+breaks_a_leg : IsFeasible two_flights (plan_with (trip_at 1 2)) → ⊥
+breaks_a_leg feasible = let step = feasible.trips.1.0.2.2.0 in no_leg step.0 step.1 step.2 step.3 step.4
+
+-- It ends in the sector.
+breaks_an_ending : IsFeasible two_flights (plan_with (record { node = 0; time = 1 } ∷ record { node = 1; time = 1 } ∷ [])) → ⊥
+breaks_an_ending feasible = let last : 1 + 1 ≡ 3 = feasible.trips.1.0.2.2 in omega arith
+
+-- The second flight has no trip.
+breaks_the_number : IsFeasible two_flights (trip_at 0 2 ∷ []) → ⊥
+breaks_the_number feasible = feasible.trips.1
