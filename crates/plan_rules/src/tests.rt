@@ -1,4 +1,8 @@
 //! What no clause says: that calls succeed with ample memory, and which rule is named first.
+ghost use Rattle.std.specs.Prelude.{IfOk};
+ghost use Rattle.flow_types.specs.Scenario.{parts_of};
+ghost use Rattle.plan_rules.specs.Loads.{IsMadeFor};
+
 use super::*;
 use crate::trips::check_trips;
 use flow_types::{
@@ -59,7 +63,7 @@ fn flight(alloc: Global, name: &[u8], from: u32, to: u32, sd: u16) -> Result<Fli
         from,
         to,
         sd,
-        sa: sd + 2,
+        sa: sd.saturating_add(2),
         mg: 4,
         md: 5,
         nodes: list(alloc, &[from, 2, to])?,
@@ -133,171 +137,161 @@ fn plan_with(alloc: Global, stops: &[(u16, u16)]) -> Result<Plan, OutOfMemory> {
 }
 
 // What is said of the plan with this other trip.
-fn judged(alloc: Global, s: &Scenario, stops: &[(u16, u16)]) -> Result<Verdict, OutOfMemory> {
-    let mut loads = Loads::new(alloc, s)?;
-    Ok(judge(&mut loads, s, &plan_with(alloc, stops)?))
+fn judged(alloc: Global, s: Scenario, stops: &[(u16, u16)]) -> Result<Verdict, OutOfMemory> {
+    let mut loads = Loads::new(alloc, &s)?;
+    Ok(judge(&mut loads, &s, &plan_with(alloc, stops)?))
 }
 
-const SAME: [(u16, u16); 3] = [(0, 0), (1, 0), (2, 2)];
-
 #[test]
-fn plans_of_two_flights_are_judged(rt: HostRuntime) -> Result<(), Fail> {
+fn trips_are_judged(rt: HostRuntime) -> Result<(), Fail> {
     let alloc = rt.alloc();
-    let s = two_flights(alloc, (1, 9, 9))?;
-    let later = [(0, 1), (1, 1), (2, 3)];
-    assert_eq!(rt; judged(alloc, &s, &later)?, Verdict::Keeps { cost: 1 });
-    let rows: [(&[(u16, u16)], Broken); 8] = [
-        (&[], Broken::Start { flight: 1 }),
-        (&[(1, 0)], Broken::Start { flight: 1 }),
+    let (flight, place_in_trip) = (1, 0);
+    let rows: [(&[(u16, u16)], Broken); 6] = [
+        (&[], Broken::Start { flight }),
+        (&[(1, 0)], Broken::Start { flight }),
         (
-            &[(0, 5), (1, 5), (2, 7)],
+            &[(0, 5)],
             Broken::Window {
-                flight: 1,
-                place_in_trip: 0,
-            },
-        ),
-        (
-            &[(0, 1), (1, 1), (2, 8)],
-            Broken::Window {
-                flight: 1,
-                place_in_trip: 2,
+                flight,
+                place_in_trip,
             },
         ),
         (
             &[(0, 1), (2, 3)],
             Broken::NoLeg {
-                flight: 1,
-                place_in_trip: 0,
+                flight,
+                place_in_trip,
             },
         ),
         (
             &[(0, 1), (1, 1), (2, 2)],
             Broken::Least {
-                flight: 1,
+                flight,
                 place_in_trip: 1,
                 least: 2,
             },
         ),
-        (&[(0, 1), (1, 1)], Broken::Ending { flight: 1 }),
-        (
-            &SAME,
-            Broken::Departures {
-                place: 0,
-                period: 0,
-                load: 2,
-                capacity: 1,
-            },
-        ),
+        (&[(0, 1), (1, 1)], Broken::Ending { flight }),
     ];
     for (stops, broken) in rows {
-        assert_eq!(rt; judged(alloc, &s, stops)?, Verdict::Breaks(broken));
+        let verdict = judged(alloc, two_flights(alloc, (1, 9, 9))?, stops)?;
+        assert_eq!(rt; verdict, Verdict::Breaks(broken));
     }
     Ok(())
 }
 
 #[test]
-fn capacities_and_turnarounds_are_judged(rt: HostRuntime) -> Result<(), Fail> {
+fn capacities_are_judged(rt: HostRuntime) -> Result<(), Fail> {
     let alloc = rt.alloc();
-    let full = two_flights(alloc, (9, 1, 9))?;
-    assert_eq!(rt;
-        judged(alloc, &full, &SAME)?,
-        Verdict::Breaks(Broken::Arrivals {
-            place: 1,
-            period: 2,
-            load: 2,
-            capacity: 1
-        })
-    );
-    let full = two_flights(alloc, (9, 9, 1))?;
-    assert_eq!(rt;
-        judged(alloc, &full, &SAME)?,
-        Verdict::Breaks(Broken::Sectors {
-            place: 2,
-            period: 0,
-            load: 2,
-            capacity: 1
-        })
-    );
-    // The second flight enters the sector in the period in which the first leaves it.
-    let after = [(0, 2), (1, 2), (2, 4)];
-    assert_eq!(rt; judged(alloc, &full, &after)?, Verdict::Keeps { cost: 2 });
-    let back = there_and_back(alloc)?;
-    let soon = [(0, 3), (1, 3), (2, 5)];
-    assert_eq!(rt;
-        judged(alloc, &back, &soon)?,
-        Verdict::Breaks(Broken::Turn {
-            connection: 0,
-            arrives: 2,
-            leaves: 3
-        })
-    );
-    let late = [(0, 4), (1, 4), (2, 6)];
-    assert_eq!(rt; judged(alloc, &back, &late)?, Verdict::Keeps { cost: 1 });
+    let (load, capacity) = (2, 1);
+    // The capacities to leave, to arrive and inside, and what is broken where both go alike.
+    let rows = [
+        (
+            (1, 9, 9),
+            Broken::Departures {
+                place: 0,
+                period: 0,
+                load,
+                capacity,
+            },
+        ),
+        (
+            (9, 1, 9),
+            Broken::Arrivals {
+                place: 1,
+                period: 2,
+                load,
+                capacity,
+            },
+        ),
+        (
+            (9, 9, 1),
+            Broken::Sectors {
+                place: 2,
+                period: 0,
+                load,
+                capacity,
+            },
+        ),
+    ];
+    for (capacities, broken) in rows {
+        let s = two_flights(alloc, capacities)?;
+        let verdict = judged(alloc, s, &[(0, 0), (1, 0), (2, 2)])?;
+        assert_eq!(rt; verdict, Verdict::Breaks(broken));
+        // The second flight enters the sector in the period in which the first leaves it.
+        let s = two_flights(alloc, capacities)?;
+        let verdict = judged(alloc, s, &[(0, 2), (1, 2), (2, 4)])?;
+        assert_eq!(rt; verdict, Verdict::Keeps { cost: 2 });
+    }
     Ok(())
 }
 
 #[test]
-fn a_plan_has_one_trip_for_each_flight(rt: HostRuntime) -> Result<(), Fail> {
+fn turnarounds_are_judged(rt: HostRuntime) -> Result<(), Fail> {
+    let alloc = rt.alloc();
+    let soon = judged(alloc, there_and_back(alloc)?, &[(0, 3), (1, 3), (2, 5)])?;
+    let broken = Broken::Turn {
+        connection: 0,
+        arrives: 2,
+        leaves: 3,
+    };
+    assert_eq!(rt; soon, Verdict::Breaks(broken));
+    let late = judged(alloc, there_and_back(alloc)?, &[(0, 4), (1, 4), (2, 6)])?;
+    assert_eq!(rt; late, Verdict::Keeps { cost: 1 });
+    Ok(())
+}
+
+#[test]
+fn a_plan_costs(rt: HostRuntime) -> Result<(), Fail> {
     let alloc = rt.alloc();
     let s = two_flights(alloc, (9, 9, 9))?;
-    let mut loads = Loads::new(alloc, &s)?;
-    let none = Plan::empty(alloc);
-    assert_eq!(rt;
-        judge(&mut loads, &s, &none),
-        Verdict::Breaks(Broken::Trips { got: 0, need: 2 })
-    );
-    // Four periods late, two of them in the air.
+    // Four periods late, two of them on the ground.
     let plan = plan_with(alloc, &[(0, 2), (1, 2), (2, 6)])?;
     let trips = check_trips(s.day().periods, s.flights(), plan.items());
     assert!(rt; trips.is_ok());
     assert_eq!(rt; cost(&s, &plan), 6);
+    let mut loads = Loads::new(alloc, &s)?;
+    let none = Plan::empty(alloc);
+    let broken = Broken::Trips { got: 0, need: 2 };
+    assert_eq!(rt; judge(&mut loads, &s, &none), Verdict::Breaks(broken));
     Ok(())
 }
 
+// Loads of the day, after its plan was judged.
+fn loads_of(alloc: Global, s: &Scenario) -> Result<Loads, OutOfMemory>
+    ensures { IfOk result (IsMadeFor (parts_of s.now)) }
+{
+    let plan = plan_with(alloc, &[(0, 1), (1, 1), (2, 3)])?;
+    let mut loads = Loads::new(alloc, s)?;
+    match judge(&mut loads, s, &plan) {
+        Verdict::Keeps { .. } => Ok(loads),
+        Verdict::Breaks(_) => Ok(loads),
+    }
+}
+
 #[test]
-fn loads_count_the_trips_that_are_kept(rt: HostRuntime) -> Result<(), Fail> {
+fn loads_count_the_trips_of_a_plan(rt: HostRuntime) -> Result<(), Fail> {
     let alloc = rt.alloc();
     let s = two_flights(alloc, (9, 9, 9))?;
-    let plan = plan_with(alloc, &[(0, 1), (1, 1), (2, 3)])?;
     assert!(rt; s.places().len() == 3);
     assert!(rt; s.flights().len() == 2);
     assert!(rt; s.day().periods == 12);
-    let mut loads = Loads::new(alloc, &s)?;
-    if let Verdict::Keeps { .. } = judge(&mut loads, &s, &plan) {
-        assert_eq!(rt; loads.departure(1), Some(1));
-        assert_eq!(rt; loads.arrival(1), Some(3));
-        for (period, leave, inside, arrive) in [
-            (0, 1, 1, 0),
-            (1, 1, 2, 0),
-            (2, 0, 1, 1),
-            (3, 0, 0, 1),
-            (4, 0, 0, 0),
-        ] {
-            assert_eq!(rt; loads.load(CapKind::Dep, 0, period), leave, "{period}");
-            assert_eq!(rt; loads.load(CapKind::Arr, 1, period), arrive, "{period}");
-            assert_eq!(rt; loads.load(CapKind::Sector, 2, period), inside, "{period}");
-        }
-        loads.clear();
-        assert_eq!(rt; loads.departure(1), None);
-        assert_eq!(rt; loads.load(CapKind::Sector, 2, 1), 0);
-        return Ok(());
+    let mut loads = loads_of(alloc, &s)?;
+    assert_eq!(rt; loads.departure(1), Some(1));
+    assert_eq!(rt; loads.arrival(1), Some(3));
+    // The period, and how many leave in it, are inside in it and arrive in it.
+    for (period, leave, inside, arrive) in [
+        (0, 1, 1, 0),
+        (1, 1, 2, 0),
+        (2, 0, 1, 1),
+        (3, 0, 0, 1),
+    ] {
+        assert_eq!(rt; loads.load(CapKind::Dep, 0, period), leave, "{period}");
+        assert_eq!(rt; loads.load(CapKind::Arr, 1, period), arrive, "{period}");
+        assert_eq!(rt; loads.load(CapKind::Sector, 2, period), inside, "{period}");
     }
-    Err("the plan is kept")?;
-    Ok(())
-}
-
-#[test]
-fn a_trip_is_added(rt: HostRuntime) -> Result<(), Fail> {
-    let alloc = rt.alloc();
-    let s = two_flights(alloc, (9, 9, 9))?;
-    assert!(rt; s.flights().len() == 2);
-    let mut loads = Loads::new(alloc, &s)?;
-    let trip = [
-        Stop { node: 0, time: 1 },
-        Stop { node: 1, time: 1 },
-        Stop { node: 2, time: 3 },
-    ];
-    loads.add(&s, 1, &trip);
+    loads.clear();
+    loads.add(&s, 1, &[Stop { node: 0, time: 1 }]);
     trips_are_counted_once();
     Ok(())
 }
