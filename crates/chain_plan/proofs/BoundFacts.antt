@@ -1,5 +1,5 @@
 -- Every trip is a pair of delays, so no plan costs less than the least pairs together.
-use Rattle.std.proofs.Common.{◌≡◌, ◌≢◌, ℕ, zero, suc, ◌+◌, ◌-◌, ◌<◌, ◌≤◌, ◌==◌, max, min, Bool, true, false, List, [], ◌∷◌, ◌++◌, length, take, get_or, All, IsTrue, ℤ, pos, ◌+ℤ◌, ◌≤ℤ◌, refl, sym, ap, ◌∙◌, subst, Some, arith}
+use Rattle.std.proofs.Common.{◌≡◌, ℕ, ◌+◌, ◌-◌, ◌<◌, ◌≤◌, min, List, [], ◌∷◌, ◌++◌, length, take, get_or, All, ℤ, ◌+ℤ◌, ◌≤ℤ◌, refl, sym, ap, ◌∙◌, subst, Some, arith}
 use Rattle.std.specs.List.{Any, AllZip}
 use Rattle.std.proofs.lemmas.Bool.Decides.{nat_tests}
 use Rattle.std.proofs.lemmas.Int.{ints}
@@ -8,15 +8,14 @@ use Rattle.std.proofs.lemmas.List.Elements.{All-head, All-tail}
 use Rattle.std.proofs.lemmas.Option.{slice_get-get_or}
 use Rattle.flow_types.specs.declared.flight.CostTable.{CostTable}
 use Rattle.flow_types.specs.declared.flight.Flight.{Flight}
-use Rattle.flow_types.specs.declared.parts.Parts.{Parts}
 use Rattle.flow_types.specs.declared.place.Place.{Place}
 use Rattle.flow_types.specs.declared.plan.Stop.{Stop}
-use Rattle.flow_types.specs.Costs.{plan_cost, trip_cost}
-use Rattle.flow_types.specs.Feasible.{AreTrips, IsFeasible}
+use Rattle.flow_types.specs.Costs.{plan_cost}
+use Rattle.flow_types.specs.Feasible.{AreTrips}
 use Rattle.flow_types.specs.Routes.{IsChain, IsRoute}
 use Rattle.flow_types.specs.Trips.{IsOnward, IsTrip, IsWithinHours, arrival_from, earliest_of, latest_of}
 use Rattle.flow_types.specs.Valid.{IsFlight}
-use Rattle.chain_plan.specs.Chains.{AreChains, HasEarliest, IsLeastPair, IsPair, earliest_arrival, least_after, least_time, pair_cost}
+use Rattle.chain_plan.specs.Chains.{AreChains, HasEarliest, IsLeastPair, IsPair, earliest_arrival, least_after, least_time}
 use Rattle.chain_plan.specs.Outcome.{total_of_all}
 use Rattle.chain_plan.proofs.ChainFacts.{takes_time}
 use Rattle.plan_rules.proofs.JudgeFacts.{AreTrips-at}

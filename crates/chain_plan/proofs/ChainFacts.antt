@@ -1,5 +1,5 @@
 -- On a chain every leg leads to the next node, so every trip takes every leg.
-use Rattle.std.proofs.Common.{◌≡◌, ◌≢◌, ◌⊎◌, ℕ, zero, suc, ◌+◌, ◌-◌, ◌<◌, ◌≤◌, ◌==◌, Bool, true, false, cond, List, [], ◌∷◌, length, get_or, IsTrue, AllPairs, refl, sym, ap, ◌∙◌, subst, inl, inr, arith}
+use Rattle.std.proofs.Common.{◌≡◌, ◌≢◌, ◌⊎◌, ℕ, zero, suc, ◌+◌, ◌<◌, ◌≤◌, ◌==◌, true, List, [], ◌∷◌, length, get_or, IsTrue, sym, ap, ◌∙◌, inl, inr, arith}
 use Rattle.std.proofs.lemmas.Bool.{cases_lt, cases_order, cases_eq}
 use Rattle.std.proofs.lemmas.Bool.Decides.{nat_tests}
 use Rattle.std.proofs.lemmas.List.{get_or_read}
@@ -8,8 +8,8 @@ use Rattle.flow_types.specs.declared.flight.Flight.{Flight}
 use Rattle.flow_types.specs.declared.flight.Leg.{Leg}
 use Rattle.flow_types.specs.declared.place.Place.{Place}
 use Rattle.flow_types.specs.declared.plan.Stop.{Stop}
-use Rattle.flow_types.specs.Routes.{IsChain, IsLeg, IsRoute, is_entered}
-use Rattle.flow_types.specs.Trips.{IsLegBetween, IsOnward, IsStep, arrival_from}
+use Rattle.flow_types.specs.Routes.{IsChain, IsRoute, is_entered}
+use Rattle.flow_types.specs.Trips.{IsOnward, IsStep, arrival_from}
 use Rattle.chain_plan.specs.Chains.{least_after, least_from}
 
 -- a number that passes the test of equality

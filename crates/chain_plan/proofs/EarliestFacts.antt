@@ -1,9 +1,9 @@
 -- Times leg by leg.
-use Rattle.std.proofs.Common.{◌≡◌, ℕ, suc, zero, ◌+◌, ◌-◌, ◌<◌, ◌≤◌, max, min, List, [], ◌∷◌, ◌++◌, length, refl, sym, ap, ◌∙◌, append_assoc, arith}
+use Rattle.std.proofs.Common.{◌≡◌, ℕ, suc, zero, ◌+◌, ◌-◌, ◌<◌, ◌≤◌, List, [], ◌∷◌, ◌++◌, refl, sym, ap, ◌∙◌, append_assoc, arith}
 use Rattle.flow_types.specs.declared.flight.Flight.{Flight}
 use Rattle.flow_types.specs.declared.flight.Leg.{Leg}
 use Rattle.flow_types.specs.declared.plan.Stop.{Stop}
-use Rattle.chain_plan.specs.Chains.{arrive, earliest_from, earliest_trip, least_after, least_from, least_time}
+use Rattle.chain_plan.specs.Chains.{arrive, earliest_from, least_after, least_from}
 
 -- one leg less is left
 pub least_after-next : (legs : List Leg) (node n : ℕ) → 1 ≤ node → node < n

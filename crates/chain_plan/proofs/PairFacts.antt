@@ -1,12 +1,12 @@
 -- One delay more is looked at.
-use Rattle.std.proofs.Common.{◌≡◌, ◌⊎◌, ℕ, zero, suc, ◌+◌, ◌-◌, ◌^◌, ◌<◌, ◌≤◌, max, min, List, Option, Some, None, IfSome, MatchOption, ℤ, pos, neg_ℤ, ◌-ℤ◌, ◌≤ℤ◌, refl, sym, ap, ◌∙◌, subst, inl, inr, arith}
+use Rattle.std.proofs.Common.{◌≡◌, ◌⊎◌, ℕ, ◌+◌, ◌-◌, ◌<◌, ◌≤◌, min, List, Option, Some, None, IfSome, MatchOption, ℤ, ◌-ℤ◌, ◌≤ℤ◌, refl, sym, ap, ◌∙◌, subst, inl, inr, arith}
 use Rattle.std.proofs.lemmas.Bool.{cases_lt}
 use Rattle.std.proofs.lemmas.Int.{ints}
 use Rattle.flow_types.specs.declared.flight.CostTable.{CostTable}
 use Rattle.flow_types.specs.declared.flight.Flight.{Flight}
-use Rattle.flow_types.specs.Costs.{credit_at, credit_of, total_at, total_of}
-use Rattle.chain_plan.specs.Chains.{HasEarliest, IsLeastPair, IsPair, least_time, pair_cost}
-use Rattle.chain_plan.specs.Pairs.{IsBest, IsBestAt, IsLarger, IsMost, IsMostAt, IsSmaller}
+use Rattle.flow_types.specs.Costs.{credit_of, total_of}
+use Rattle.chain_plan.specs.Chains.{IsPair, least_time, pair_cost}
+use Rattle.chain_plan.specs.Pairs.{IsBest, IsLarger, IsMost, IsMostAt, IsSmaller}
 
 below_by : (g n : ℕ) → g < n + 1 → (g < n) ⊎ (n ≤ g) → (g < n) ⊎ (g ≡ n)
 below_by g n h (inl below) = inl below

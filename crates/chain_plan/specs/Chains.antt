@@ -1,5 +1,5 @@
 -- Flights whose routes are chains: the trip that is never late, and the least cost of any trip.
-use Rattle.std.specs.Prelude.{◌≡◌, ℕ, zero, suc, ◌+◌, ◌-◌, ◌<◌, ◌≤◌, ◌==◌, max, min, List, [], ◌∷◌, length, map, All, if◌then◌else◌, ℤ, ◌-ℤ◌, ◌≤ℤ◌}
+use Rattle.std.specs.Prelude.{◌≡◌, ℕ, zero, suc, ◌+◌, ◌-◌, ◌≤◌, ◌==◌, max, min, List, [], ◌∷◌, length, map, All, if◌then◌else◌, ℤ, ◌-ℤ◌, ◌≤ℤ◌}
 use Rattle.flow_types.specs.declared.flight.CostTable.{CostTable}
 use Rattle.flow_types.specs.declared.flight.Flight.{Flight}
 use Rattle.flow_types.specs.declared.flight.Leg.{Leg}

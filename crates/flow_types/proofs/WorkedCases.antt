@@ -1,8 +1,7 @@
 -- Two flights of one route, and a flight with its aircraft's flight back: what the definitions say
 -- of them, computed.
-use Rattle.std.proofs.Common.{◌≡◌, ℕ, suc, zero, ◌+◌, ◌<◌, ◌≤◌, Bool, true, false, ◌&&◌, nat_le, List, [], ◌∷◌, length, get_or, slice_get, None, Some, IsTrue, All, pos, ap, refl, arith}
+use Rattle.std.proofs.Common.{◌≡◌, ℕ, suc, zero, ◌+◌, ◌<◌, ◌≤◌, Bool, true, false, ◌&&◌, nat_le, List, [], ◌∷◌, length, get_or, slice_get, pos, ap, refl, arith}
 use Rattle.std.proofs.lemmas.Bool.Decides.{nat_tests}
-use Rattle.flow_types.specs.declared.day.Day.{Day}
 use Rattle.flow_types.specs.declared.flight.Connection.{Connection}
 use Rattle.flow_types.specs.declared.flight.Cost.{Cost}
 use Rattle.flow_types.specs.declared.flight.Cost.TheVariants.{Linear, Tables}

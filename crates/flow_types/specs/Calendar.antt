@@ -1,5 +1,5 @@
 -- The Gregorian calendar, carried on to every year.
-use Rattle.std.specs.Prelude.{ℕ, ◌+◌, ◌%◌, ◌==◌, ◌≤◌, Bool, ◌&&◌, ◌||◌, not, nat_le, if◌then◌else◌}
+use Rattle.std.specs.Prelude.{ℕ, ◌%◌, ◌==◌, ◌≤◌, Bool, ◌&&◌, ◌||◌, not, if◌then◌else◌}
 
 -- every fourth year, but of the hundreds only every fourth
 abbrev pub is_leap_year : ℕ → Bool

@@ -2,7 +2,7 @@
 use Rattle.std.specs.Prelude.{ℕ, ◌+◌, ◌==◌, Bool, ◌&&◌, nat_le, nat_lt, List, [], ◌∷◌, if◌then◌else◌}
 use Rattle.flow_types.specs.declared.flight.Flight.{Flight}
 use Rattle.flow_types.specs.declared.plan.Stop.{Stop}
-use Rattle.flow_types.specs.Trips.{place_at, arrival_from}
+use Rattle.flow_types.specs.Trips.{place_at}
 
 abbrev pub one_if : Bool → ℕ
 one_if b = if b then 1 else 0

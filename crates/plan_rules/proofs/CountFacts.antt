@@ -1,11 +1,11 @@
 -- Counts over the trips of a plan.
-use Rattle.std.proofs.Common.{◌≡◌, ℕ, suc, zero, ◌+◌, ◌<◌, ◌≤◌, ◌==◌, ◌&&◌, Bool, true, false, nat_le, nat_lt, List, [], ◌∷◌, length, map, get_or, set, slice_get, Some, None, Option, refl, sym, ap, ◌∙◌, subst, arith}
+use Rattle.std.proofs.Common.{◌≡◌, ℕ, suc, zero, ◌+◌, ◌<◌, ◌≤◌, ◌==◌, ◌&&◌, Bool, true, false, nat_le, nat_lt, List, [], ◌∷◌, length, map, get_or, set, slice_get, Some, refl, ap, ◌∙◌, subst, arith}
 use Rattle.std.proofs.lemmas.Bool.Decides.{nat_tests}
 use Rattle.flow_types.specs.declared.flight.Flight.{Flight}
 use Rattle.flow_types.specs.declared.flight.Leg.{Leg}
 use Rattle.flow_types.specs.declared.plan.Stop.{Stop}
 use Rattle.flow_types.specs.Counts.{one_if, departs_at, arrives_from, arrives_at, stays_from, stays_at, counted}
-use Rattle.flow_types.specs.Trips.{IsTrip, IsOnward, IsStep, IsWithinHours, place_at}
+use Rattle.flow_types.specs.Trips.{IsTrip, IsOnward, IsStep, place_at}
 use Rattle.plan_rules.specs.Loads.{IsTripOrNone, AreTripsOrNone}
 
 -- a test counts once

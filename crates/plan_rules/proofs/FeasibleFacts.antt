@@ -1,5 +1,5 @@
 -- A plan is feasible where its trips are trips and its loads keep turnarounds and capacities.
-use Rattle.std.proofs.Common.{◌≡◌, ◌⊎◌, ℕ, ◌+◌, ◌<◌, ◌≤◌, List, [], length, get_or, slice_get, Some, None, Option, option_and_then, IsTrue, refl, sym, ap, ◌∙◌, inl, inr, arith}
+use Rattle.std.proofs.Common.{◌≡◌, ◌⊎◌, ℕ, ◌<◌, ◌≤◌, List, [], length, get_or, slice_get, Option, option_and_then, IsTrue, sym, ap, ◌∙◌, inl, inr, arith}
 use Rattle.std.proofs.lemmas.Bool.{cases_lt}
 use Rattle.std.proofs.lemmas.Option.{slice_get-get_or}
 use Rattle.flow_types.specs.declared.flight.Connection.{Connection}
@@ -7,12 +7,12 @@ use Rattle.flow_types.specs.declared.parts.Parts.{Parts}
 use Rattle.flow_types.specs.declared.place.CapKind.{CapKind}
 use Rattle.flow_types.specs.declared.place.CapKind.TheVariants as kind
 use Rattle.flow_types.specs.declared.plan.Stop.{Stop}
-use Rattle.flow_types.specs.Capacities.{capacity_of, has_kind}
+use Rattle.flow_types.specs.Capacities.{has_kind}
 use Rattle.flow_types.specs.Feasible.{AreTrips, IsFeasible, KeepsTurn}
 use Rattle.flow_types.specs.Trips.{arrival_of, departure_of}
 use Rattle.flow_types.specs.Valid.{IsScenario}
-use Rattle.plan_rules.specs.Judge.{KeepsKind, KeepsLoads, KeepsTurnaround}
-use Rattle.plan_rules.specs.Loads.{AreLoads, arrival_at, departure_at, load_at}
+use Rattle.plan_rules.specs.Judge.{KeepsLoads, KeepsTurnaround}
+use Rattle.plan_rules.specs.Loads.{AreLoads}
 use Rattle.plan_rules.specs.declared.loads.Loads.{Loads}
 use Rattle.plan_rules.proofs.JudgeFacts.{has_kind-within}
 use Rattle.plan_rules.proofs.TripFacts.{AreTrips-length}

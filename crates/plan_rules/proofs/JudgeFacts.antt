@@ -1,9 +1,8 @@
 -- The first trips of a plan, and what a place with capacities is.
-use Rattle.std.proofs.Common.{◌≡◌, ℕ, suc, zero, ◌+◌, ◌<◌, ◌≤◌, Bool, true, false, List, [], ◌∷◌, length, map, get_or, set, slice_get, Some, None, Option, IsTrue, refl, sym, ap, ◌∙◌, subst, add-one, arith}
+use Rattle.std.proofs.Common.{◌≡◌, ℕ, suc, zero, ◌<◌, ◌≤◌, false, List, [], ◌∷◌, length, map, get_or, set, slice_get, Some, None, IsTrue, refl, sym, ap, ◌∙◌, subst, arith}
 use Rattle.std.proofs.lemmas.Bool.{false≢true}
 use Rattle.std.proofs.lemmas.Option.{slice_get_past}
 use Rattle.flow_types.specs.declared.flight.Flight.{Flight}
-use Rattle.flow_types.specs.declared.parts.Parts.{Parts}
 use Rattle.flow_types.specs.declared.place.CapKind.{CapKind}
 use Rattle.flow_types.specs.declared.place.CapKind.TheVariants as kind
 use Rattle.flow_types.specs.declared.place.Place.{Place}
@@ -12,7 +11,6 @@ use Rattle.flow_types.specs.Capacities.{has_kind}
 use Rattle.flow_types.specs.Feasible.{AreTrips}
 use Rattle.flow_types.specs.Trips.{IsTrip}
 use Rattle.plan_rules.specs.Judge.{first_trips}
-use Rattle.plan_rules.specs.Loads.{no_trips}
 
 -- no place, no capacities
 none_has : (k : CapKind) → has_kind k None ≡ false

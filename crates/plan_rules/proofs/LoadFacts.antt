@@ -1,14 +1,13 @@
 -- Loads with no trips, and with one trip more.
-use Rattle.std.proofs.Common.{◌≡◌, ◌≢◌, ◌⊎◌, ℕ, ◌+◌, ◌^◌, ◌<◌, ◌≤◌, List, [], ◌∷◌, length, map, get_or, set, slice_get, Some, None, Option, refl, sym, ap, ◌∙◌, subst, inl, inr, replicate, arith}
+use Rattle.std.proofs.Common.{◌≡◌, ◌≢◌, ◌⊎◌, ℕ, ◌+◌, ◌<◌, ◌≤◌, List, [], ◌∷◌, length, get_or, set, slice_get, Some, None, Option, refl, sym, ap, ◌∙◌, inl, inr, replicate, arith}
 use Rattle.std.proofs.lemmas.Bool.{cases_eq, cases_lt}
 use Rattle.std.proofs.lemmas.List.{get_or-set_same, get_or-set_other, get_or-replicate, get_or_past, length-replicate, length-set}
 use Rattle.flow_types.specs.declared.flight.Flight.{Flight}
 use Rattle.flow_types.specs.declared.parts.Parts.{Parts}
-use Rattle.flow_types.specs.declared.place.CapKind.TheVariants as kind
 use Rattle.flow_types.specs.declared.plan.Stop.{Stop}
 use Rattle.flow_types.specs.Counts.{departs_at, arrives_at, stays_at, counted}
 use Rattle.flow_types.specs.Trips.{IsTrip, departure_of, arrival_of}
-use Rattle.plan_rules.specs.Loads.{AddsTrip, AreLoads, AreTripsOrNone, HasSize, IsMadeFor, IsTripOrNone, arrival_at, departure_at, load_at, no_trips}
+use Rattle.plan_rules.specs.Loads.{AddsTrip, AreLoads, AreTripsOrNone, HasSize, IsMadeFor, IsTripOrNone, arrival_at, departure_at, no_trips}
 use Rattle.plan_rules.specs.Table.{Adds, IsEmpty, count_at}
 use Rattle.plan_rules.specs.declared.loads.Loads.{Loads}
 use Rattle.plan_rules.specs.declared.table.Table.{Table}

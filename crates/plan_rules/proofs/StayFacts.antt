@@ -1,5 +1,5 @@
 -- What a trip adds, stop by stop.
-use Rattle.std.proofs.Common.{◌≡◌, ℕ, suc, ◌+◌, ◌-◌, ◌<◌, ◌≤◌, ◌==◌, ◌&&◌, nat_le, nat_lt, List, [], ◌∷◌, length, drop, get_or, Option, Some, None, slice_get, refl, sym, ap, ◌∙◌, add-one, drop-cons, arith}
+use Rattle.std.proofs.Common.{◌≡◌, ℕ, ◌+◌, ◌-◌, ◌<◌, ◌≤◌, ◌==◌, ◌&&◌, nat_le, nat_lt, List, [], ◌∷◌, length, drop, get_or, Some, slice_get, sym, ap, ◌∙◌, add-one, drop-cons, arith}
 use Rattle.std.proofs.lemmas.List.{drop_all}
 use Rattle.flow_types.specs.declared.flight.Flight.{Flight}
 use Rattle.flow_types.specs.declared.plan.Stop.{Stop}

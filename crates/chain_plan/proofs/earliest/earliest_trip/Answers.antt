@@ -1,4 +1,4 @@
-use Rattle.std.proofs.Common.{◌≡◌, ◌∙◌, ◌≤◌, ◌<◌, ◌++◌, length, sym, ap, arith}
+use Rattle.std.proofs.Common.{◌∙◌, ◌≤◌, ◌<◌, ◌++◌, length, sym, ap, arith}
 use Rattle.std.proofs.lemmas.List.{append-nil}
 use Rattle.chain_plan.specs.Chains.{earliest_arrival}
 use Rattle.chain_plan.proofs.EarliestFacts.{early_next, least_after-next, stop_next, stops_end}

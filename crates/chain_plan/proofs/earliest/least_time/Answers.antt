@@ -1,4 +1,4 @@
-use Rattle.std.proofs.Common.{◌≡◌, ap, length, arith}
+use Rattle.std.proofs.Common.{ap, length, arith}
 use Rattle.chain_plan.proofs.EarliestFacts.{least_after-next}
 use Rattle.chain_plan.proofs.earliest.least_time.Goals as goal
 

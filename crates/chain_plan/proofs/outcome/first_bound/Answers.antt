@@ -1,4 +1,4 @@
-use Rattle.std.proofs.Common.{◌≡◌, ◌∙◌, ◌^◌, ◌++◌, ◌∷◌, [], Some, length, slice_get, List, All, ℤ, pos, neg_ℤ, ◌≤ℤ◌, refl, sym, ap, subst, arith}
+use Rattle.std.proofs.Common.{◌++◌, ◌∷◌, [], length, List, refl, sym, ap, subst, arith}
 use Rattle.std.specs.List.{AllZip}
 use Rattle.std.proofs.lemmas.Bool.{false≢true}
 use Rattle.std.proofs.lemmas.Int.{ints}
@@ -9,7 +9,6 @@ use Rattle.flow_types.specs.declared.day.Day.{Day}
 use Rattle.flow_types.specs.declared.flight.Flight.{Flight}
 use Rattle.flow_types.specs.Scenario.{parts_of}
 use Rattle.chain_plan.specs.Chains.{HasEarliest, IsLeastPair}
-use Rattle.chain_plan.specs.Outcome.{total_of_all}
 use Rattle.chain_plan.proofs.BoundFacts.{none_feasible, pairs_below, total_of_all-push, zip_more}
 use Rattle.chain_plan.proofs.outcome.first_bound.Goals as goal
 

@@ -1,8 +1,8 @@
-use Rattle.std.proofs.Common.{◌≡◌, ◌≤◌, ◌+◌, ◌-◌, ◌^◌, min, Some, None, Option, MatchOption, ℤ, pos, neg_ℤ, ◌-ℤ◌, ◌≤ℤ◌, subst, ap, arith}
+use Rattle.std.proofs.Common.{◌≡◌, ◌≤◌, ◌+◌, ◌-◌, ◌^◌, min, Some, None, Option, MatchOption, pos, neg_ℤ, ◌-ℤ◌, ◌≤ℤ◌, subst, ap, arith}
 use Rattle.flow_types.specs.declared.day.Day.{Day}
 use Rattle.flow_types.specs.declared.flight.Flight.{Flight}
 use Rattle.flow_types.specs.Costs.{credit_at, total_at}
-use Rattle.flow_types.specs.Scenario.{flight_at, parts_of}
+use Rattle.flow_types.specs.Scenario.{parts_of}
 use Rattle.chain_plan.specs.Chains.{least_time}
 use Rattle.chain_plan.specs.Pairs.{IsMost}
 use Rattle.chain_plan.proofs.PairFacts.{IsBest-more, smaller_is}

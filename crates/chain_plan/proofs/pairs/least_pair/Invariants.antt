@@ -1,4 +1,4 @@
-use Rattle.std.proofs.Common.{◌≡◌, ◌+◌, ◌-◌, ◌^◌, ◌≤◌, min, pos, neg_ℤ, ◌≤ℤ◌, IfSome}
+use Rattle.std.proofs.Common.{◌+◌, ◌-◌, ◌^◌, ◌≤◌, min, pos, neg_ℤ, ◌≤ℤ◌, IfSome}
 use Rattle.flow_types.specs.Costs.{credit_at}
 use Rattle.flow_types.specs.Scenario.{flight_at, parts_of}
 use Rattle.chain_plan.specs.Pairs.{IsBest, IsMost}

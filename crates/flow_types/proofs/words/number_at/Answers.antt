@@ -1,7 +1,5 @@
-use Rattle.std.proofs.Common.{arith, ◌≡◌, ◌≤◌, true, length}
-use Rattle.std.specs.Str.{all_ascii_digits}
-use Rattle.std.proofs.lemmas.Bool.Decides.{nat_tests}
-use Rattle.flow_types.proofs.WordFacts.{next_digit, IsNextDigit, number_parts}
+use Rattle.std.proofs.Common.{arith}
+use Rattle.flow_types.proofs.WordFacts.{number_parts}
 use Rattle.flow_types.proofs.words.number_at.Goals as goal
 
 pub overflow_mul-value : goal.overflow_mul-value

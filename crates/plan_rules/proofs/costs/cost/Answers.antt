@@ -1,4 +1,4 @@
-use Rattle.std.proofs.Common.{◌≡◌, ◌∙◌, ◌<◌, ◌≤◌, List, length, get_or, ap, sym, add-one, arith}
+use Rattle.std.proofs.Common.{◌∙◌, ◌<◌, length, ap, add-one, arith}
 use Rattle.std.proofs.lemmas.Int.{ints}
 use Rattle.flow_types.specs.Costs.{plan_cost, trip_cost_at}
 use Rattle.flow_types.specs.Scenario.{flight_at, parts_of}

@@ -1,4 +1,4 @@
-use Rattle.std.proofs.Common.{◌≡◌, ℕ, ◌<◌, None, get_or, length}
+use Rattle.std.proofs.Common.{◌≡◌, ℕ, ◌<◌, None, get_or}
 use Rattle.plan_rules.proofs.loads.clear_times.Given as goal
 
 abbrev pub invariant-loop-time : goal.invariant-loop-time

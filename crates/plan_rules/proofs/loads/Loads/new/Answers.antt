@@ -1,4 +1,4 @@
-use Rattle.std.proofs.Common.{◌≡◌, ◌∙◌, ℕ, ap, length, Option, None}
+use Rattle.std.proofs.Common.{◌∙◌, ℕ, ap, length, Option, None}
 use Rattle.std.proofs.lemmas.List.{length-replicate}
 use Rattle.flow_types.specs.declared.day.Day.{Day}
 use Rattle.plan_rules.proofs.LoadFacts.{AreLoads-none, none_in}
