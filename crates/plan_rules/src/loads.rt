@@ -55,7 +55,8 @@ impl Loads {
     pub fn add(&mut self, s: &Scenario, flight: u32, stops: &[Stop])
         requires made { IsMadeFor (parts_of s.now) self.old }
         requires flight { flight < length (parts_of s.now).flights }
-        ensures { (trips : List (List Stop)) → AreLoads (parts_of s.now) trips self.old
+        ensures made { IsMadeFor (parts_of s.now) self.new }
+        ensures trips { (trips : List (List Stop)) → AreLoads (parts_of s.now) trips self.old
             → slice_get trips flight ≡ Some [] → IsTripAt (parts_of s.now) flight stops.now
             → AreLoads (parts_of s.now) (slice_set trips flight stops.now) self.new }
     {

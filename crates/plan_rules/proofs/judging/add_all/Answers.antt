@@ -40,7 +40,7 @@ loop-at-preserved c =
     let its = λ (flight : Flight) (here : slice_get parts.flights at ≡ Some flight).
     subst (IsTrip parts.day.periods flight) (sym (c.items.ensures ∙ c.index-plan-at.is)) (AreTrips-at parts.day.periods parts.flights plan at trip flight c.requires.trips here (omega arith)) in
     subst (λ (trips : List (List Stop)). AreLoads parts trips c.add.new.self) more
-    (c.add.ensures (first_trips at plan) c.loop-at.invariant (first_trips-next plan at (omega arith)) its)
+    (c.add.ensures.trips (first_trips at plan) c.loop-at.invariant (first_trips-next plan at (omega arith)) its)
 
 pub returns : goal.returns
 returns c =

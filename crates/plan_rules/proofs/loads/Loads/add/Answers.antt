@@ -4,8 +4,8 @@ use Rattle.flow_types.specs.Scenario.{parts_of}
 use Rattle.plan_rules.proofs.LoadFacts.{AreLoads-add, trip_there}
 use Rattle.plan_rules.proofs.loads.Loads.add.Goals as goal
 
-pub returns : goal.returns
-returns c =
+pub returns-clause-trips : goal.returns-clause-trips
+returns-clause-trips c =
     let parts = parts_of c.args.s.now in
     let flight = c.index-flights-flight.result in
     let here : slice_get parts.flights c.args.flight ≡ Some flight =
