@@ -1,4 +1,4 @@
-//! The rules that a plan may break.
+//! The rules that a plan may break. No clause says yet which one `judge` answers.
 
 /// The first rule that a plan breaks, in the order of these variants; flight by flight for the
 /// rules of trips, connection by connection, and by place and then period.

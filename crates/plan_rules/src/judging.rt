@@ -131,7 +131,8 @@ pub enum Verdict {
     Breaks(Broken),
 }
 
-/// Whether the plan keeps every rule of the scenario, with its cost, or a rule that it breaks.
+/// Whether the plan keeps every rule of the scenario, with its cost, or a rule that it breaks (that it
+/// breaks one is claimed, and not yet which).
 /// The loads were made for the scenario. After `Keeps` they are the plan's; after `Breaks` they
 /// hold no trips. It takes no memory.
 pub fn judge(loads: &mut Loads, s: &Scenario, plan: &Plan) -> Verdict

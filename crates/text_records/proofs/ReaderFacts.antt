@@ -78,14 +78,15 @@ first_stays first named headers e = rw e refl
 -- the reader is ready for the next
 pub stays_ready : (old new : Reader (Bor (List ℕ))) (found : Bool) (fields : Fields) → IsReady old
     → ReadRecord (λ (text : Bor (List ℕ)). Some text.now) old new found fields → new.first ≡ true
-    → not found ≡ false → IsReady new
-stays_ready old new true fields ready r first e =
+    → new.flexible ≡ old.flexible → not found ≡ false → IsReady new
+stays_ready old new true fields ready r first same e =
     let one = read_one old new fields ready r in
     record {
       plain = r.3 ∙ ready.plain;
       rows = first_stays new.first new.has_headers new.headers first;
+      flexible = same ∙ ready.flexible;
       defaults = r.2 ∙ ready.defaults;
       start = one.start;
       known = rw one.after refl;
     }
-stays_ready old new false fields ready r first e = absurd cc
+stays_ready old new false fields ready r first same e = absurd cc

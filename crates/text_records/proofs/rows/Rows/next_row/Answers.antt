@@ -8,7 +8,8 @@ invariant_of-self-2 c e =
     let ready = c.self.invariant c.if-self.false in
     let read = rw ok at c.read_byte_record.ensures.reads ready.plain (is_ready _ ready) in
     let first = rw ok at c.read_byte_record.ensures.ready ready.plain in
-    stays_ready _ _ c.in_ok-found.found _ ready read first e
+    let flexible = rw ok at c.read_byte_record.ensures.flexible in
+    stays_ready _ _ c.in_ok-found.found _ ready read first flexible e
 
 pub returns-clause-takes : goal.returns-clause-takes
 returns-clause-takes c =
