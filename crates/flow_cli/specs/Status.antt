@@ -6,7 +6,7 @@ use Rattle.flow_types.specs.declared.bound.Bound.TheVariants.{AtLeast, NoPlan}
 use Rattle.flow_cli.specs.declared.status.Status.{Status}
 use Rattle.flow_cli.specs.declared.status.Status.TheVariants.{Done, Infeasible, OpenGap}
 
--- optimal where the plan costs the bound, infeasible where no plan exists, else open
+-- optimal where the plan costs the bound, infeasible where the bound is that no plan exists, else open
 abbrev pub status_of : Option ℤ → Bound → Status
 status_of cost NoPlan = Infeasible
 status_of None (AtLeast least) = OpenGap
