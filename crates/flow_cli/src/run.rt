@@ -41,7 +41,7 @@ struct Answer {
 /// call fails, `TooLong` for a longer text, `BadScenario` for a text that isn't read,
 /// `WriteFault` where the answer isn't written to its end, and `OutOfMemory` where there is no
 /// memory; then nothing is written. What the files hold stays as it was. It takes memory for the
-/// text, its longest record (`text_records`), the scenario, the plan with its loads, and the answer.
+/// text, the scenario, the plan with its loads, and the answer.
 pub fn run<F: Files, S: Sink>(alloc: Global, words: &[String], files: &mut F, out: &mut S) -> Status
     ensures answered { Ends (F.held files.old) (F.faults files.old) (F.faults files.new)
         (map string_bytes words.now) (S.written out.old) (S.written out.new) result }

@@ -7,4 +7,5 @@ pub mod CountFacts
 pub mod RouteFacts
 pub mod FinishFacts
 pub mod ReadingFacts
+pub mod ClippedFacts
 mod Worked

@@ -13,9 +13,9 @@
 //! route.
 //!
 //! Memory: the text, the scenario, and as much again as the names and legs of its flights while
-//! they are read, and the longest record (`text_records`); nothing grows with the number of records
-//! or lines that add nothing. Time: the length of the text, a look-up by hash for each name, and for
-//! each leg the at most 64 legs and 32 nodes of its flight.
+//! they are read; nothing grows with the number or the length of records that add nothing. Time: the
+//! length of the text, a look-up by hash for each name, and for each leg the at most 64 legs and 32
+//! nodes of its flight.
 #![tactic(auto)]
 
 ghost use Rattle.std.specs.Prelude.{◌≡◌, ◌≤◌, Ok, Err, IfOk, OnOk, length};

@@ -1,3 +1,4 @@
 pub mod RowFacts
 pub mod FieldFacts
-pub mod ReaderFacts
+pub mod ScanFacts
+pub mod ClippedFacts

@@ -1,4 +1,4 @@
 pub mod Flaws
 pub mod Rows
 pub mod Fields
-pub mod Reader
+pub mod Scan

@@ -1,19 +1,22 @@
 //! Texts of records: their rows one at a time, and fields that are names or numbers.
 //!
-//! A caller makes `Rows` of a text, which contracts see as the list of the records that are left,
-//! and has `next_row` fill one `ByteRecord` with each in turn. A field's function answers the value
-//! or a `Flaw`, which is a field and a cause; a `Flaw` and the number of its record are a `Fault`.
-//! Each function's clause says that it gives exactly what its definition in `specs/` gives
-//! (`Finds`, and `Gives` and `Reads` where memory may be wanting), so a reader whose steps are
-//! chained as its definition is answers the first fault.
+//! A caller makes `Rows` of a text, which contracts see as the list of what is kept of each record that
+//! is left (`clipped`: as many fields, and as many bytes of each, as any record may have), and has
+//! `next_row` fill one `ByteRecord` with each in turn. The records of a text are those of `csv`'s
+//! definitions, and what is kept tells of their fields what they tell (`proofs/ClippedFacts.antt`).
 //!
-//! Memory: the reader's buffer and the longest record, which takes 8 bytes a field besides its bytes,
-//! in a block that grows by doubling. Time: the length of the text.
+//! A field's function answers the value or a `Flaw`, which is a field and a cause; a `Flaw` and the
+//! number of its record are a `Fault`. Each function's clause says that it gives exactly what its
+//! definition in `specs/` gives (`Finds`, and `Gives` and `Reads` where memory may be wanting), so a
+//! reader whose steps are chained as its definition is answers the first fault.
+//!
+//! Memory: at most 515 fields of 33 bytes. Time: the length of the text.
 #![tactic(auto)]
 
 pub mod fields;
 pub mod flaw;
 pub mod rows;
+pub mod scan;
 
 pub use fields::{end_after, field_at, name_at, number_at};
 pub use flaw::{Flaw, ReadError, Trouble, in_record};

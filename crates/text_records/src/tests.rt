@@ -30,6 +30,36 @@ fn rows_of_differing_lengths(rt: HostRuntime) -> Result<(), Fail> {
 }
 
 #[test]
+fn no_more_is_kept_of_a_record_than_counts(rt: HostRuntime) -> Result<(), Fail> {
+    let mut text = vec![in rt.alloc(); b'a'; 40]?;
+    text.extend_from_slice(b",\"b\"\"")?;
+    for _ in 0..40 {
+        text.push(b',')?;
+    }
+    text.extend_from_slice(b"\"")?;
+    for _ in 0..600 {
+        text.push(b',')?;
+    }
+    text.extend_from_slice(b"\nc")?;
+    let mut rows = Rows::of_text(rt.alloc(), &text);
+    let mut row = ByteRecord::new(rt.alloc());
+    assert!(rt; rows.next_row(&mut row)?);
+    assert_eq!(rt; row.len(), 515);
+    assert_eq!(rt;
+        field_at(&row, 1)?,
+        b"aaaaaaaaaaaaaaaaaaaaaaaaaaaaaaaaa".as_slice()
+    );
+    assert_eq!(rt;
+        field_at(&row, 2)?,
+        b"b\",,,,,,,,,,,,,,,,,,,,,,,,,,,,,,,".as_slice()
+    );
+    assert!(rt; rows.next_row(&mut row)?);
+    assert_eq!(rt; field_at(&row, 1)?, b"c".as_slice());
+    assert_eq!(rt; row.len(), 1);
+    Ok(())
+}
+
+#[test]
 fn a_byte_order_mark_is_no_field(rt: HostRuntime) -> Result<(), Fail> {
     let mut rows = Rows::of_text(rt.alloc(), b"\xEF\xBB\xBFday,1\n");
     let mut row = ByteRecord::new(rt.alloc());
