@@ -11,7 +11,8 @@ use Rattle.flow_types.specs.Bounds.{IsBound}
 use Rattle.flow_types.specs.Costs.{plan_cost}
 use Rattle.flow_types.specs.Feasible.{IsFeasible}
 use Rattle.chain_plan.specs.Outcome.{IsFirstBound, IsFirstPlan}
-use Rattle.scenario_reader.specs.Reading.{HasFirstForm, scenario_of}
+use Rattle.scenario_reader.specs.FirstForm.{HasFirstForm}
+use Rattle.scenario_reader.specs.Reading.{scenario_of}
 use Rattle.flow_cli.specs.declared.status.Status.{Status}
 use Rattle.flow_cli.specs.declared.status.Status.TheVariants.{BadScenario, Usage, ReadFault, WriteFault, OutOfMemory, TooLong}
 use Rattle.flow_cli.specs.Status.{status_of}

@@ -9,3 +9,4 @@ pub mod Costs
 pub mod Feasible
 pub mod Scenario
 pub mod Bounds
+pub mod Lists

@@ -1,5 +1,6 @@
 //! One list type for every list of a scenario and a plan.
-ghost use Rattle.std.specs.Prelude.{◌≡◌, ◌++◌, ◌∷◌, [], List, OnOk, OnErr};
+ghost use Rattle.std.specs.Prelude.{◌≡◌, ◌≤◌, ◌+◌, ◌++◌, ◌∷◌, [], List, OnOk, OnErr, length};
+ghost use Rattle.flow_types.specs.Lists.{filled};
 
 use crate::OutOfMemory;
 use std::alloc::Global;
@@ -39,6 +40,18 @@ impl<T> Sequence<T> {
         ensures { result.now ≡ self.now }
     {
         &self.held
+    }
+}
+
+impl<T: Copy> Sequence<T> {
+    /// Puts the item in so many places from this one on. It takes no memory.
+    pub fn fill(&mut self, from: usize, count: usize, item: T)
+        requires { from + count ≤ length self.old }
+        ensures { self.new ≡ filled from count item self.old }
+    {
+        for k in 0..count {
+            self.held[from + k] = item;
+        }
     }
 }
 

@@ -1,20 +1,24 @@
 -- The flights that a list of begun ones becomes.
-use Rattle.std.proofs.Common.{◌≡◌, ℕ, zero, suc, ◌+◌, ◌<◌, ◌≤◌, Bool, true, false, cond, ltb, ◌==◌, List, [], ◌∷◌, ◌++◌, length, get_or, drop, Some, None, Result, Ok, Err, refl, sym, ap, subst, arith, ◌∙◌, All, append_assoc, length-append, position}
-use Rattle.std.specs.Prelude.{sum_by}
-use Rattle.std.proofs.lemmas.List.{append-nil, drop_all}
+use Rattle.std.proofs.Common.{◌≡◌, ℕ, zero, suc, ◌+◌, ◌<◌, ◌≤◌, Bool, true, false, cond, ltb, ◌==◌, List, [], ◌∷◌, ◌++◌, length, get_or, drop, map, Option, Some, None, Result, Ok, Err, refl, sym, ap, subst, arith, ◌∙◌, All, append_assoc, length-append, position}
+use Rattle.std.specs.Prelude.{slice_get, sum_by}
+use Rattle.std.proofs.lemmas.Bool.{eqb-true}
+use Rattle.std.proofs.lemmas.List.{append-nil, drop_all, length-map}
 use Rattle.std.proofs.lemmas.List.Sums.{sum_by-cons}
 use Rattle.std.proofs.Math.Seq.{drop-cons}
-use Rattle.flow_types.specs.Valid.{IsFlight, IsScenario}
+use Rattle.flow_types.specs.Valid.{destination_of, IsConnection, IsFlight, IsScenario, origin_of}
 use Rattle.flow_types.specs.declared.fault.Cause.TheVariants.{DeadEnd, NoRoute}
 use Rattle.flow_types.specs.declared.fault.Fault.{Fault}
 use Rattle.flow_types.specs.declared.flight.Flight.{Flight}
+use Rattle.flow_types.specs.declared.flight.CostTable.{CostTable}
+use Rattle.flow_types.specs.declared.flight.Connection.{Connection}
 use Rattle.flow_types.specs.declared.place.Place.{Place}
 use Rattle.text_records.specs.Flaws.{◌>>=◌, Refuses}
 use Rattle.text_records.specs.declared.flaw.ReadError.{ReadError}
 use Rattle.text_records.specs.declared.flaw.ReadError.TheVariants as error
+use Rattle.scenario_reader.specs.Connections.{is_same_place}
 use Rattle.scenario_reader.specs.Finish.{finished_flight, finished_flights, flight_with, has_route, leads_on, node_of, nodes_of}
-use Rattle.scenario_reader.specs.Sketch.{node_count, node_total, Sketch}
-use Rattle.scenario_reader.specs.Validity.{IsBegun, IsSketch}
+use Rattle.scenario_reader.specs.Sketch.{destinations, node_count, node_total, origins, Sketch}
+use Rattle.scenario_reader.specs.Validity.{IsBegun, IsMeeting, IsSketch}
 use Rattle.scenario_reader.specs.declared.begun.Begun.{Begun}
 use Rattle.scenario_reader.proofs.NameFacts.{position-none}
 use Rattle.scenario_reader.proofs.PlaceFacts.{node_outside}
@@ -136,16 +140,16 @@ as_long [] (found ∷ founds) b = absurd b
 as_long (flight ∷ flights) [] b = absurd b
 as_long (flight ∷ flights) (found ∷ founds) b = ap suc (as_long flights founds b.1)
 
-are_flights : (periods : ℕ) (places : List Place) (flights : List Begun) (founds : List Flight) → All (IsBegun periods places) flights → Become flights founds
-    → All (IsFlight periods places []) founds
-are_flights periods places [] [] all b k d h = absurd (omega arith)
-are_flights periods places [] (found ∷ founds) all b k d h = absurd b
-are_flights periods places (flight ∷ flights) [] all b k d h = absurd b
-are_flights periods places (flight ∷ flights) (found ∷ founds) all b zero d h =
-    subst (λ (f : Flight). IsFlight periods places [] f) b.0.is
-    (flight_is periods places flight (record { begun = all 0 flight (omega arith); route = b.0.route; onward = b.0.onward }))
-are_flights periods places (flight ∷ flights) (found ∷ founds) all b (suc k) d h =
-    are_flights periods places flights founds (λ j e within. all (suc j) e (omega arith)) b.1 k d (omega arith)
+are_flights : (periods : ℕ) (places : List Place) (tables : List CostTable) (flights : List Begun) (founds : List Flight) → All (IsBegun periods places tables) flights → Become flights founds
+    → All (IsFlight periods places tables) founds
+are_flights periods places tables [] [] all b k d h = absurd (omega arith)
+are_flights periods places tables [] (found ∷ founds) all b k d h = absurd b
+are_flights periods places tables (flight ∷ flights) [] all b k d h = absurd b
+are_flights periods places tables (flight ∷ flights) (found ∷ founds) all b zero d h =
+    subst (λ (f : Flight). IsFlight periods places tables f) b.0.is
+    (flight_is periods places tables flight (record { begun = all 0 flight (omega arith); route = b.0.route; onward = b.0.onward }))
+are_flights periods places tables (flight ∷ flights) (found ∷ founds) all b (suc k) d h =
+    are_flights periods places tables flights founds (λ j e within. all (suc j) e (omega arith)) b.1 k d (omega arith)
 
 same_names : (flights : List Begun) (founds : List Flight) → Become flights founds → (k : ℕ) (d : Begun) (e : Flight) → k < length flights
     → (get_or founds k e).name ≡ (get_or flights k d).name
@@ -155,28 +159,85 @@ same_names (flight ∷ flights) (found ∷ founds) b zero d e h = ap (λ (f : Fl
 same_names (flight ∷ flights) (found ∷ founds) b (suc k) d e h = same_names flights founds b.1 k d e (omega arith)
 
 -- the flights have no more nodes than were counted
-few_nodes : (periods : ℕ) (places : List Place) (flights : List Begun) (founds : List Flight) → All (IsBegun periods places) flights → Become flights founds
+few_nodes : (periods : ℕ) (places : List Place) (tables : List CostTable) (flights : List Begun) (founds : List Flight) → All (IsBegun periods places tables) flights → Become flights founds
     → sum_by (λ (f : Flight). length f.nodes) founds ≤ node_total flights
-few_nodes periods places [] [] all b = omega arith
-few_nodes periods places [] (found ∷ founds) all b = absurd b
-few_nodes periods places (flight ∷ flights) [] all b = absurd b
-few_nodes periods places (flight ∷ flights) (found ∷ founds) all b =
-    let rest = few_nodes periods places flights founds (λ j e within. all (suc j) e (omega arith)) b.1 in
+few_nodes periods places tables [] [] all b = omega arith
+few_nodes periods places tables [] (found ∷ founds) all b = absurd b
+few_nodes periods places tables (flight ∷ flights) [] all b = absurd b
+few_nodes periods places tables (flight ∷ flights) (found ∷ founds) all b =
+    let rest = few_nodes periods places tables flights founds (λ j e within. all (suc j) e (omega arith)) b.1 in
     let nodes : length found.nodes ≡ length (nodes_of flight) = ap (λ (f : Flight). length f.nodes) (sym b.0.is) in
     let passed = passed_few places flight (all 0 flight (omega arith)).network in
     let many = length-append flight.passed (flight.to ∷ []) in
     rw (sum_by-cons (λ (f : Flight). length f.nodes) found founds, sum_by-cons node_count flight flights) (omega arith)
+
+-- ---- connections between finished flights
+
+same_origins : (flights : List Begun) (founds : List Flight) → Become flights founds → map (λ (f : Flight). f.from) founds ≡ origins flights
+same_origins [] [] b = refl
+same_origins [] (found ∷ founds) b = absurd b
+same_origins (flight ∷ flights) [] b = absurd b
+same_origins (flight ∷ flights) (found ∷ founds) b =
+    let first : found.from ≡ flight.from = ap (λ (f : Flight). f.from) (sym b.0.is) in
+    rw (first, same_origins flights founds b.1) refl
+
+same_destinations : (flights : List Begun) (founds : List Flight) → Become flights founds → map (λ (f : Flight). f.to) founds ≡ destinations flights
+same_destinations [] [] b = refl
+same_destinations [] (found ∷ founds) b = absurd b
+same_destinations (flight ∷ flights) [] b = absurd b
+same_destinations (flight ∷ flights) (found ∷ founds) b =
+    let first : found.to ≡ flight.to = ap (λ (f : Flight). f.to) (sym b.0.is) in
+    rw (first, same_destinations flights founds b.1) refl
+
+origin_at : (founds : List Flight) (k : ℕ) → slice_get (map (λ (f : Flight). f.from) founds) k ≡ origin_of (slice_get founds k)
+origin_at [] k = refl
+origin_at (found ∷ founds) zero = refl
+origin_at (found ∷ founds) (suc k) = origin_at founds k
+
+destination_at : (founds : List Flight) (k : ℕ) → slice_get (map (λ (f : Flight). f.to) founds) k ≡ destination_of (slice_get founds k)
+destination_at [] k = refl
+destination_at (found ∷ founds) zero = refl
+destination_at (found ∷ founds) (suc k) = destination_at founds k
+
+same_place : (x y : Option ℕ) → is_same_place x y ≡ true → x ≡ y
+same_place None y h = absurd cc
+same_place (Some a) None h = absurd cc
+same_place (Some a) (Some b) h = ap (λ (n : ℕ). Some n) (eqb-true a b h)
+
+first_there : (x y : Option ℕ) → is_same_place x y ≡ true → (x ≡ None → ⊥) × (y ≡ None → ⊥)
+first_there None y h = absurd cc
+first_there (Some a) None h = absurd cc
+first_there (Some a) (Some b) h = (λ e. cc, λ e. cc)
+
+within_list : {X : Type 0} (xs : List X) (k : ℕ) → (slice_get xs k ≡ None → ⊥) → k < length xs
+within_list [] k some = absurd (some refl)
+within_list (x ∷ xs) zero some = omega arith
+within_list (x ∷ xs) (suc k) some = let less = within_list xs k some in omega arith
+
+connection_is : (flights : List Begun) (founds : List Flight) (connection : Connection) → Become flights founds → IsMeeting flights connection → IsConnection founds connection
+connection_is flights founds connection b meeting =
+    let together : is_same_place (slice_get (map (λ (f : Flight). f.from) founds) connection.second) (slice_get (map (λ (f : Flight). f.to) founds) connection.first) ≡ true
+    = rw (same_origins flights founds b, same_destinations flights founds b) meeting.together in
+    let there = first_there _ _ together in
+    let first = within_list _ connection.first there.1 in
+    let second = within_list _ connection.second there.0 in
+    record {
+      first = rw (length-map founds (λ (f : Flight). f.to)) at first;
+      second = rw (length-map founds (λ (f : Flight). f.from)) at second;
+      together = sym (origin_at founds connection.second) ∙ same_place _ _ together ∙ destination_at founds connection.first;
+      turnaround = meeting.turnaround;
+    }
 
 any_begun : (flights : List Begun) → 0 < length flights → Begun
 any_begun [] h = absurd (omega arith)
 any_begun (flight ∷ flights) h = flight
 
 pub scenario_is : (sketch : Sketch) (founds : List Flight) → IsSketch sketch → finished_flights sketch.flights ≡ Ok founds
-    → IsScenario (record { day = sketch.day; places = sketch.places; flights = founds; tables = []; connections = [] })
+    → IsScenario (record { day = sketch.day; places = sketch.places; flights = founds; tables = sketch.tables; connections = sketch.connections })
 scenario_is sketch founds valid e =
     let b = become sketch.flights founds e in
     let long = as_long sketch.flights founds b in
-    let few = few_nodes sketch.day.periods sketch.places sketch.flights founds valid.flights b in
+    let few = few_nodes sketch.day.periods sketch.places sketch.tables sketch.flights founds valid.flights b in
     let total = valid.nodes_few in
     record {
       day = valid.day;
@@ -184,19 +245,19 @@ scenario_is sketch founds valid e =
       places = valid.places;
       place_names = valid.place_names;
       flights_few = rw long valid.flights_few;
-      flights = are_flights sketch.day.periods sketch.places sketch.flights founds valid.flights b;
+      flights = are_flights sketch.day.periods sketch.places sketch.tables sketch.flights founds valid.flights b;
       flight_names = λ i j d before within same.
           let within_flights : j < length sketch.flights = omega arith in
           let begun : Begun = any_begun sketch.flights (omega arith) in
           valid.flight_names i j begun before within_flights
           (sym (same_names sketch.flights founds b i begun d (omega arith)) ∙ same ∙ same_names sketch.flights founds b j begun d within_flights);
       nodes_few = omega arith;
-      tables_few = omega arith;
-      tables = λ k d h. absurd (omega arith);
-      table_names = λ i j d before within. absurd (omega arith);
-      connections_few = omega arith;
-      connections = λ k d h. absurd (omega arith);
-      connected_once = λ i j d before within. absurd (omega arith);
+      tables_few = valid.tables_few;
+      tables = valid.tables;
+      table_names = valid.table_names;
+      connections_few = valid.connections_few;
+      connections = λ k d h. connection_is sketch.flights founds (get_or sketch.connections k d) b (valid.connections k d h);
+      connected_once = valid.connected_once;
     }
 
 pub passed_within : (sketch : Sketch) → IsSketch sketch → All (λ flight. length flight.passed ≤ 30) sketch.flights

@@ -11,6 +11,7 @@ use Rattle.std.proofs.lemmas.List.Sums.{AllPass-from_list_all}
 use Rattle.flow_types.specs.Routes.{is_airport, is_airport_kind, is_entered, is_left, is_sector, starts_in_order, IsLeg, IsOtherLeg, IsRoute}
 use Rattle.flow_types.specs.Valid.{IsFlight}
 use Rattle.flow_types.specs.declared.flight.Leg.{Leg}
+use Rattle.flow_types.specs.declared.flight.CostTable.{CostTable}
 use Rattle.flow_types.specs.declared.place.Place.{Place}
 use Rattle.scenario_reader.specs.Finish.{flight_with, has_route, leads_on, leg_between, node_of, nodes_of}
 use Rattle.scenario_reader.specs.Legs.{is_among}
@@ -47,13 +48,13 @@ all_pairs_cons x xs first rest (suc i) zero d before within = absurd (omega arit
 all_pairs_cons x xs first rest (suc i) (suc j) d before within = rest i j d (omega arith) (omega arith)
 
 -- what is known of a flight that has come to its end
-pub record IsEnded (periods : ℕ) (places : List Place) (flight : Begun) : Type 0 where
-  pub begun : IsBegun periods places flight
+pub record IsEnded (periods : ℕ) (places : List Place) (tables : List CostTable) (flight : Begun) : Type 0 where
+  pub begun : IsBegun periods places tables flight
   pub route : has_route flight ≡ true
   pub onward : leads_on flight ≡ true
 
-different : (periods : ℕ) (places : List Place) (flight : Begun) → IsBegun periods places flight → AllPairs (λ a b. a ≢ b) (nodes_of flight)
-different periods places flight begun =
+different : (periods : ℕ) (places : List Place) (tables : List CostTable) (flight : Begun) → IsBegun periods places tables flight → AllPairs (λ a b. a ≢ b) (nodes_of flight)
+different periods places tables flight begun =
     all_pairs_push (λ a b. a ≢ b) (visited flight) flight.to
     (all_pairs_cons flight.from flight.passed
     (λ k d h e. not_both _ begun.origin (ap (λ (p : ℕ). is_sector (slice_get places p)) e ∙ passed_sector places flight begun.network k d h))
@@ -67,9 +68,9 @@ different periods places flight begun =
 
 -- ---- legs between nodes
 
-among_nodes : (periods : ℕ) (places : List Place) (flight : Begun) → IsEnded periods places flight → (leg : Hop) → IsHop (visited flight) flight.to flight.reached leg
+among_nodes : (periods : ℕ) (places : List Place) (tables : List CostTable) (flight : Begun) → IsEnded periods places tables flight → (leg : Hop) → IsHop (visited flight) flight.to flight.reached leg
     → (is_among (nodes_of flight) leg.from ≡ true) × (is_among (nodes_of flight) leg.to ≡ true)
-among_nodes periods places flight ended leg hop = (
+among_nodes periods places tables flight ended leg hop = (
   among_front (visited flight) (flight.to ∷ []) leg.from hop.start,
   elim (either (eqb leg.to flight.to) (is_among flight.reached leg.to) hop.end) [
     | inl last ↦ ap (is_among (nodes_of flight)) (eqb-true leg.to flight.to last) ∙ among_last (visited flight) flight.to
@@ -78,9 +79,9 @@ among_nodes periods places flight ended leg hop = (
   ],
 )
 
-leg_is : (periods : ℕ) (places : List Place) (flight : Begun) → IsEnded periods places flight → (leg : Hop) → IsHop (visited flight) flight.to flight.reached leg
+leg_is : (periods : ℕ) (places : List Place) (tables : List CostTable) (flight : Begun) → IsEnded periods places tables flight → (leg : Hop) → IsHop (visited flight) flight.to flight.reached leg
     → IsLeg (length (nodes_of flight)) (leg_between (nodes_of flight) leg)
-leg_is periods places flight ended leg hop = record {
+leg_is periods places tables flight ended leg hop = record {
   upward =
       let stays = node_new true (visited flight) flight.to leg.from hop.start in
       let before = hop.upward in
@@ -88,7 +89,7 @@ leg_is periods places flight ended leg hop = record {
         | inl e ↦ let also = node_new true (visited flight) flight.to leg.to e in omega arith
         | inr e ↦ let last = node_outside (visited flight) leg.to e in let after = node_not_before true (visited flight) flight.to leg.to e in omega arith
       ];
-  within = node_within (nodes_of flight) leg.to (among_nodes periods places flight ended leg hop).1;
+  within = node_within (nodes_of flight) leg.to (among_nodes periods places tables flight ended leg hop).1;
   least = hop.least;
 }
 
@@ -96,22 +97,22 @@ leg_is periods places flight ended leg hop = record {
 same_place : (nodes : List ℕ) (a b : ℕ) → is_among nodes a ≡ true → is_among nodes b ≡ true → node_of nodes a ≡ node_of nodes b → a ≡ b
 same_place nodes a b ha hb e = sym (node_at nodes a 0 ha) ∙ ap (λ (k : ℕ). get_or nodes k 0) e ∙ node_at nodes b 0 hb
 
-other_leg : (periods : ℕ) (places : List Place) (flight : Begun) → IsEnded periods places flight → (a b : Hop) → IsHop (visited flight) flight.to flight.reached a
+other_leg : (periods : ℕ) (places : List Place) (tables : List CostTable) (flight : Begun) → IsEnded periods places tables flight → (a b : Hop) → IsHop (visited flight) flight.to flight.reached a
     → IsHop (visited flight) flight.to flight.reached b → IsOtherHop a b → IsOtherLeg (leg_between (nodes_of flight) a) (leg_between (nodes_of flight) b)
-other_leg periods places flight ended a b ha hb other from to =
-    let ka = among_nodes periods places flight ended a ha in
-    let kb = among_nodes periods places flight ended b hb in
+other_leg periods places tables flight ended a b ha hb other from to =
+    let ka = among_nodes periods places tables flight ended a ha in
+    let kb = among_nodes periods places tables flight ended b hb in
     other (same_place (nodes_of flight) a.from b.from ka.0 kb.0 from) (same_place (nodes_of flight) a.to b.to ka.1 kb.1 to)
 
-once : (periods : ℕ) (places : List Place) (flight : Begun) → IsEnded periods places flight → AllPairs IsOtherLeg (map (leg_between (nodes_of flight)) flight.legs)
-once periods places flight ended i j d before within =
+once : (periods : ℕ) (places : List Place) (tables : List CostTable) (flight : Begun) → IsEnded periods places tables flight → AllPairs IsOtherLeg (map (leg_between (nodes_of flight)) flight.legs)
+once periods places tables flight ended i j d before within =
     let many : length (map (leg_between (nodes_of flight)) flight.legs) ≡ length flight.legs = length-map flight.legs (leg_between (nodes_of flight)) in
     let e : Hop = record { from = 0; to = 0; least = 0 } in
     let j_in : j < length flight.legs = omega arith in
     let i_in : i < length flight.legs = omega arith in
     let at_i = get_or-map (leg_between (nodes_of flight)) flight.legs i e d i_in in
     let at_j = get_or-map (leg_between (nodes_of flight)) flight.legs j e d j_in in
-    rw (at_i, at_j) (other_leg periods places flight ended (get_or flight.legs i e) (get_or flight.legs j e)
+    rw (at_i, at_j) (other_leg periods places tables flight ended (get_or flight.legs i e) (get_or flight.legs j e)
     (ended.begun.network.legs i e i_in) (ended.begun.network.legs j e j_in) (ended.begun.network.once i j e before j_in))
 
 in_order-legs : (nodes : List ℕ) (next : ℕ) (legs : List Hop) → starts_in_order next (map (leg_between nodes) legs) ≡ in_order next (starts_of nodes legs)
@@ -145,14 +146,14 @@ leaves nodes legs k apart within h =
 
 -- ---- the route
 
-pub route_is : (periods : ℕ) (places : List Place) (flight : Begun) → IsEnded periods places flight
+pub route_is : (periods : ℕ) (places : List Place) (tables : List CostTable) (flight : Begun) → IsEnded periods places tables flight
     → IsRoute places flight.from flight.to (nodes_of flight) (map (leg_between (nodes_of flight)) flight.legs)
-route_is periods places flight ended =
+route_is periods places tables flight ended =
     let network = ended.begun.network in
     let few = passed_few places flight network in
     let reached_few = network.reached_few in
     let many = length-append flight.passed (flight.to ∷ []) in
-    let apart = different periods places flight ended.begun in
+    let apart = different periods places tables flight ended.begun in
     record {
       nodes_from = omega arith;
       nodes_to = omega arith;
@@ -162,8 +163,8 @@ route_is periods places flight ended =
       sectors = sector_at;
       different = apart;
       each_leg = All-map (IsLeg (length (nodes_of flight))) (leg_between (nodes_of flight)) flight.legs
-          (λ k d h. leg_is periods places flight ended (get_or flight.legs k d) (network.legs k d h));
-      once = once periods places flight ended;
+          (λ k d h. leg_is periods places tables flight ended (get_or flight.legs k d) (network.legs k d h));
+      once = once periods places tables flight ended;
       order = in_order-legs (nodes_of flight) 1 flight.legs
           ∙ ap (in_order 1) (starts_stay true (visited flight) flight.reached flight.to flight.to flight.legs network.legs) ∙ network.order;
       entered = λ k some within. enters (nodes_of flight) flight.legs k apart within (entered_at k some within);
@@ -201,9 +202,9 @@ route_is periods places flight ended =
         rw (passed_at k here) (ended.begun.network.left k 0 here)
 
 -- the flight that it becomes
-pub flight_is : (periods : ℕ) (places : List Place) (flight : Begun) → IsEnded periods places flight
-    → IsFlight periods places [] (flight_with flight (nodes_of flight))
-flight_is periods places flight ended =
+pub flight_is : (periods : ℕ) (places : List Place) (tables : List CostTable) (flight : Begun) → IsEnded periods places tables flight
+    → IsFlight periods places tables (flight_with flight (nodes_of flight))
+flight_is periods places tables flight ended =
     let begun = ended.begun in
     record {
       name = begun.name;
@@ -214,6 +215,6 @@ flight_is periods places flight ended =
       origin = begun.origin;
       destination = begun.destination;
       apart = begun.apart;
-      route = route_is periods places flight ended;
+      route = route_is periods places tables flight ended;
       cost = begun.cost;
     }

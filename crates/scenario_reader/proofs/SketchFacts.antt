@@ -1,25 +1,43 @@
 -- What has been read keeps the rules with a place, a flight or a leg more.
-use Rattle.std.proofs.Common.{◌≡◌, ◌≢◌, ℕ, zero, suc, ◌+◌, ◌<◌, ◌≤◌, Bool, true, false, cond, ◌||◌, ◌&&◌, List, [], ◌∷◌, ◌++◌, length, get_or, map, Option, Some, None, refl, sym, ap, subst, arith, ◌∙◌, All, AllPairs, length-append}
+use Rattle.std.proofs.Common.{◌≡◌, ◌≢◌, ℕ, zero, suc, ◌+◌, ◌-◌, ◌==◌, eq-eqb, ◌<◌, ◌≤◌, Bool, true, false, cond, ◌||◌, ◌&&◌, List, [], ◌∷◌, ◌++◌, length, get_or, map, Option, Some, None, refl, sym, ap, subst, arith, ◌∙◌, All, AllPairs, length-append}
 use Rattle.std.specs.Prelude.{nat_le, slice_get}
 use Rattle.std.specs.Cmp.Lexicographic.{nat_list_eq_equiv}
 use Rattle.std.specs.List.{list_any}
 use Rattle.std.specs.Str.{bytes_eq}
-use Rattle.std.proofs.lemmas.Bool.{false≢true, leb-false}
-use Rattle.std.proofs.lemmas.List.Elements.{All-push}
+use Rattle.std.proofs.lemmas.Bool.{false≢true, leb-false, lt-leb}
+use Rattle.std.proofs.lemmas.List.Elements.{All-push, All-set}
+use Rattle.std.proofs.lemmas.List.{length-set, map-append}
 use Rattle.std.proofs.lemmas.List.Quantifiers.{all_pairs_push}
 use Rattle.std.proofs.lemmas.List.Sums.{sum_by-cons, sum_by_push}
 use Rattle.flow_types.specs.Routes.{is_airport, is_sector}
-use Rattle.flow_types.specs.Valid.{IsPlace}
+use Rattle.flow_types.specs.Valid.{is_cost, IsOtherConnection, IsPlace, IsTable, value_count}
 use Rattle.flow_types.specs.declared.day.Day.{Day}
+use Rattle.flow_types.specs.Lists.{filled}
+use Rattle.flow_types.specs.declared.flight.Connection.{Connection}
+use Rattle.flow_types.specs.declared.flight.Cost.{Cost}
+use Rattle.flow_types.specs.declared.flight.Cost.TheVariants.{Linear, Tables}
+use Rattle.flow_types.specs.declared.flight.CostTable.{CostTable}
+use Rattle.flow_types.specs.declared.place.CapKind.{CapKind}
+use Rattle.flow_types.specs.declared.place.CapKind.TheVariants as kind
+use Rattle.flow_types.specs.declared.place.PlaceKind.{PlaceKind}
+use Rattle.flow_types.specs.declared.place.PlaceKind.TheVariants.{Airport, Sector}
+use Rattle.flow_types.specs.Capacities.{has_kind}
 use Rattle.flow_types.specs.declared.place.Place.{Place}
+use Rattle.scenario_reader.specs.Capacities.{caps_for, Reaches, with_change, with_change_of}
+use Rattle.scenario_reader.specs.Change.{changed_at}
+use Rattle.scenario_reader.specs.Connections.{are_connected, is_same_place}
 use Rattle.scenario_reader.specs.Drafts.{IsDraft}
 use Rattle.scenario_reader.specs.Legs.{adds_node, with_leg, with_leg_at}
 use Rattle.scenario_reader.specs.Names.{position_of}
-use Rattle.scenario_reader.specs.Reading.{with_flight, with_flight_leg, with_place}
-use Rattle.scenario_reader.specs.Sketch.{flight_names, node_count, node_total, place_names, Sketch}
-use Rattle.scenario_reader.specs.Validity.{IsBegun, IsNetwork, IsNewLeg, IsSketch}
+use Rattle.scenario_reader.specs.Reading.{with_cap_change, with_connection, with_flight, with_flight_leg, with_place, with_pricing, with_table}
+use Rattle.scenario_reader.specs.Sketch.{destinations, flight_names, node_count, node_total, origins, place_names, Sketch, table_names}
+use Rattle.scenario_reader.specs.Tables.{with_cost, with_cost_at}
+use Rattle.scenario_reader.specs.Validity.{IsBegun, IsCapChange, IsMeeting, IsNetwork, IsNewLeg, IsPricing, IsSketch}
 use Rattle.scenario_reader.specs.declared.begun.Begun.{Begun}
 use Rattle.scenario_reader.specs.declared.begun.Hop.{Hop}
+use Rattle.scenario_reader.specs.declared.capacities.CapChange.{CapChange}
+use Rattle.scenario_reader.specs.declared.tables.Pricing.{Pricing}
+use Rattle.scenario_reader.proofs.ChangeFacts.{All-changed, get_changed, length-changed, map-changed, pairs_changed}
 use Rattle.scenario_reader.proofs.NameFacts.{position-none}
 use Rattle.scenario_reader.proofs.NetworkFacts.{neither, network_grows}
 use Rattle.scenario_reader.proofs.PlaceFacts.{length_new}
@@ -45,20 +63,38 @@ names_more name_of xs x apart fresh =
     let none : list_any (bytes_eq (name_of x)) (map name_of xs) ≡ false = position-none (bytes_eq (name_of x)) (map name_of xs) fresh in
     all_pairs_push (λ a b. name_of a ≢ name_of b) xs x apart (λ k d h. name_apart name_of xs (name_of x) k d none h)
 
--- ---- a place more
+-- ---- a list that ends in one item more
 
--- what was found among the places is found among more
-found_front : (test : Option Place → Bool) → test None ≡ false → (places : List Place) (place : Place) (k : ℕ)
-    → test (slice_get places k) ≡ true → test (slice_get (places ++ place ∷ []) k) ≡ true
-found_front test none [] place k h = absurd (false≢true (sym none ∙ h))
-found_front test none (first ∷ places) place zero h = h
-found_front test none (first ∷ places) place (suc k) h = found_front test none places place k h
+-- what is found in a list is found in the longer one
+found_front : {X : Type 0} (test : Option X → Bool) → test None ≡ false → (xs : List X) (x : X) (k : ℕ)
+    → test (slice_get xs k) ≡ true → test (slice_get (xs ++ x ∷ []) k) ≡ true
+found_front test none [] x k h = absurd (false≢true (sym none ∙ h))
+found_front test none (first ∷ xs) x zero h = h
+found_front test none (first ∷ xs) x (suc k) h = found_front test none xs x k h
 
-network_with_place : (places : List Place) (place : Place) (flight : Begun) → IsNetwork places flight → IsNetwork (places ++ place ∷ []) flight
-network_with_place places place flight network = record {
+-- the same of two that are found in two lists
+both_front : (xs ys : List ℕ) (x y i j : ℕ) → is_same_place (slice_get xs i) (slice_get ys j) ≡ true
+    → is_same_place (slice_get (xs ++ x ∷ []) i) (slice_get (ys ++ y ∷ []) j) ≡ true
+both_front xs ys x y i j h =
+    let first = found_front (λ o. is_same_place o (slice_get ys j)) refl xs x i h in
+    found_front (λ o. is_same_place (slice_get (xs ++ x ∷ []) i) o) (none_at (slice_get (xs ++ x ∷ []) i)) ys y j first
+  where
+    none_at : (o : Option ℕ) → is_same_place o None ≡ false
+    none_at None = refl
+    none_at (Some a) = refl
+
+-- ---- places that keep their kinds
+
+-- what is an airport or a sector stays one
+pub record Keeps (places later : List Place) : Type 0 where
+  pub airports : (k : ℕ) → is_airport (slice_get places k) ≡ true → is_airport (slice_get later k) ≡ true
+  pub sectors : (k : ℕ) → is_sector (slice_get places k) ≡ true → is_sector (slice_get later k) ≡ true
+
+network_kept : (places later : List Place) (flight : Begun) → Keeps places later → IsNetwork places flight → IsNetwork later flight
+network_kept places later flight keeps network = record {
   legs_few = network.legs_few;
   reached_few = network.reached_few;
-  sectors = λ k d h. found_front is_sector refl places place (get_or flight.reached k d) (network.sectors k d h);
+  sectors = λ k d h. keeps.sectors (get_or flight.reached k d) (network.sectors k d h);
   passed_once = network.passed_once;
   passed_reached = network.passed_reached;
   entered = network.entered;
@@ -70,16 +106,19 @@ network_with_place places place flight network = record {
   next = network.next;
 }
 
-begun_with_place : (periods : ℕ) (places : List Place) (place : Place) (flight : Begun) → IsBegun periods places flight → IsBegun periods (places ++ place ∷ []) flight
-begun_with_place periods places place flight begun = record {
+begun_kept : (periods : ℕ) (places later : List Place) (tables : List CostTable) (flight : Begun) → Keeps places later
+    → IsBegun periods places tables flight → IsBegun periods later tables flight
+begun_kept periods places later tables flight keeps begun = record {
   name = begun.name;
   hours = begun.hours;
-  origin = found_front is_airport refl places place flight.from begun.origin;
-  destination = found_front is_airport refl places place flight.to begun.destination;
+  origin = keeps.airports flight.from begun.origin;
+  destination = keeps.airports flight.to begun.destination;
   apart = begun.apart;
   cost = begun.cost;
-  network = network_with_place places place flight begun.network;
+  network = network_kept places later flight keeps begun.network;
 }
+
+-- ---- a place more
 
 pub sketch_with_place : (sketch : Sketch) (place : Place) → IsSketch sketch → IsPlace sketch.day.periods place
     → position_of place.name (place_names sketch.places) ≡ None → length sketch.places < 1000 → IsSketch (with_place sketch place)
@@ -89,9 +128,19 @@ sketch_with_place sketch place valid one fresh room = record {
   places = All-push (IsPlace sketch.day.periods) sketch.places place valid.places one;
   place_names = names_more (λ p. p.name) sketch.places place valid.place_names fresh;
   flights_few = valid.flights_few;
-  flights = λ k d h. begun_with_place sketch.day.periods sketch.places place (get_or sketch.flights k d) (valid.flights k d h);
+  flights = λ k d h. begun_kept sketch.day.periods sketch.places (sketch.places ++ place ∷ []) sketch.tables (get_or sketch.flights k d)
+      (record {
+        airports = found_front is_airport refl sketch.places place;
+        sectors = found_front is_sector refl sketch.places place;
+      }) (valid.flights k d h);
   flight_names = valid.flight_names;
   nodes_few = valid.nodes_few;
+  tables_few = valid.tables_few;
+  tables = valid.tables;
+  table_names = valid.table_names;
+  connections_few = valid.connections_few;
+  connections = valid.connections;
+  connected_once = valid.connected_once;
 }
 
 -- ---- a flight more
@@ -99,7 +148,14 @@ sketch_with_place sketch place valid one fresh room = record {
 pub total_push : (flights : List Begun) (flight : Begun) → node_total (flights ++ flight ∷ []) ≡ node_total flights + node_count flight
 total_push flights flight = sum_by_push node_count flights flight
 
-pub sketch_with_flight : (sketch : Sketch) (flight : Begun) → IsSketch sketch → IsBegun sketch.day.periods sketch.places flight
+meeting_with_flight : (flights : List Begun) (flight : Begun) (connection : Connection) → IsMeeting flights connection → IsMeeting (flights ++ flight ∷ []) connection
+meeting_with_flight flights flight connection meeting = record {
+  together = rw (map-append (λ (f : Begun). f.from) flights (flight ∷ []), map-append (λ (f : Begun). f.to) flights (flight ∷ []))
+      (both_front (origins flights) (destinations flights) flight.from flight.to connection.second connection.first meeting.together);
+  turnaround = meeting.turnaround;
+}
+
+pub sketch_with_flight : (sketch : Sketch) (flight : Begun) → IsSketch sketch → IsBegun sketch.day.periods sketch.places sketch.tables flight
     → position_of flight.name (flight_names sketch.flights) ≡ None → length sketch.flights < 2000
     → node_total sketch.flights + node_count flight ≤ 20000 → IsSketch (with_flight sketch flight)
 sketch_with_flight sketch flight valid one fresh room few = record {
@@ -108,42 +164,36 @@ sketch_with_flight sketch flight valid one fresh room few = record {
   places = valid.places;
   place_names = valid.place_names;
   flights_few = let more = length-append sketch.flights (flight ∷ []) in omega arith;
-  flights = All-push (IsBegun sketch.day.periods sketch.places) sketch.flights flight valid.flights one;
+  flights = All-push (IsBegun sketch.day.periods sketch.places sketch.tables) sketch.flights flight valid.flights one;
   flight_names = names_more (λ f. f.name) sketch.flights flight valid.flight_names fresh;
   nodes_few = let more = total_push sketch.flights flight in omega arith;
+  tables_few = valid.tables_few;
+  tables = valid.tables;
+  table_names = valid.table_names;
+  connections_few = valid.connections_few;
+  connections = λ k d h. meeting_with_flight sketch.flights flight (get_or sketch.connections k d) (valid.connections k d h);
+  connected_once = valid.connected_once;
 }
+
+-- ---- a flight changed
+
+-- flights that begin and end as before meet as before
+meeting_kept : (flights later : List Begun) (connection : Connection) → origins later ≡ origins flights → destinations later ≡ destinations flights
+    → IsMeeting flights connection → IsMeeting later connection
+meeting_kept flights later connection from to meeting = record {
+  together = rw (from, to) meeting.together;
+  turnaround = meeting.turnaround;
+}
+
+names_changed : (change : Begun → Begun) → ((flight : Begun) → (change flight).name ≡ flight.name) → (flights : List Begun) (k : ℕ)
+    → AllPairs (λ a b. a.name ≢ b.name) flights → AllPairs (λ a b. a.name ≢ b.name) (changed_at change flights k)
+names_changed change same flights k apart = pairs_changed (λ (f : Begun). f.name) change same flights k apart
 
 -- ---- a leg more
 
-length-with_leg_at : (flights : List Begun) (k : ℕ) (leg : Hop) → length (with_leg_at flights k leg) ≡ length flights
-length-with_leg_at [] k leg = refl
-length-with_leg_at (flight ∷ flights) zero leg = refl
-length-with_leg_at (flight ∷ flights) (suc k) leg = ap suc (length-with_leg_at flights k leg)
-
-name-with_leg_at : (flights : List Begun) (k : ℕ) (leg : Hop) (i : ℕ) (d : Begun) → (get_or (with_leg_at flights k leg) i d).name ≡ (get_or flights i d).name
-name-with_leg_at [] k leg i d = refl
-name-with_leg_at (flight ∷ flights) zero leg zero d = refl
-name-with_leg_at (flight ∷ flights) zero leg (suc i) d = refl
-name-with_leg_at (flight ∷ flights) (suc k) leg zero d = refl
-name-with_leg_at (flight ∷ flights) (suc k) leg (suc i) d = name-with_leg_at flights k leg i d
-
-names_with_leg : (flights : List Begun) (k : ℕ) (leg : Hop) → AllPairs (λ a b. a.name ≢ b.name) flights → AllPairs (λ a b. a.name ≢ b.name) (with_leg_at flights k leg)
-names_with_leg flights k leg apart i j d before within e =
-    apart i j d before (rw (length-with_leg_at flights k leg) at within)
-    (sym (name-with_leg_at flights k leg i d) ∙ e ∙ name-with_leg_at flights k leg j d)
-
-All-with_leg_at : (P : Begun → Type 0) (flights : List Begun) (k : ℕ) (leg : Hop) → All P flights
-    → ((flight : Begun) → slice_get flights k ≡ Some flight → P flight → P (with_leg flight leg)) → All P (with_leg_at flights k leg)
-All-with_leg_at P [] k leg all one i d h = absurd (omega arith)
-All-with_leg_at P (flight ∷ flights) zero leg all one zero d h = one flight refl (all 0 d (omega arith))
-All-with_leg_at P (flight ∷ flights) zero leg all one (suc i) d h = all (suc i) d h
-All-with_leg_at P (flight ∷ flights) (suc k) leg all one zero d h = all 0 d (omega arith)
-All-with_leg_at P (flight ∷ flights) (suc k) leg all one (suc i) d h =
-    All-with_leg_at P flights k leg (λ j e within. all (suc j) e (omega arith)) one i d (omega arith)
-
-begun_with_leg : (periods : ℕ) (places : List Place) (total : ℕ) (flight : Begun) (leg : Hop) → IsBegun periods places flight
-    → IsNewLeg places total flight leg → IsBegun periods places (with_leg flight leg)
-begun_with_leg periods places total flight leg begun new = record {
+begun_with_leg : (periods : ℕ) (places : List Place) (tables : List CostTable) (total : ℕ) (flight : Begun) (leg : Hop) → IsBegun periods places tables flight
+    → IsNewLeg places total flight leg → IsBegun periods places tables (with_leg flight leg)
+begun_with_leg periods places tables total flight leg begun new = record {
   name = begun.name;
   hours = begun.hours;
   origin = begun.origin;
@@ -168,6 +218,9 @@ room_for : (adds full : Bool) (n total : ℕ) → (adds && (full || nat_le 20000
 room_for false full n total h le = omega arith
 room_for true full n total h le = let few : total < 20000 = leb-false 20000 total (neither full (nat_le 20000 total) h).1 in omega arith
 
+some_is : {X : Type 0} (x y : X) → Some x ≡ Some y → x ≡ y
+some_is x y e = cc
+
 sketch_with_leg : (sketch : Sketch) (k : ℕ) (leg : Hop) (flight : Begun) → IsSketch sketch → slice_get sketch.flights k ≡ Some flight
     → IsNewLeg sketch.places (node_total sketch.flights) flight leg → IsSketch (with_flight_leg sketch (k, leg))
 sketch_with_leg sketch k leg flight valid here new = record {
@@ -175,47 +228,337 @@ sketch_with_leg sketch k leg flight valid here new = record {
   places_few = valid.places_few;
   places = valid.places;
   place_names = valid.place_names;
-  flights_few = rw (length-with_leg_at sketch.flights k leg) valid.flights_few;
-  flights = All-with_leg_at (IsBegun sketch.day.periods sketch.places) sketch.flights k leg valid.flights
+  flights_few = rw (length-changed (λ f. with_leg f leg) sketch.flights k) valid.flights_few;
+  flights = All-changed (IsBegun sketch.day.periods sketch.places sketch.tables) (λ f. with_leg f leg) sketch.flights k valid.flights
       (λ f e begun. let same : flight ≡ f = some_is flight f (sym here ∙ e) in
-      begun_with_leg sketch.day.periods sketch.places (node_total sketch.flights) f leg begun
+      begun_with_leg sketch.day.periods sketch.places sketch.tables (node_total sketch.flights) f leg begun
       (subst (λ (g : Begun). IsNewLeg sketch.places (node_total sketch.flights) g leg) same new));
-  flight_names = names_with_leg sketch.flights k leg valid.flight_names;
+  flight_names = names_changed (λ f. with_leg f leg) (λ f. refl) sketch.flights k valid.flight_names;
   nodes_few = rw (total_with_leg sketch.flights k leg flight here)
       (room_for (adds_node flight leg.to) (nat_le 32 (length flight.reached + 2)) (length flight.reached) (node_total sketch.flights) new.few valid.nodes_few);
+  tables_few = valid.tables_few;
+  tables = valid.tables;
+  table_names = valid.table_names;
+  connections_few = valid.connections_few;
+  connections = λ j d h. meeting_kept sketch.flights (with_leg_at sketch.flights k leg) (get_or sketch.connections j d)
+      (map-changed (λ (f : Begun). f.from) (λ f. with_leg f leg) (λ f. refl) sketch.flights k)
+      (map-changed (λ (f : Begun). f.to) (λ f. with_leg f leg) (λ f. refl) sketch.flights k) (valid.connections j d h);
+  connected_once = valid.connected_once;
+}
+
+-- ---- tables for a flight
+
+begun_with_cost : (periods : ℕ) (places : List Place) (tables : List CostTable) (cost : Cost) (flight : Begun) → IsBegun periods places tables flight
+    → is_cost tables flight.hours.mg flight.hours.md cost ≡ true → IsBegun periods places tables (with_cost cost flight)
+begun_with_cost periods places tables cost flight begun long = record {
+  name = begun.name;
+  hours = begun.hours;
+  origin = begun.origin;
+  destination = begun.destination;
+  apart = begun.apart;
+  cost = long;
+  network = network_same (begun.network);
 }
   where
-    some_is : (x y : Begun) → Some x ≡ Some y → x ≡ y
-    some_is x y e = cc
+    network_same : IsNetwork places flight → IsNetwork places (with_cost cost flight)
+    network_same network = record {
+      legs_few = network.legs_few;
+      reached_few = network.reached_few;
+      sectors = network.sectors;
+      passed_once = network.passed_once;
+      passed_reached = network.passed_reached;
+      entered = network.entered;
+      left = network.left;
+      begins = network.begins;
+      legs = network.legs;
+      once = network.once;
+      order = network.order;
+      next = network.next;
+    }
+
+total_with_cost : (flights : List Begun) (k : ℕ) (cost : Cost) → node_total (with_cost_at flights k cost) ≡ node_total flights
+total_with_cost [] k cost = refl
+total_with_cost (flight ∷ flights) zero cost = sum_by-cons node_count (with_cost cost flight) flights ∙ sym (sum_by-cons node_count flight flights)
+total_with_cost (flight ∷ flights) (suc k) cost =
+    rw (sum_by-cons node_count flight (with_cost_at flights k cost), sum_by-cons node_count flight flights, total_with_cost flights k cost) refl
+
+sketch_with_pricing : (sketch : Sketch) (pricing : Pricing) → IsSketch sketch → IsPricing sketch.flights sketch.tables pricing → IsSketch (with_pricing sketch pricing)
+sketch_with_pricing sketch pricing valid new = record {
+  day = valid.day;
+  places_few = valid.places_few;
+  places = valid.places;
+  place_names = valid.place_names;
+  flights_few = rw (length-changed (with_cost (Tables pricing.total pricing.credit)) sketch.flights pricing.flight) valid.flights_few;
+  flights = All-changed (IsBegun sketch.day.periods sketch.places sketch.tables) (with_cost (Tables pricing.total pricing.credit)) sketch.flights pricing.flight valid.flights
+      (λ f e begun. begun_with_cost sketch.day.periods sketch.places sketch.tables (Tables pricing.total pricing.credit) f begun (new.long f e));
+  flight_names = names_changed (with_cost (Tables pricing.total pricing.credit)) (λ f. refl) sketch.flights pricing.flight valid.flight_names;
+  nodes_few = rw (total_with_cost sketch.flights pricing.flight (Tables pricing.total pricing.credit)) valid.nodes_few;
+  tables_few = valid.tables_few;
+  tables = valid.tables;
+  table_names = valid.table_names;
+  connections_few = valid.connections_few;
+  connections = λ j d h. meeting_kept sketch.flights (with_cost_at sketch.flights pricing.flight (Tables pricing.total pricing.credit)) (get_or sketch.connections j d)
+      (map-changed (λ (f : Begun). f.from) (with_cost (Tables pricing.total pricing.credit)) (λ f. refl) sketch.flights pricing.flight)
+      (map-changed (λ (f : Begun). f.to) (with_cost (Tables pricing.total pricing.credit)) (λ f. refl) sketch.flights pricing.flight) (valid.connections j d h);
+  connected_once = valid.connected_once;
+}
+
+-- ---- a table more
+
+both : (a b : Bool) → (a && b) ≡ true → (a ≡ true) × (b ≡ true)
+both true b h = (refl, h)
+both false b h = absurd cc
+
+cost_with_table : (tables : List CostTable) (table : CostTable) (mg md : ℕ) (cost : Cost) → is_cost tables mg md cost ≡ true → is_cost (tables ++ table ∷ []) mg md cost ≡ true
+cost_with_table tables table mg md (Linear on_ground airborne) h = h
+cost_with_table tables table mg md (Tables total credit) h =
+    let (first, second) = both (nat_le (md + 1) (value_count (slice_get tables total))) (nat_le (mg + 1) (value_count (slice_get tables credit))) h in
+    rw (
+      found_front (λ o. nat_le (md + 1) (value_count o)) (lt-leb (md + 1) 0 (omega arith)) tables table total first,
+      found_front (λ o. nat_le (mg + 1) (value_count o)) (lt-leb (mg + 1) 0 (omega arith)) tables table credit second,
+    ) refl
+
+begun_with_table : (periods : ℕ) (places : List Place) (tables : List CostTable) (table : CostTable) (flight : Begun) → IsBegun periods places tables flight
+    → IsBegun periods places (tables ++ table ∷ []) flight
+begun_with_table periods places tables table flight begun = record {
+  name = begun.name;
+  hours = begun.hours;
+  origin = begun.origin;
+  destination = begun.destination;
+  apart = begun.apart;
+  cost = cost_with_table tables table flight.hours.mg flight.hours.md flight.cost begun.cost;
+  network = begun.network;
+}
+
+sketch_with_table : (sketch : Sketch) (table : CostTable) → IsSketch sketch → IsTable table → position_of table.name (table_names sketch.tables) ≡ None
+    → length sketch.tables < 1000 → IsSketch (with_table sketch table)
+sketch_with_table sketch table valid one fresh room = record {
+  day = valid.day;
+  places_few = valid.places_few;
+  places = valid.places;
+  place_names = valid.place_names;
+  flights_few = valid.flights_few;
+  flights = λ k d h. begun_with_table sketch.day.periods sketch.places sketch.tables table (get_or sketch.flights k d) (valid.flights k d h);
+  flight_names = valid.flight_names;
+  nodes_few = valid.nodes_few;
+  tables_few = let more = length-append sketch.tables (table ∷ []) in omega arith;
+  tables = All-push IsTable sketch.tables table valid.tables one;
+  table_names = names_more (λ t. t.name) sketch.tables table valid.table_names fresh;
+  connections_few = valid.connections_few;
+  connections = valid.connections;
+  connected_once = valid.connected_once;
+}
+
+-- ---- a connection more
+
+connection_apart : (connections : List Connection) (connection : Connection) (k : ℕ) (d : Connection)
+    → are_connected connections connection.first connection.second ≡ false → k < length connections
+    → IsOtherConnection (get_or connections k d) connection
+connection_apart [] connection k d none h = absurd (omega arith)
+connection_apart (other ∷ connections) connection zero d none h = λ first second.
+    let one : (other.first == connection.first && other.second == connection.second) ≡ false = (neither _ _ none).0 in
+    let same : (other.first == connection.first && other.second == connection.second) ≡ true = rw (eq-eqb _ _ first, eq-eqb _ _ second) refl in
+    false≢true (sym one ∙ same)
+connection_apart (other ∷ connections) connection (suc k) d none h = connection_apart connections connection k d (neither _ _ none).1 (omega arith)
+
+sketch_with_connection : (sketch : Sketch) (connection : Connection) → IsSketch sketch → IsMeeting sketch.flights connection
+    → are_connected sketch.connections connection.first connection.second ≡ false → length sketch.connections < 4000
+    → IsSketch (with_connection sketch connection)
+sketch_with_connection sketch connection valid one once room = record {
+  day = valid.day;
+  places_few = valid.places_few;
+  places = valid.places;
+  place_names = valid.place_names;
+  flights_few = valid.flights_few;
+  flights = valid.flights;
+  flight_names = valid.flight_names;
+  nodes_few = valid.nodes_few;
+  tables_few = valid.tables_few;
+  tables = valid.tables;
+  table_names = valid.table_names;
+  connections_few = let more = length-append sketch.connections (connection ∷ []) in omega arith;
+  connections = All-push (IsMeeting sketch.flights) sketch.connections connection valid.connections one;
+  connected_once = all_pairs_push IsOtherConnection sketch.connections connection valid.connected_once
+      (λ k d h. connection_apart sketch.connections connection k d once h);
+}
+
+-- ---- capacities changed
+
+filled_length : (from count value : ℕ) (caps : List ℕ) → length (filled from count value caps) ≡ length caps
+filled_length from zero value caps = refl
+filled_length from (suc count) value caps = length-set (filled from count value caps) (from + count) value ∙ filled_length from count value caps
+
+filled_few : (from count value : ℕ) (caps : List ℕ) → value ≤ 1000000 → All (λ c. c ≤ 1000000) caps → All (λ c. c ≤ 1000000) (filled from count value caps)
+filled_few from zero value caps few all = all
+filled_few from (suc count) value caps few all = All-set (λ c. c ≤ 1000000) (filled from count value caps) (from + count) value few (filled_few from count value caps few all)
+
+place_changed : (periods : ℕ) (change : CapChange) (kind : CapKind) (place : Place) → change.value ≤ 1000000 → IsPlace periods place → IsPlace periods (with_change_of kind change place)
+place_changed periods change kind.Dep place few valid = record {
+  name = valid.name;
+  first_count = filled_length change.first (change.last + 1 - change.first) change.value place.first ∙ valid.first_count;
+  second_count = valid.second_count;
+  first = filled_few change.first (change.last + 1 - change.first) change.value place.first few valid.first;
+  second = valid.second;
+}
+place_changed periods change kind.Sector place few valid = record {
+  name = valid.name;
+  first_count = filled_length change.first (change.last + 1 - change.first) change.value place.first ∙ valid.first_count;
+  second_count = valid.second_count;
+  first = filled_few change.first (change.last + 1 - change.first) change.value place.first few valid.first;
+  second = valid.second;
+}
+place_changed periods change kind.Arr place few valid = record {
+  name = valid.name;
+  first_count = valid.first_count;
+  second_count = filled_length change.first (change.last + 1 - change.first) change.value place.second ∙ valid.second_count;
+  first = valid.first;
+  second = filled_few change.first (change.last + 1 - change.first) change.value place.second few valid.second;
+}
+
+pub name_unchanged : (change : CapChange) (kind : CapKind) (place : Place) → (with_change_of kind change place).name ≡ place.name
+name_unchanged change kind.Dep place = refl
+name_unchanged change kind.Arr place = refl
+name_unchanged change kind.Sector place = refl
+
+kind_unchanged : (change : CapChange) (kind : CapKind) (place : Place) → (with_change_of kind change place).kind ≡ place.kind
+kind_unchanged change kind.Dep place = refl
+kind_unchanged change kind.Arr place = refl
+kind_unchanged change kind.Sector place = refl
+
+airport_unchanged : (change : CapChange) (place : Place) → is_airport (Some (with_change change place)) ≡ is_airport (Some place)
+airport_unchanged change place = rw (kind_unchanged change change.kind place) refl
+
+sector_unchanged : (change : CapChange) (place : Place) → is_sector (Some (with_change change place)) ≡ is_sector (Some place)
+sector_unchanged change place = rw (kind_unchanged change change.kind place) refl
+
+sketch_with_change : (sketch : Sketch) (change : CapChange) → IsSketch sketch → IsCapChange sketch.day.periods sketch.places change → IsSketch (with_cap_change sketch change)
+sketch_with_change sketch change valid new = record {
+  day = valid.day;
+  places_few = rw (length-changed (with_change change) sketch.places change.place) valid.places_few;
+  places = All-changed (IsPlace sketch.day.periods) (with_change change) sketch.places change.place valid.places
+      (λ p e one. place_changed sketch.day.periods change change.kind p new.few one);
+  place_names = pairs_changed (λ (p : Place). p.name) (with_change change) (λ p. name_unchanged change change.kind p) sketch.places change.place valid.place_names;
+  flights_few = valid.flights_few;
+  flights = λ k d h. begun_kept sketch.day.periods sketch.places (changed_at (with_change change) sketch.places change.place) sketch.tables (get_or sketch.flights k d)
+      (record {
+        airports = λ j e. get_changed is_airport (with_change change) (airport_unchanged change) sketch.places change.place j ∙ e;
+        sectors = λ j e. get_changed is_sector (with_change change) (sector_unchanged change) sketch.places change.place j ∙ e;
+      }) (valid.flights k d h);
+  flight_names = valid.flight_names;
+  nodes_few = valid.nodes_few;
+  tables_few = valid.tables_few;
+  tables = valid.tables;
+  table_names = valid.table_names;
+  connections_few = valid.connections_few;
+  connections = valid.connections;
+  connected_once = valid.connected_once;
+}
+
+-- a place that has such capacities has them for every period
+is_some_at : {X : Type 0} (test : Option X → Bool) → test None ≡ false → (xs : List X) (k : ℕ) → test (slice_get xs k) ≡ true → k < length xs
+is_some_at test none [] k h = absurd (false≢true (sym none ∙ h))
+is_some_at test none (x ∷ xs) zero h = omega arith
+is_some_at test none (x ∷ xs) (suc k) h = let less = is_some_at test none xs k h in omega arith
+
+pub change_within : (periods : ℕ) (places : List Place) (change : CapChange) → IsCapChange periods places change → change.place < length places
+change_within periods places change new = is_some_at (has_kind change.kind) (no_kind change.kind) places change.place new.place
+  where
+    no_kind : (kind : CapKind) → has_kind kind None ≡ false
+    no_kind kind.Dep = refl
+    no_kind kind.Arr = refl
+    no_kind kind.Sector = refl
+
+all_at : {X : Type 0} (P : X → Type 0) (xs : List X) (k : ℕ) (x : X) → All P xs → slice_get xs k ≡ Some x → P x
+all_at P [] k x all e = absurd cc
+all_at P (y ∷ xs) zero x all e = subst P (some_is y x e) (all 0 y (omega arith))
+all_at P (y ∷ xs) (suc k) x all e = all_at P xs k x (λ j d h. all (suc j) d (omega arith)) e
+
+pub reaches : (day : Day) (places : List Place) (flights : List Begun) (tables : List CostTable) (connections : List Connection) (nodes : ℕ) (change : CapChange)
+    → IsDraft day places flights tables connections nodes → IsCapChange day.periods places change
+    → (place : Place) → slice_get places change.place ≡ Some place → Reaches change place
+reaches day places flights tables connections nodes change valid new place here = record {
+  forward = new.forward;
+  within = by change.kind place.kind refl (rw here at new.place) (all_at (IsPlace day.periods) places change.place place valid.sketch.places here);
+}
+  where
+    by : (kind : CapKind) (place_kind : PlaceKind) → place.kind ≡ place_kind → has_kind kind (Some place) ≡ true → IsPlace day.periods place → change.last < length (caps_for kind place)
+    by kind.Dep place_kind e has one = rw one.first_count new.within
+    by kind.Sector place_kind e has one = rw one.first_count new.within
+    by kind.Arr Airport e has one = rw (one.second_count, e) new.within
+    by kind.Arr Sector e has one = absurd (false≢true (rw e at has))
 
 -- ---- drafts
 
-pub draft_with_leg : (day : Day) (places : List Place) (flights more : List Begun) (nodes total k : ℕ) (leg : Hop) (flight : Begun) → IsDraft day places flights nodes
+abbrev sketch : Day → List Place → List Begun → List CostTable → List Connection → Sketch
+sketch day places flights tables connections = record { day = day; places = places; flights = flights; tables = tables; connections = connections }
+
+pub draft_with_leg : (day : Day) (places : List Place) (flights more : List Begun) (tables : List CostTable) (connections : List Connection) (nodes total k : ℕ) (leg : Hop) (flight : Begun)
+    → IsDraft day places flights tables connections nodes
     → slice_get flights k ≡ Some flight → IsNewLeg places nodes flight leg → more ≡ with_leg_at flights k leg
-    → total ≡ nodes + cond (adds_node flight leg.to) 1 0 → IsDraft day places more total
-draft_with_leg day places flights more nodes total k leg flight valid here new is sum =
+    → total ≡ nodes + cond (adds_node flight leg.to) 1 0 → IsDraft day places more tables connections total
+draft_with_leg day places flights more tables connections nodes total k leg flight valid here new is sum =
     rw (is, sum) (record {
-      sketch = sketch_with_leg (record { day = day; places = places; flights = flights }) k leg flight valid.sketch here (rw valid.counted at new);
+      sketch = sketch_with_leg (sketch day places flights tables connections) k leg flight valid.sketch here (rw valid.counted at new);
       counted = rw valid.counted (sym (total_with_leg flights k leg flight here));
     })
 
-pub draft_with_flight : (day : Day) (places : List Place) (flights more : List Begun) (nodes : ℕ) (flight : Begun) → IsDraft day places flights nodes
-    → IsBegun day.periods places flight → position_of flight.name (flight_names flights) ≡ None → flight.reached ≡ [] → length flights < 2000
-    → nodes + 2 ≤ 20000 → more ≡ flights ++ flight ∷ [] → IsDraft day places more (nodes + 2)
-draft_with_flight day places flights more nodes flight valid one fresh empty room few is =
+pub draft_with_flight : (day : Day) (places : List Place) (flights more : List Begun) (tables : List CostTable) (connections : List Connection) (nodes : ℕ) (flight : Begun)
+    → IsDraft day places flights tables connections nodes
+    → IsBegun day.periods places tables flight → position_of flight.name (flight_names flights) ≡ None → flight.reached ≡ [] → length flights < 2000
+    → nodes + 2 ≤ 20000 → more ≡ flights ++ flight ∷ [] → IsDraft day places more tables connections (nodes + 2)
+draft_with_flight day places flights more tables connections nodes flight valid one fresh empty room few is =
     let two : node_count flight ≡ 2 = rw empty refl in
     let counted = valid.counted in
     let sum = total_push flights flight in
     rw is (record {
-      sketch = sketch_with_flight (record { day = day; places = places; flights = flights }) flight valid.sketch one fresh room (omega arith);
+      sketch = sketch_with_flight (sketch day places flights tables connections) flight valid.sketch one fresh room (omega arith);
       counted = omega arith;
     })
 
-pub draft_with_place : (day : Day) (places more : List Place) (flights : List Begun) (nodes : ℕ) (place : Place) → IsDraft day places flights nodes
+pub draft_with_place : (day : Day) (places more : List Place) (flights : List Begun) (tables : List CostTable) (connections : List Connection) (nodes : ℕ) (place : Place)
+    → IsDraft day places flights tables connections nodes
     → IsPlace day.periods place → position_of place.name (place_names places) ≡ None → length places < 1000 → more ≡ places ++ place ∷ []
-    → IsDraft day more flights nodes
-draft_with_place day places more flights nodes place valid one fresh room is =
+    → IsDraft day more flights tables connections nodes
+draft_with_place day places more flights tables connections nodes place valid one fresh room is =
     rw is (record {
-      sketch = sketch_with_place (record { day = day; places = places; flights = flights }) place valid.sketch one fresh room;
+      sketch = sketch_with_place (sketch day places flights tables connections) place valid.sketch one fresh room;
+      counted = valid.counted;
+    })
+
+pub draft_with_table : (day : Day) (places : List Place) (flights : List Begun) (tables more : List CostTable) (connections : List Connection) (nodes : ℕ) (table : CostTable)
+    → IsDraft day places flights tables connections nodes
+    → IsTable table → position_of table.name (table_names tables) ≡ None → length tables < 1000 → more ≡ tables ++ table ∷ []
+    → IsDraft day places flights more connections nodes
+draft_with_table day places flights tables more connections nodes table valid one fresh room is =
+    rw is (record {
+      sketch = sketch_with_table (sketch day places flights tables connections) table valid.sketch one fresh room;
+      counted = valid.counted;
+    })
+
+pub draft_with_connection : (day : Day) (places : List Place) (flights : List Begun) (tables : List CostTable) (connections more : List Connection) (nodes : ℕ) (connection : Connection)
+    → IsDraft day places flights tables connections nodes
+    → IsMeeting flights connection → are_connected connections connection.first connection.second ≡ false → length connections < 4000 → more ≡ connections ++ connection ∷ []
+    → IsDraft day places flights tables more nodes
+draft_with_connection day places flights tables connections more nodes connection valid one once room is =
+    rw is (record {
+      sketch = sketch_with_connection (sketch day places flights tables connections) connection valid.sketch one once room;
+      counted = valid.counted;
+    })
+
+pub draft_with_pricing : (day : Day) (places : List Place) (flights more : List Begun) (tables : List CostTable) (connections : List Connection) (nodes : ℕ) (pricing : Pricing)
+    → IsDraft day places flights tables connections nodes → IsPricing flights tables pricing
+    → more ≡ with_cost_at flights pricing.flight (Tables pricing.total pricing.credit) → IsDraft day places more tables connections nodes
+draft_with_pricing day places flights more tables connections nodes pricing valid new is =
+    rw is (record {
+      sketch = sketch_with_pricing (sketch day places flights tables connections) pricing valid.sketch new;
+      counted = valid.counted ∙ sym (total_with_cost flights pricing.flight (Tables pricing.total pricing.credit));
+    })
+
+pub draft_with_change : (day : Day) (places more : List Place) (flights : List Begun) (tables : List CostTable) (connections : List Connection) (nodes : ℕ) (change : CapChange)
+    → IsDraft day places flights tables connections nodes → IsCapChange day.periods places change
+    → more ≡ changed_at (with_change change) places change.place → IsDraft day more flights tables connections nodes
+draft_with_change day places more flights tables connections nodes change valid new is =
+    rw is (record {
+      sketch = sketch_with_change (sketch day places flights tables connections) change valid.sketch new;
       counted = valid.counted;
     })

@@ -64,4 +64,4 @@ finished_flights (flight ∷ flights) = do
 unfoldable pub finished : Sketch → Result Parts Fault
 finished sketch = do
   flights ← finished_flights sketch.flights
-  Ok (record { day = sketch.day; places = sketch.places; flights = flights; tables = []; connections = [] })
+  Ok (record { day = sketch.day; places = sketch.places; flights = flights; tables = sketch.tables; connections = sketch.connections })

@@ -1,5 +1,5 @@
 -- The record `leg`.
-use Rattle.std.specs.Prelude.{ℕ, zero, suc, ◌+◌, ◌==◌, ◌&&◌, ◌||◌, not, Bool, true, false, List, [], ◌∷◌, ◌++◌, length, Option, Some, None, Result, Ok, Err, nat_le, slice_get, if◌then◌else◌}
+use Rattle.std.specs.Prelude.{ℕ, ◌+◌, ◌==◌, ◌&&◌, ◌||◌, not, Bool, true, false, List, [], ◌∷◌, ◌++◌, length, Option, Some, None, Result, Ok, Err, nat_le, slice_get, if◌then◌else◌}
 use Rattle.std.specs.List.{list_any}
 use Rattle.flow_types.specs.Routes.{is_sector}
 use Rattle.flow_types.specs.declared.fault.Cause.TheVariants.{BackLeg, Limit, Repeated, UnknownName, Unreached}
@@ -8,6 +8,7 @@ use Rattle.text_records.specs.Fields.{ends_after, name_in, number_in}
 use Rattle.text_records.specs.Flaws.{◌>>=◌, flaw_at}
 use Rattle.text_records.specs.Rows.{Fields}
 use Rattle.text_records.specs.declared.flaw.Flaw.{Flaw}
+use Rattle.scenario_reader.specs.Change.{changed_at}
 use Rattle.scenario_reader.specs.Names.{position_of}
 use Rattle.scenario_reader.specs.Sketch.{Sketch, flight_names, node_total, place_names}
 use Rattle.scenario_reader.specs.declared.begun.Begun.{Begun}
@@ -107,6 +108,4 @@ with_leg flight leg =
 
 -- the flights, the one at this position with one more leg
 abbrev pub with_leg_at : List Begun → ℕ → Hop → List Begun
-with_leg_at [] k leg = []
-with_leg_at (flight ∷ flights) zero leg = with_leg flight leg ∷ flights
-with_leg_at (flight ∷ flights) (suc k) leg = flight ∷ with_leg_at flights k leg
+with_leg_at flights k leg = changed_at (λ flight. with_leg flight leg) flights k

@@ -3,11 +3,16 @@ pub mod Kinds
 pub mod Dates
 pub mod Moments
 pub mod Sketch
+pub mod Change
 pub mod Places
 pub mod Flights
 pub mod Legs
+pub mod Connections
+pub mod Tables
+pub mod Capacities
 pub mod Finish
 pub mod Validity
 pub mod Reading
+pub mod FirstForm
 pub mod Drafts
 pub mod Seen

@@ -1,7 +1,7 @@
 -- Names that are known already, by their positions.
-use Rattle.std.specs.Prelude.{ℕ, List, length, Option, Result, Ok, Err, is_some, nat_le, position, if◌then◌else◌}
+use Rattle.std.specs.Prelude.{ℕ, List, length, Option, Some, None, Result, Ok, Err, is_some, nat_le, position, if◌then◌else◌}
 use Rattle.std.specs.Str.{bytes_eq}
-use Rattle.flow_types.specs.declared.fault.Cause.TheVariants.{Limit, Repeated}
+use Rattle.flow_types.specs.declared.fault.Cause.TheVariants.{Limit, Repeated, UnknownName}
 use Rattle.text_records.specs.Fields.{name_in}
 use Rattle.text_records.specs.Flaws.{◌>>=◌, flaw_at}
 use Rattle.text_records.specs.Rows.{Fields}
@@ -10,6 +10,16 @@ use Rattle.text_records.specs.declared.flaw.Flaw.{Flaw}
 -- where the name stands
 abbrev pub position_of : List ℕ → List (List ℕ) → Option ℕ
 position_of name names = position (bytes_eq name) names
+
+-- a name that is there, by its position
+abbrev pub known_at : ℕ → Option ℕ → Result ℕ Flaw
+known_at number None = Err (flaw_at number UnknownName)
+known_at number (Some k) = Ok k
+
+unfoldable pub known_in : ℕ → List (List ℕ) → Fields → Result ℕ Flaw
+known_in number names fields = do
+  name ← name_in fields number
+  known_at number (position_of name names)
 
 -- a name that isn't there yet, where there is room for one more
 unfoldable pub new_name : ℕ → List (List ℕ) → Fields → Result (List ℕ) Flaw

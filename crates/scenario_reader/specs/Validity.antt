@@ -1,14 +1,21 @@
 -- What holds of all that has been read, so that it becomes a valid scenario in the end.
-use Rattle.std.specs.Prelude.{◌≡◌, ◌≢◌, ℕ, ◌+◌, ◌<◌, ◌≤◌, ◌==◌, Bool, true, false, ◌&&◌, ◌||◌, List, [], ◌∷◌, length, map, max, nat_le, IsTrue, All, AllPairs, slice_get}
+use Rattle.std.specs.Prelude.{◌≡◌, ◌≢◌, ℕ, ◌+◌, ◌<◌, ◌≤◌, ◌==◌, Bool, true, false, ◌&&◌, ◌||◌, List, [], ◌∷◌, length, map, max, nat_le, IsTrue, Some, All, AllPairs, slice_get}
 use Rattle.std.specs.List.{list_any}
+use Rattle.flow_types.specs.Capacities.{has_kind}
 use Rattle.flow_types.specs.Routes.{is_airport, is_sector}
-use Rattle.flow_types.specs.Valid.{is_cost, IsDay, IsPlace}
+use Rattle.flow_types.specs.Valid.{is_cost, IsDay, IsOtherConnection, IsPlace, IsTable}
 use Rattle.flow_types.specs.Words.{is_name}
+use Rattle.flow_types.specs.declared.flight.Connection.{Connection}
+use Rattle.flow_types.specs.declared.flight.Cost.TheVariants.{Tables}
+use Rattle.flow_types.specs.declared.flight.CostTable.{CostTable}
 use Rattle.flow_types.specs.declared.place.Place.{Place}
+use Rattle.scenario_reader.specs.Connections.{meet}
 use Rattle.scenario_reader.specs.Finish.{node_of}
 use Rattle.scenario_reader.specs.Legs.{adds_node, is_among, is_back, is_full, is_joined, is_own}
 use Rattle.scenario_reader.specs.Sketch.{node_total, Sketch}
 use Rattle.scenario_reader.specs.declared.begun.Begun.{Begun}
+use Rattle.scenario_reader.specs.declared.capacities.CapChange.{CapChange}
+use Rattle.scenario_reader.specs.declared.tables.Pricing.{Pricing}
 use Rattle.scenario_reader.specs.declared.begun.Hop.{Hop}
 use Rattle.scenario_reader.specs.declared.begun.Hours.{Hours}
 
@@ -71,13 +78,13 @@ pub record IsNetwork (places : List Place) (flight : Begun) : Type 0 where
   pub next : next_start 1 (starts_of (visited flight) flight.legs) ≡ length flight.passed + 1
 
 -- a flight that can become a valid one
-pub record IsBegun (periods : ℕ) (places : List Place) (flight : Begun) : Type 0 where
+pub record IsBegun (periods : ℕ) (places : List Place) (tables : List CostTable) (flight : Begun) : Type 0 where
   pub name : IsTrue (is_name flight.name)
   pub hours : IsHours periods flight.hours
   pub origin : IsTrue (is_airport (slice_get places flight.from))
   pub destination : IsTrue (is_airport (slice_get places flight.to))
   pub apart : flight.from ≢ flight.to
-  pub cost : IsTrue (is_cost [] flight.hours.mg flight.hours.md flight.cost)
+  pub cost : IsTrue (is_cost tables flight.hours.mg flight.hours.md flight.cost)
   pub network : IsNetwork places flight
 
 -- a leg that a flight may have next
@@ -90,6 +97,24 @@ pub record IsNewLeg (places : List Place) (total : ℕ) (flight : Begun) (leg : 
   pub few : (adds_node flight leg.to && is_full total flight) ≡ false
   pub least : leg.least ≤ 511
 
+-- the second flight departs from where the first arrives
+pub record IsMeeting (flights : List Begun) (connection : Connection) : Type 0 where
+  pub together : IsTrue (meet flights connection.first connection.second)
+  pub turnaround : connection.turnaround ≤ 511
+
+-- a change that a place may have next
+pub record IsCapChange (periods : ℕ) (places : List Place) (change : CapChange) : Type 0 where
+  pub place : IsTrue (has_kind change.kind (slice_get places change.place))
+  pub forward : change.first ≤ change.last
+  pub within : change.last < periods
+  pub few : change.value ≤ 1000000
+
+-- tables that a flight may have
+pub record IsPricing (flights : List Begun) (tables : List CostTable) (pricing : Pricing) : Type 0 where
+  pub flight : pricing.flight < length flights
+  pub long : (flight : Begun) → slice_get flights pricing.flight ≡ Some flight
+      → IsTrue (is_cost tables flight.hours.mg flight.hours.md (Tables pricing.total pricing.credit))
+
 -- all that has been read keeps the rules
 pub record IsSketch (sketch : Sketch) : Type 0 where
   pub day : IsDay sketch.day
@@ -97,6 +122,12 @@ pub record IsSketch (sketch : Sketch) : Type 0 where
   pub places : All (IsPlace sketch.day.periods) sketch.places
   pub place_names : AllPairs (λ a b. a.name ≢ b.name) sketch.places
   pub flights_few : length sketch.flights ≤ 2000
-  pub flights : All (IsBegun sketch.day.periods sketch.places) sketch.flights
+  pub flights : All (IsBegun sketch.day.periods sketch.places sketch.tables) sketch.flights
   pub flight_names : AllPairs (λ a b. a.name ≢ b.name) sketch.flights
   pub nodes_few : node_total sketch.flights ≤ 20000
+  pub tables_few : length sketch.tables ≤ 1000
+  pub tables : All IsTable sketch.tables
+  pub table_names : AllPairs (λ a b. a.name ≢ b.name) sketch.tables
+  pub connections_few : length sketch.connections ≤ 4000
+  pub connections : All (IsMeeting sketch.flights) sketch.connections
+  pub connected_once : AllPairs IsOtherConnection sketch.connections

@@ -3,6 +3,7 @@ ghost use Rattle.std.specs.Prelude.{◌≡◌, ◌<◌, ◌≤◌, ◌++◌, ◌
 ghost use Rattle.scenario_reader.specs.Legs.{adds_node, is_among, is_back, is_joined, with_leg, with_leg_at};
 ghost use Rattle.scenario_reader.specs.Names.{position_of};
 ghost use Rattle.scenario_reader.specs.Sketch.{flight_names};
+ghost use Rattle.scenario_reader.specs.Tables.{with_cost_at};
 
 use crate::names::NameIndex;
 use flow_types::{Cost, Name, OutOfMemory, Sequence};
@@ -142,10 +143,7 @@ impl FlightBook {
     pub fn find(&self, name: &[u8]) -> Option<u32>
         ensures { result ≡ position_of name.now (flight_names self.now) }
     {
-        match self.index.find(name) {
-            Some(flight) => Some(flight as u32),
-            None => None,
-        }
+        self.index.find(name)
     }
 
     /// The book with one more flight, of a new name.
@@ -161,6 +159,16 @@ impl FlightBook {
         index.add(alloc, flight.name.items())?;
         flights.push(flight)?;
         Ok(FlightBook { flights, index })
+    }
+
+    /// The book with another cost of a flight. It takes no memory.
+    pub fn with_cost(self, flight: u32, cost: Cost) -> Self
+        requires { flight < length self }
+        ensures { result ≡ with_cost_at self flight cost }
+    {
+        let FlightBook { mut flights, index } = self;
+        flights[flight as usize].cost = cost;
+        FlightBook { flights, index }
     }
 
     /// The book with one more leg of a flight.

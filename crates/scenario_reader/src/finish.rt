@@ -133,13 +133,15 @@ pub fn finished(alloc: Global, draft: Draft) -> Result<Scenario, ReadError>
         day,
         places,
         flights: _,
+        tables,
+        connections,
         nodes: _,
     } = draft;
     Ok(Scenario::of_valid(Parts {
         day,
         places: places.into_places(),
         flights,
-        tables: Sequence::empty(alloc),
-        connections: Sequence::empty(alloc),
+        tables: tables.into_tables(),
+        connections,
     }))
 }

@@ -1,9 +1,10 @@
 //! The record `flight`.
-ghost use Rattle.std.specs.Prelude.{◌≡◌, ◌≢◌, ℕ, ◌+◌, ◌<◌, ◌≤◌, [], None, IfOk, OnOk, IsTrue, length, slice_get};
+ghost use Rattle.std.specs.Prelude.{◌≡◌, ◌≢◌, List, ℕ, ◌+◌, ◌<◌, ◌≤◌, [], None, IfOk, OnOk, IsTrue, length, slice_get};
 ghost use Rattle.csv.specs.Records.{fields_of};
 ghost use Rattle.flow_types.specs.Routes.{is_airport};
 ghost use Rattle.flow_types.specs.Valid.{is_cost};
 ghost use Rattle.flow_types.specs.Words.{is_name};
+ghost use Rattle.flow_types.specs.declared.flight.CostTable.{CostTable};
 ghost use Rattle.text_records.specs.Flaws.{Finds};
 ghost use Rattle.scenario_reader.specs.Flights.{airport_at, arrival_in, cost_in, destination_in, flight_name_of, hours_in, origin_in, other_airport_at};
 ghost use Rattle.scenario_reader.specs.Names.{position_of};
@@ -131,7 +132,7 @@ pub fn hours_in(periods: u16, row: &ByteRecord) -> Result<Hours, Flaw>
 #[tactic(auto, unfolding(crate::specs::Flights::cost_in))]
 pub fn cost_in(row: &ByteRecord) -> Result<Cost, Flaw>
     ensures found { Finds (λ cost. cost) result (cost_in (fields_of row.now)) }
-    ensures valid { IfOk result (λ cost. (mg md : ℕ) → IsTrue (is_cost [] mg md cost)) }
+    ensures valid { IfOk result (λ cost. (tables : List CostTable) (mg md : ℕ) → IsTrue (is_cost tables mg md cost)) }
 {
     let on_ground = number_at(row, 9, 0, 1_000_000)?;
     let airborne = number_at(row, 10, 0, 1_000_000)?;

@@ -10,6 +10,11 @@ pub enum Kind {
     Sector,
     Flight,
     Leg,
+    Connect,
+    Table,
+    Cost,
+    Cap,
+    Note,
 }
 
 /// The kind that a record's first field names.
@@ -26,6 +31,16 @@ pub fn kind_of(word: &[u8]) -> Option<Kind>
         Some(Kind::Flight)
     } else if word == b"leg".as_slice() {
         Some(Kind::Leg)
+    } else if word == b"connect".as_slice() {
+        Some(Kind::Connect)
+    } else if word == b"table".as_slice() {
+        Some(Kind::Table)
+    } else if word == b"cost".as_slice() {
+        Some(Kind::Cost)
+    } else if word == b"cap".as_slice() {
+        Some(Kind::Cap)
+    } else if word == b"note".as_slice() {
+        Some(Kind::Note)
     } else {
         None
     }

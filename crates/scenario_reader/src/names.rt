@@ -1,9 +1,9 @@
 //! Names by their positions.
-ghost use Rattle.std.specs.Prelude.{◌≡◌, ◌<◌, ◌++◌, ◌∷◌, [], None, IfOk, IfSome, OnOk, OnErr, IsTrue, length};
+ghost use Rattle.std.specs.Prelude.{◌≡◌, ◌<◌, ◌≤◌, ◌-◌, ◌^◌, ◌++◌, ◌∷◌, [], None, IfOk, IfSome, OnOk, OnErr, IsTrue, length};
 ghost use Rattle.csv.specs.Records.{fields_of};
 ghost use Rattle.flow_types.specs.Words.{is_name};
 ghost use Rattle.text_records.specs.Flaws.{Finds};
-ghost use Rattle.scenario_reader.specs.Names.{new_name, position_of};
+ghost use Rattle.scenario_reader.specs.Names.{known_at, known_in, new_name, position_of};
 
 use csv::ByteRecord;
 use flow_types::{Cause, OutOfMemory};
@@ -19,11 +19,13 @@ pub struct NameIndex {
 }
 
 impl Model for NameIndex {
-    ghost use Rattle.std.specs.Prelude.{ℕ, List, map};
+    ghost use Rattle.std.specs.Prelude.{ℕ, ◌<◌, ◌^◌, List, length, map};
 
     ghost Value = { List (List ℕ) };
 
     ghost view = { λ index. map (λ name. name.items) index.names.keys };
+
+    ghost invariant = { λ index. length index.names.keys < 2 ^ 32 };
 }
 
 impl NameIndex {
@@ -44,16 +46,20 @@ impl NameIndex {
     }
 
     /// The position of the name.
-    pub fn find(&self, name: &[u8]) -> Option<usize>
+    pub fn find(&self, name: &[u8]) -> Option<u32>
         ensures position { result ≡ position_of name.now self.now }
         ensures within { IfSome result (λ k. k < length self.now) }
     {
-        self.names.get_index_of(name)
+        match self.names.get_index_of(name) {
+            Some(k) => Some(k as u32),
+            None => None,
+        }
     }
 
     /// Adds a name at the end.
     pub fn add(&mut self, alloc: Global, name: &[u8]) -> Result<(), OutOfMemory>
-        requires { position_of name.now self.old ≡ None }
+        requires fresh { position_of name.now self.old ≡ None }
+        requires room { length self.old < 2 ^ 32 - 1 }
         ensures ok { OnOk result (self.new ≡ self.old ++ name.now ∷ []) }
         ensures err { OnErr result (self.new ≡ self.old) }
     {
@@ -61,6 +67,26 @@ impl NameIndex {
         self.names.insert_full(name)?;
         Ok(())
     }
+}
+
+// The position, of a name that is there.
+fn known_at(number: u32, position: Option<u32>) -> Result<u32, Flaw>
+    ensures { Finds (λ k. k) result (known_at number position) }
+{
+    position.ok_or(Flaw {
+        field: number,
+        cause: Cause::UnknownName,
+    })
+}
+
+/// The position of the name in the field of this number, which has to be one of these.
+#[tactic(auto, unfolding(crate::specs::Names::known_in))]
+pub fn known_in(number: u32, names: &NameIndex, row: &ByteRecord) -> Result<u32, Flaw>
+    requires { 1 ≤ number }
+    ensures { Finds (λ k. k) result (known_in number names.now (fields_of row.now)) }
+{
+    let name = name_at(row, number)?;
+    known_at(number, names.find(name))
 }
 
 /// The name in field 2, which isn't among these yet, and of which there may be so many.

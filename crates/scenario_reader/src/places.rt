@@ -4,14 +4,18 @@ ghost use Rattle.csv.specs.Records.{fields_of};
 ghost use Rattle.flow_types.specs.Routes.{is_airport, is_sector};
 ghost use Rattle.flow_types.specs.Valid.{IsDay, IsPlace};
 ghost use Rattle.text_records.specs.Flaws.{Finds, Gives};
+ghost use Rattle.scenario_reader.specs.Capacities.{Reaches, with_change};
+ghost use Rattle.scenario_reader.specs.Change.{changed_at};
 ghost use Rattle.scenario_reader.specs.Names.{position_of};
 ghost use Rattle.scenario_reader.specs.Places.{airport_of, day_of, sector_of};
 ghost use Rattle.scenario_reader.specs.Sketch.{place_names};
+ghost use Rattle.flow_types.specs.declared.place.Place.{Place};
 
+use crate::capacities::CapChange;
 use crate::date::moment_of;
 use crate::names::{NameIndex, new_name};
 use csv::ByteRecord;
-use flow_types::{Caps, Day, OutOfMemory, Place, PlaceKind, Places, Sequence};
+use flow_types::{CapKind, Caps, Day, OutOfMemory, Place, PlaceKind, Places, Sequence};
 use std::alloc::{AllocError, Global};
 use std::marker::Model;
 use text_records::{Flaw, Trouble, end_after, field_at, number_at};
@@ -19,7 +23,7 @@ use text_records::{Flaw, Trouble, end_after, field_at, number_at};
 /// The places so far, found by their names. Contracts see it as the list.
 #[derive(Drop)]
 pub struct PlaceBook {
-    places: Places,
+    places: Vec<Place>,
     index: NameIndex,
 }
 
@@ -30,9 +34,9 @@ impl Model for PlaceBook {
 
     ghost Value = { List Place };
 
-    ghost view = { λ book. book.places };
+    ghost view = { λ book. book.places.items };
 
-    ghost invariant = { λ book. (book.index ≡ place_names book.places) × (length book.places ≤ 1000) };
+    ghost invariant = { λ book. (book.index ≡ place_names book.places.items) × (length book.places.items ≤ 1000) };
 }
 
 impl PlaceBook {
@@ -41,7 +45,7 @@ impl PlaceBook {
         ensures { result ≡ [] }
     {
         PlaceBook {
-            places: Sequence::empty(alloc),
+            places: Vec::new(alloc),
             index: NameIndex::empty(alloc),
         }
     }
@@ -50,7 +54,7 @@ impl PlaceBook {
     pub fn places(&self) -> &[Place]
         ensures { result.now ≡ self.now }
     {
-        self.places.items()
+        &self.places
     }
 
     /// The names of the places.
@@ -64,10 +68,7 @@ impl PlaceBook {
     pub fn find(&self, name: &[u8]) -> Option<u32>
         ensures { result ≡ position_of name.now (place_names self.now) }
     {
-        match self.index.find(name) {
-            Some(place) => Some(place as u32),
-            None => None,
-        }
+        self.index.find(name)
     }
 
     /// The book with one more place, of a new name.
@@ -81,8 +82,19 @@ impl PlaceBook {
             mut index,
         } = self;
         index.add(alloc, place.name.items())?;
-        places.add(place)?;
+        places.push(place)?;
         Ok(PlaceBook { places, index })
+    }
+
+    /// The book with a change of a place's capacities. It takes no memory.
+    pub fn with_change(self, change: CapChange) -> Self
+        requires here { change.place < length self }
+        requires within { (place : Place) → slice_get self change.place ≡ Some place → Reaches change place }
+        ensures { result ≡ changed_at (with_change change) self change.place }
+    {
+        let PlaceBook { mut places, index } = self;
+        change_place(&mut places[change.place as usize], change);
+        PlaceBook { places, index }
     }
 
     /// The places alone.
@@ -90,7 +102,20 @@ impl PlaceBook {
         ensures { result ≡ self }
     {
         let PlaceBook { places, index: _ } = self;
-        places
+        Sequence::from_vec(places)
+    }
+}
+
+// Changes the capacities of a place.
+fn change_place(place: &mut Place, change: CapChange)
+    requires { Reaches change place.old }
+    ensures { place.new ≡ with_change change place.old }
+{
+    let from = change.first as usize;
+    let count = (change.last - change.first) as usize + 1;
+    match change.kind {
+        CapKind::Arr => place.second.fill(from, count, change.value),
+        CapKind::Dep | CapKind::Sector => place.first.fill(from, count, change.value),
     }
 }
 

@@ -5,7 +5,7 @@ ghost use Rattle.text_records.specs.Flaws.{Finds, Gives};
 ghost use Rattle.scenario_reader.specs.Flights.{flight_of};
 ghost use Rattle.scenario_reader.specs.Legs.{leg_in};
 ghost use Rattle.scenario_reader.specs.Names.{position_of};
-ghost use Rattle.scenario_reader.specs.Reading.{airport_step, day_by_kind, first_step, flight_step, leg_step, record_step, sector_step, step_of};
+ghost use Rattle.scenario_reader.specs.Reading.{airport_step, cap_step, connect_step, cost_step, day_by_kind, first_step, flight_step, leg_step, record_step, sector_step, step_of, table_step};
 ghost use Rattle.scenario_reader.specs.Seen.{sketch_of};
 ghost use Rattle.scenario_reader.specs.Sketch.{flight_names};
 ghost use Rattle.scenario_reader.specs.Validity.{IsBegun, IsNewLeg};
@@ -13,11 +13,14 @@ ghost use Rattle.flow_types.specs.Valid.{IsDay};
 ghost use Rattle.scenario_reader.specs.declared.begun.Begun.{Begun as TheBegun};
 
 use crate::begun::{Begun, Hop};
+use crate::capacities::cap_change_of;
+use crate::connections::connection_of;
 use crate::draft::Draft;
 use crate::flights::{cost_in, destination_in, flight_name_of, hours_in, origin_in};
 use crate::kind::{Kind, kind_of};
 use crate::legs::{flight_in, leg_of};
 use crate::places::{airport_of, day_of, sector_of};
+use crate::tables::{pricing_of, table_of};
 use csv::ByteRecord;
 use flow_types::{Cause, Day, Sequence};
 use std::alloc::Global;
@@ -27,7 +30,7 @@ use text_records::{Flaw, Trouble, field_at};
 #[tactic(auto, unfolding(crate::specs::Flights::flight_of))]
 fn flight_of(alloc: Global, draft: &Draft, at: u32, row: &ByteRecord) -> Result<Begun, Trouble>
     ensures found { Gives (λ flight. flight) result (flight_of (sketch_of draft.now) at (fields_of row.now)) }
-    ensures valid { IfOk result (IsBegun draft.now.day.periods draft.now.places) }
+    ensures valid { IfOk result (IsBegun draft.now.day.periods draft.now.places draft.now.tables) }
     ensures fresh { IfOk result (λ flight. position_of flight.name (flight_names draft.now.flights) ≡ None) }
     ensures empty { IfOk result (λ flight. flight.reached ≡ []) }
     ensures room { OnOk result (length draft.now.flights < 2000) }
@@ -95,6 +98,38 @@ fn leg_step(draft: Draft, row: &ByteRecord) -> Result<Draft, Trouble>
     Ok(draft.with_leg(flight, leg)?)
 }
 
+#[tactic(auto, unfolding(crate::specs::Reading::connect_step))]
+fn connect_step(draft: Draft, row: &ByteRecord) -> Result<Draft, Trouble>
+    ensures { Gives sketch_of result (connect_step (sketch_of draft) (fields_of row.now)) }
+{
+    let connection = connection_of(&draft.flights, draft.connections.items(), row)?;
+    Ok(draft.with_connection(connection)?)
+}
+
+#[tactic(auto, unfolding(crate::specs::Reading::table_step))]
+fn table_step(alloc: Global, draft: Draft, row: &ByteRecord) -> Result<Draft, Trouble>
+    ensures { Gives sketch_of result (table_step (sketch_of draft) (fields_of row.now)) }
+{
+    let table = table_of(alloc, draft.tables.names(), row)?;
+    Ok(draft.with_table(alloc, table)?)
+}
+
+#[tactic(auto, unfolding(crate::specs::Reading::cost_step))]
+fn cost_step(draft: Draft, row: &ByteRecord) -> Result<Draft, Flaw>
+    ensures { Finds sketch_of result (cost_step (sketch_of draft) (fields_of row.now)) }
+{
+    let pricing = pricing_of(&draft.flights, &draft.tables, row)?;
+    Ok(draft.with_pricing(pricing))
+}
+
+#[tactic(auto, unfolding(crate::specs::Reading::cap_step))]
+fn cap_step(draft: Draft, row: &ByteRecord) -> Result<Draft, Flaw>
+    ensures { Finds sketch_of result (cap_step (sketch_of draft) (fields_of row.now)) }
+{
+    let change = cap_change_of(draft.day.periods, &draft.places, row)?;
+    Ok(draft.with_cap_change(change))
+}
+
 fn flaw_of_kind(cause: Cause) -> Trouble
     ensures { result ≡ Trouble.Flaw (record { field = 1; cause = cause }) }
 {
@@ -118,6 +153,11 @@ fn step_of(
         Some(Kind::Sector) => sector_step(alloc, draft, row),
         Some(Kind::Flight) => flight_step(alloc, draft, at, row),
         Some(Kind::Leg) => leg_step(draft, row),
+        Some(Kind::Connect) => connect_step(draft, row),
+        Some(Kind::Table) => table_step(alloc, draft, row),
+        Some(Kind::Cost) => Ok(cost_step(draft, row)?),
+        Some(Kind::Cap) => Ok(cap_step(draft, row)?),
+        Some(Kind::Note) => Ok(draft),
     }
 }
 

@@ -41,7 +41,7 @@ long_name bytes h =
     by true = refl
     by false = refl
 
-long_number : (bytes : List ℕ) → 32 < length bytes → number_of bytes ≡ None
+pub long_number : (bytes : List ℕ) → 18 < length bytes → number_of bytes ≡ None
 long_number bytes h =
     let longer : nat_le (length bytes) 18 ≡ false = lt-leb (length bytes) 18 (omega arith) in
     rw longer (by (nat_le 1 (length bytes)))
@@ -54,7 +54,7 @@ pub same_name : (bytes : List ℕ) → is_name (take 33 bytes) ≡ is_name bytes
 same_name = same_of is_name false long_name
 
 pub same_number : (bytes : List ℕ) → number_of (take 33 bytes) ≡ number_of bytes
-same_number = same_of number_of None long_number
+same_number = same_of number_of None (λ bytes h. long_number bytes (omega arith))
 
 -- a name is kept whole
 pub whole_name : (bytes : List ℕ) → is_name bytes ≡ true → take 33 bytes ≡ bytes

@@ -6,5 +6,5 @@ finished_flights-requires c = rw c.flights.ensures (passed_within _ c.args.draft
 
 pub of_valid-requires : goal.of_valid-requires
 of_valid-requires c =
-    rw (c.into_places.ensures, c.empty.ensures, c.empty-2.ensures)
+    rw (c.into_places.ensures, c.into_tables.ensures)
     (scenario_is _ _ c.args.draft.valid.sketch (rw c.flights.ensures at c.in_ok-flights.ensures))

@@ -19,4 +19,4 @@ invariant_of-result c =
       | then-adds w ↦ counted _ _ _ true (sym c.adds_node-adds.ensures ∙ w.if-adds.true) w.result-is
       | else-adds w ↦ counted _ _ _ false (sym c.adds_node-adds.ensures ∙ w.if-adds.false) (w.result-is ∙ sym (add-zero c.args.self.nodes))
     ] in
-    record { valid = draft_with_leg _ _ _ _ _ _ _ _ flight c.args.self.valid here (c.requires.valid flight here) c.in_ok-flights.ensures total }
+    record { valid = draft_with_leg _ _ _ _ _ _ _ _ _ _ flight c.args.self.valid here (c.requires.valid flight here) c.in_ok-flights.ensures total }

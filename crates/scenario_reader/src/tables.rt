@@ -1,0 +1,265 @@
+//! The records `table` and `cost`.
+ghost use Rattle.std.specs.Prelude.{◌≡◌, ◌≤◌, ◌<◌, ◌+◌, None, Some, All, IfOk, OnOk, drop, length, slice_get};
+ghost use Rattle.csv.specs.Records.{fields_of};
+ghost use Rattle.flow_types.specs.Valid.{IsTable, IsValue, value_count};
+ghost use Rattle.text_records.specs.Flaws.{Finds, Gives};
+ghost use Rattle.scenario_reader.specs.Names.{position_of};
+ghost use Rattle.scenario_reader.specs.Sketch.{table_names};
+ghost use Rattle.scenario_reader.specs.Tables.{has_tables, pricing_of, signed, table_in, table_of, untabled_at, untabled_in, value_at, value_in, value_of, values_from};
+ghost use Rattle.scenario_reader.specs.Validity.{IsPricing};
+
+use crate::begun::{Begun, FlightBook};
+use crate::names::{NameIndex, known_in, new_name};
+use csv::ByteRecord;
+use flow_types::{Cause, Cost, CostTable, OutOfMemory, Sequence, Tables, Values, parse_number};
+use std::alloc::Global;
+use std::marker::Model;
+use text_records::{Flaw, Trouble, end_after, field_at};
+
+/// The tables so far, found by their names. Contracts see it as the list.
+#[derive(Drop)]
+pub struct TableBook {
+    tables: Tables,
+    index: NameIndex,
+}
+
+impl Model for TableBook {
+    ghost use Rattle.std.specs.Prelude.{◌≡◌, ◌≤◌, List, length};
+    ghost use Rattle.flow_types.specs.declared.flight.CostTable.{CostTable};
+    ghost use Rattle.scenario_reader.specs.Sketch.{table_names};
+
+    ghost Value = { List CostTable };
+
+    ghost view = { λ book. book.tables };
+
+    ghost invariant = { λ book. (book.index ≡ table_names book.tables) × (length book.tables ≤ 1000) };
+}
+
+impl TableBook {
+    ghost use Rattle.std.specs.Prelude.{◌++◌, ◌∷◌, []};
+
+    /// No tables. It takes no memory.
+    pub fn empty(alloc: Global) -> Self
+        ensures { result ≡ [] }
+    {
+        TableBook {
+            tables: Sequence::empty(alloc),
+            index: NameIndex::empty(alloc),
+        }
+    }
+
+    /// The tables.
+    pub fn tables(&self) -> &[CostTable]
+        ensures { result.now ≡ self.now }
+    {
+        self.tables.items()
+    }
+
+    /// The names of the tables.
+    pub fn names(&self) -> &NameIndex
+        ensures { result.now ≡ table_names self.now }
+    {
+        &self.index
+    }
+
+    /// The book with one more table, of a new name.
+    pub fn with_table(self, alloc: Global, table: CostTable) -> Result<Self, OutOfMemory>
+        requires fresh { position_of table.name (table_names self) ≡ None }
+        requires room { length self < 1000 }
+        ensures { IfOk result (λ book. book ≡ self ++ table ∷ []) }
+    {
+        let TableBook {
+            mut tables,
+            mut index,
+        } = self;
+        index.add(alloc, table.name.items())?;
+        tables.add(table)?;
+        Ok(TableBook { tables, index })
+    }
+
+    /// The tables alone.
+    pub fn into_tables(self) -> Tables
+        ensures { result ≡ self }
+    {
+        let TableBook { tables, index: _ } = self;
+        tables
+    }
+}
+
+/// The tables of a flight. It and they are named by their positions.
+#[derive(Clone, Copy, Debug, PartialEq, Eq)]
+pub struct Pricing {
+    pub flight: u32,
+    pub total: u32,
+    pub credit: u32,
+}
+
+// The number with its sign.
+fn signed(negative: bool, n: u64) -> i64
+    requires { n ≤ 1000000000 }
+    ensures value { result ≡ signed negative n }
+    ensures valid { IsValue result }
+{
+    if negative { -(n as i64) } else { n as i64 }
+}
+
+// The number with its sign, which has to be within its limits.
+fn value_at(number: u32, negative: bool, size: Option<u64>) -> Result<i64, Flaw>
+    ensures found { Finds (λ value. value) result (value_at number negative size) }
+    ensures valid { IfOk result IsValue }
+{
+    match size {
+        Some(n) if n <= 1_000_000_000 => Ok(signed(negative, n)),
+        Some(_) => Err(Flaw {
+            field: number,
+            cause: Cause::OutOfRange,
+        }),
+        None => Err(Flaw {
+            field: number,
+            cause: Cause::BadNumber,
+        }),
+    }
+}
+
+// The value that the bytes of a field spell.
+fn value_of(number: u32, bytes: &[u8]) -> Result<i64, Flaw>
+    ensures found { Finds (λ value. value) result (value_of number bytes.now) }
+    ensures valid { IfOk result IsValue }
+{
+    match bytes.split_first() {
+        Some((b'-', digits)) => value_at(number, true, parse_number(digits)),
+        _ => value_at(number, false, parse_number(bytes)),
+    }
+}
+
+// The value in the field of this number, of which the last may be the 514th.
+fn value_in(number: u32, bytes: &[u8]) -> Result<i64, Flaw>
+    ensures found { Finds (λ value. value) result (value_in number bytes.now) }
+    ensures valid { IfOk result IsValue }
+    ensures within { OnOk result (number ≤ 514) }
+{
+    if number > 514 {
+        return Err(Flaw {
+            field: number,
+            cause: Cause::ExtraField,
+        });
+    }
+    value_of(number, bytes)
+}
+
+// The values in the fields from the third on.
+fn values_in(alloc: Global, row: &ByteRecord) -> Result<Values, Trouble>
+    ensures found { Gives (λ values. values) result (values_from 3 (drop 2 (fields_of row.now))) }
+    ensures valid { IfOk result (λ values. All IsValue values) }
+    ensures few { IfOk result (λ values. length values ≤ 512) }
+    ensures many { IfOk result (λ values. length (fields_of row.now) ≤ length values + 2) }
+{
+    let mut values = Sequence::empty(alloc);
+    for at in 2..row.len().min(515) {
+        let number = at as u32 + 1;
+        values.add(value_in(number, field_at(row, number)?)?)?;
+    }
+    Ok(values)
+}
+
+/// The table that a `table` record tells.
+#[tactic(auto, unfolding(crate::specs::Tables::table_of))]
+pub fn table_of(alloc: Global, names: &NameIndex, row: &ByteRecord) -> Result<CostTable, Trouble>
+    ensures found { Gives (λ table. table) result (table_of names.now (fields_of row.now)) }
+    ensures valid { IfOk result IsTable }
+    ensures fresh { IfOk result (λ table. position_of table.name names.now ≡ None) }
+    ensures room { OnOk result (length names.now < 1000) }
+{
+    let name = new_name(1000, names, row)?;
+    field_at(row, 3)?;
+    let values = values_in(alloc, row)?;
+    Ok(CostTable {
+        name: Sequence::from_vec(Vec::from_slice(alloc, name)?),
+        values,
+    })
+}
+
+// Whether the cost is told by tables.
+fn has_tables(cost: Cost) -> bool
+    ensures { result ≡ has_tables cost }
+{
+    match cost {
+        Cost::Linear { .. } => false,
+        Cost::Tables { .. } => true,
+    }
+}
+
+// The flight, with its position, which has no tables yet.
+fn untabled_at(flights: &[Begun], k: u32) -> Result<(u32, &Begun), Flaw>
+    ensures found { Finds (λ found. (found.0, found.1.now)) result (untabled_at k (slice_get flights.now k)) }
+    ensures here { IfOk result (λ found. slice_get flights.now found.0 ≡ Some found.1.now) }
+{
+    match flights.get(k as usize) {
+        Some(flight) if has_tables(flight.cost) => Err(Flaw {
+            field: 2,
+            cause: Cause::Repeated,
+        }),
+        Some(flight) => Ok((k, flight)),
+        None => Err(Flaw {
+            field: 2,
+            cause: Cause::UnknownName,
+        }),
+    }
+}
+
+#[tactic(auto, unfolding(crate::specs::Tables::untabled_in))]
+fn untabled_in<'a>(book: &'a FlightBook, row: &ByteRecord) -> Result<(u32, &'a Begun), Flaw>
+    ensures found { Finds (λ found. (found.0, found.1.now)) result (untabled_in book.now (fields_of row.now)) }
+    ensures here { IfOk result (λ found. slice_get book.now found.0 ≡ Some found.1.now) }
+{
+    let k = known_in(2, book.names(), row)?;
+    untabled_at(book.flights(), k)
+}
+
+// How many values the table has.
+fn value_count(tables: &[CostTable], table: u32) -> usize
+    ensures { result ≡ value_count (slice_get tables.now table) }
+{
+    match tables.get(table as usize) {
+        Some(table) => table.values.items().len(),
+        None => 0,
+    }
+}
+
+// The table, which has so many values at the least.
+#[tactic(auto, unfolding(crate::specs::Tables::table_in))]
+fn table_in(number: u32, least: usize, book: &TableBook, row: &ByteRecord) -> Result<u32, Flaw>
+    requires { 1 ≤ number }
+    ensures found { Finds (λ table. table) result (table_in number least book.now (fields_of row.now)) }
+    ensures long { IfOk result (λ table. least ≤ value_count (slice_get book.now table)) }
+{
+    let table = known_in(number, book.names(), row)?;
+    if value_count(book.tables(), table) < least {
+        return Err(Flaw {
+            field: number,
+            cause: Cause::ShortTable,
+        });
+    }
+    Ok(table)
+}
+
+/// The tables that a `cost` record tells of its flight.
+#[tactic(auto, unfolding(crate::specs::Tables::pricing_of))]
+pub fn pricing_of(
+    flights: &FlightBook,
+    tables: &TableBook,
+    row: &ByteRecord,
+) -> Result<Pricing, Flaw>
+    ensures found { Finds (λ pricing. pricing) result (pricing_of flights.now tables.now (fields_of row.now)) }
+    ensures valid { IfOk result (IsPricing flights.now tables.now) }
+{
+    let (k, flight) = untabled_in(flights, row)?;
+    let total = table_in(3, flight.hours.md as usize + 1, tables, row)?;
+    let credit = table_in(4, flight.hours.mg as usize + 1, tables, row)?;
+    end_after(row, 4)?;
+    Ok(Pricing {
+        flight: k,
+        total,
+        credit,
+    })
+}
