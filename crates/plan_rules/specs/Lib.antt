@@ -1,3 +1,4 @@
 pub mod Table
 pub mod Loads
+pub mod FirstBroken
 pub mod Judge
