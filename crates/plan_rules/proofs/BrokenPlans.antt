@@ -1,5 +1,5 @@
 -- A plan breaks no rule exactly where it is feasible; and its loads break the rules that it breaks.
-use Rattle.std.proofs.Common.{◌≡◌, ◌≢◌, ◌⊎◌, ◌↔◌, ℕ, ◌+◌, ◌<◌, ◌≤◌, Bool, true, false, ◌==◌, nat_le, List, [], length, get_or, slice_get, Option, Some, None, option_and_then, All, AllPairs, IsTrue, refl, sym, ap, ◌∙◌, subst, inl, inr, cond, arith}
+use Rattle.std.proofs.Common.{◌≡◌, ◌⊎◌, ℕ, ◌+◌, ◌<◌, ◌≤◌, Bool, true, false, ◌==◌, nat_le, List, [], length, get_or, slice_get, Option, Some, None, option_and_then, All, AllPairs, IsTrue, refl, sym, ap, ◌∙◌, subst, inl, inr, cond, arith}
 use Rattle.std.proofs.lemmas.Bool.{cases_lt}
 use Rattle.std.proofs.lemmas.Bool.Decides.{nat_tests}
 use Rattle.std.proofs.lemmas.Option.{slice_get-get_or, slice_get_within}
@@ -179,7 +179,11 @@ module _ (parts : Parts) (plan : List (List Stop)) (loads : Loads) (valid : IsSc
   loads_break =
       let number = number_to (length plan) (length parts.flights) (AreTrips-length parts.day.periods parts.flights plan trips) in
       let each = plan_trips_to parts plan valid trips in
-      rw (number, each, first_along-same _ (broken_turn (arrival_in plan) (departure_in plan)) parts.connections turn_same,
-      over_same parts kind.Dep (load_at loads kind.Dep) (departures_at parts.flights plan) are.departures,
-      over_same parts kind.Arr (load_at loads kind.Arr) (arrivals_at parts.flights plan) are.arrivals,
-      over_same parts kind.Sector (load_at loads kind.Sector) (occupancy_at parts.flights plan) are.sectors)
+      rw (
+        number,
+        each,
+        first_along-same _ (broken_turn (arrival_in plan) (departure_in plan)) parts.connections turn_same,
+        over_same parts kind.Dep (load_at loads kind.Dep) (departures_at parts.flights plan) are.departures,
+        over_same parts kind.Arr (load_at loads kind.Arr) (arrivals_at parts.flights plan) are.arrivals,
+        over_same parts kind.Sector (load_at loads kind.Sector) (occupancy_at parts.flights plan) are.sectors,
+      )

@@ -1,5 +1,5 @@
 -- A trip breaks no rule exactly where it is a trip.
-use Rattle.std.proofs.Common.{◌≡◌, ℕ, suc, zero, ◌+◌, ◌<◌, ◌≤◌, ◌==◌, Bool, true, false, ◌&&◌, cond, nat_le, List, [], ◌∷◌, length, get_or, slice_get, slice_index_or, Some, None, All, AllPairs, refl, sym, ap, ◌∙◌, subst, arith}
+use Rattle.std.proofs.Common.{◌≡◌, ℕ, suc, zero, ◌+◌, ◌<◌, ◌≤◌, ◌==◌, Bool, true, false, ◌&&◌, cond, nat_le, List, [], ◌∷◌, length, get_or, slice_get, Some, None, All, AllPairs, refl, sym, ap, ◌∙◌, subst, arith}
 use Rattle.std.proofs.lemmas.Bool.Decides.{nat_tests}
 use Rattle.std.proofs.lemmas.List.{get_or_read}
 use Rattle.flow_types.specs.declared.flight.Flight.{Flight}
@@ -7,7 +7,7 @@ use Rattle.flow_types.specs.declared.flight.Leg.{Leg}
 use Rattle.flow_types.specs.declared.plan.Stop.{Stop}
 use Rattle.flow_types.specs.Feasible.{AreTrips}
 use Rattle.flow_types.specs.Routes.{IsOtherLeg}
-use Rattle.flow_types.specs.Trips.{IsLegBetween, IsOnward, IsStep, IsTrip, IsWithinHours, earliest_of, latest_of}
+use Rattle.flow_types.specs.Trips.{IsOnward, IsStep, IsTrip, IsWithinHours, earliest_of, latest_of}
 use Rattle.plan_rules.specs.FirstBroken.{broken_onward, broken_step, broken_trip, broken_trip_in, broken_window, first_along, is_within_hours, leg_between, unless}
 use Rattle.plan_rules.specs.Judge.{IsUpward}
 use Rattle.plan_rules.specs.declared.broken.Broken.TheVariants as broken

@@ -1,12 +1,12 @@
 -- One capacity, read from a load and a place.
-use Rattle.std.proofs.Common.{◌≡◌, ℕ, ◌<◌, true, false, nat_le, length, get_or, slice_get, Some, None, Option, refl, sym, ap, ◌∙◌, arith}
+use Rattle.std.proofs.Common.{◌≡◌, ℕ, ◌<◌, true, false, nat_le, slice_get, Some, None, arith}
 use Rattle.std.proofs.lemmas.Bool.Decides.{nat_tests}
 use Rattle.flow_types.specs.declared.parts.Parts.{Parts}
 use Rattle.flow_types.specs.declared.place.CapKind.{CapKind}
 use Rattle.flow_types.specs.Capacities.{capacity_of, has_kind}
 use Rattle.plan_rules.specs.FirstBroken.{broken_capacity, first_below, first_over_in, over}
 use Rattle.plan_rules.specs.declared.broken.Broken.{Broken}
-use Rattle.plan_rules.proofs.FirstFacts.{first_below-found, first_below-next, unless_false, unless_true}
+use Rattle.plan_rules.proofs.FirstFacts.{unless_false, unless_true}
 
 -- more than the capacity, or no more
 pub capacity_over : (parts : Parts) (kind : CapKind) (load : ℕ → ℕ → ℕ) (place t n c : ℕ) (rule : Broken) → n ≡ load place t → c ≡ capacity_of parts.places kind place t → c < n

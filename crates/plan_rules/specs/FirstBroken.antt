@@ -9,7 +9,6 @@ use Rattle.flow_types.specs.declared.flight.Leg.{Leg}
 use Rattle.flow_types.specs.declared.parts.Parts.{Parts}
 use Rattle.flow_types.specs.declared.place.CapKind.{CapKind}
 use Rattle.flow_types.specs.declared.place.CapKind.TheVariants as kind
-use Rattle.flow_types.specs.declared.place.Place.{Place}
 use Rattle.flow_types.specs.declared.plan.Stop.{Stop}
 use Rattle.flow_types.specs.Capacities.{capacity_of, has_kind}
 use Rattle.flow_types.specs.Counts.{arrivals_at, departures_at, occupancy_at}

@@ -137,8 +137,8 @@ pub enum Verdict {
 }
 
 /// Whether the plan keeps every rule of the scenario, with its cost, or the first rule that it breaks,
-/// in the order of `Broken`. Any plan is judged, also one with stops at nodes that a flight hasn't: no
-/// leg leads there. The loads were made for the scenario. After `Keeps` they are the plan's; after `Breaks` they
+/// in the order that `Broken` says. Every plan is judged: no leg leads to a node that a flight hasn't.
+/// The loads were made for the scenario. After `Keeps` they are the plan's; after `Breaks` they
 /// hold no trips. It takes no memory.
 pub fn judge(loads: &mut Loads, s: &Scenario, plan: &Plan) -> Verdict
     requires { IsMadeFor (parts_of s.now) loads.old }

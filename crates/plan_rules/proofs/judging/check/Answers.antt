@@ -1,6 +1,4 @@
-use Rattle.std.proofs.Common.{◌≡◌, List, Option, sym, subst}
-use Rattle.flow_types.specs.declared.plan.Stop.{Stop}
-use Rattle.flow_types.specs.Feasible.{AreTrips}
+use Rattle.std.proofs.Common.{Option, subst}
 use Rattle.flow_types.specs.Scenario.{parts_of}
 use Rattle.plan_rules.specs.FirstBroken.{Finds}
 use Rattle.plan_rules.specs.declared.broken.Broken.{Broken}

@@ -1,4 +1,4 @@
-use Rattle.std.proofs.Common.{◌≡◌, ◌∙◌, true, Some, length, slice_get, ap, refl, sym, arith}
+use Rattle.std.proofs.Common.{◌≡◌, ◌∙◌, true, Some, length, slice_get, ap, refl, arith}
 use Rattle.std.proofs.lemmas.Option.{slice_get_read}
 use Rattle.flow_types.specs.declared.day.Day.{Day}
 use Rattle.flow_types.specs.Capacities.{has_kind}

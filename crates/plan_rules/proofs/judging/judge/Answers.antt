@@ -1,4 +1,4 @@
-use Rattle.std.proofs.Common.{◌≡◌, Some, None, ◌∙◌, sym}
+use Rattle.std.proofs.Common.{◌≡◌, Some}
 use Rattle.flow_types.specs.Scenario.{parts_of}
 use Rattle.plan_rules.specs.FirstBroken.{first_broken}
 use Rattle.plan_rules.proofs.BrokenPlans.{feasible_from, feasible_to}

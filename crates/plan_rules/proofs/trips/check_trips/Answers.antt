@@ -1,7 +1,5 @@
-use Rattle.std.proofs.Common.{◌∙◌, ap, sym, length, arith}
+use Rattle.std.proofs.Common.{◌∙◌, length, arith}
 use Rattle.std.proofs.lemmas.Result.{err_from_is_err_and}
-use Rattle.flow_types.specs.declared.flight.Leg.{Leg}
-use Rattle.flow_types.specs.Scenario.{parts_of}
 use Rattle.plan_rules.specs.FirstBroken.{broken_trip_in}
 use Rattle.plan_rules.proofs.BrokenPlans.{number_to}
 use Rattle.plan_rules.proofs.BrokenTrips.{trip_read}
