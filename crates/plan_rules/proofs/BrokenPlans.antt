@@ -37,7 +37,7 @@ pub at_position : {A : Type 0} (P : A → Type 0) (items : List A) (k : ℕ) (it
 at_position P items k item all is = subst P (item_is items k item is) (all k item (slice_get_within items k item is))
 
 -- the turnarounds
-times_from : (number turnaround arrives leaves : ℕ) (arrival departure : Option ℕ) → broken_times number turnaround arrival departure ≡ None → arrival ≡ Some arrives → departure ≡ Some leaves → arrives + turnaround ≤ leaves
+pub times_from : (number turnaround arrives leaves : ℕ) (arrival departure : Option ℕ) → broken_times number turnaround arrival departure ≡ None → arrival ≡ Some arrives → departure ≡ Some leaves → arrives + turnaround ≤ leaves
 times_from number turnaround arrives leaves None departure none arrives_is leaves_is = cc
 times_from number turnaround arrives leaves (Some a) None none arrives_is leaves_is = cc
 times_from number turnaround arrives leaves (Some a) (Some l) none arrives_is leaves_is =
@@ -52,7 +52,7 @@ times_to number turnaround (Some a) None keeps = refl
 times_to number turnaround (Some a) (Some l) keeps =
     let least = keeps a l refl refl in unless_true (nat_le (a + turnaround) l) (broken.Turn number a l) (grind (arith, nat_tests))
 
-turns_from : (plan : List (List Stop)) (connections : List Connection) → first_along (broken_turn (arrival_in plan) (departure_in plan)) connections ≡ None → All (KeepsTurn plan) connections
+pub turns_from : (plan : List (List Stop)) (connections : List Connection) → first_along (broken_turn (arrival_in plan) (departure_in plan)) connections ≡ None → All (KeepsTurn plan) connections
 turns_from plan connections none k d within arrives leaves arrives_is leaves_is =
     let connection = get_or connections k d in
     times_from k connection.turnaround arrives leaves (arrival_in plan connection.first) (departure_in plan connection.second)
@@ -69,7 +69,7 @@ place_by parts kind k has (inl within) = within
 place_by parts kind k has (inr past) = absurd (has_kind-within kind parts.places k past has)
 
 -- the capacities of a kind
-over_from : (parts : Parts) (kind : CapKind) (load : ℕ → ℕ → ℕ) → first_over parts kind load ≡ None
+pub over_from : (parts : Parts) (kind : CapKind) (load : ℕ → ℕ → ℕ) → first_over parts kind load ≡ None
     → (k t : ℕ) → IsTrue (has_kind kind (slice_get parts.places k)) → t < parts.day.periods → load k t ≤ capacity_of parts.places kind k t
 over_from parts kind load none k t has t_in =
     let k_in = place_by parts kind k has (cases_lt k (length parts.places)) in

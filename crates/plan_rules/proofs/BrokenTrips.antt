@@ -15,12 +15,12 @@ use Rattle.plan_rules.proofs.FirstFacts.{first_along-at, first_along-none, or_no
 use Rattle.plan_rules.proofs.JudgeFacts.{AreTrips-at}
 
 -- the window of a stop
-window_from : (periods number : ℕ) (flight : Flight) (place : ℕ) (stop : Stop) → broken_window periods number flight place stop ≡ None → IsWithinHours periods flight stop
+pub window_from : (periods number : ℕ) (flight : Flight) (place : ℕ) (stop : Stop) → broken_window periods number flight place stop ≡ None → IsWithinHours periods flight stop
 window_from periods number flight place stop none =
     let holds = unless_none (is_within_hours periods flight stop) (broken.Window number place) none in
     record { early = grind (arith, nat_tests); late = grind (arith, nat_tests) }
 
-window_to : (periods number : ℕ) (flight : Flight) (place : ℕ) (stop : Stop) → IsWithinHours periods flight stop → broken_window periods number flight place stop ≡ None
+pub window_to : (periods number : ℕ) (flight : Flight) (place : ℕ) (stop : Stop) → IsWithinHours periods flight stop → broken_window periods number flight place stop ≡ None
 window_to periods number flight place stop hours =
     let early : earliest_of flight stop.node ≤ stop.time = hours.early in
     let late : stop.time ≤ latest_of periods flight stop.node = hours.late in
@@ -53,7 +53,7 @@ one_step number place stop next leg legs true test more none =
 one_step number place stop next leg legs false test more none =
     let step = more none in (suc step.0, step.1, omega (arith, step.2), step.3, step.4)
 
-step_from : (number place : ℕ) (stop next : Stop) (legs : List Leg) → broken_step number place stop next (leg_between legs stop.node next.node) ≡ None → IsStep legs stop next
+pub step_from : (number place : ℕ) (stop next : Stop) (legs : List Leg) → broken_step number place stop next (leg_between legs stop.node next.node) ≡ None → IsStep legs stop next
 step_from number place stop next [] none = cc
 step_from number place stop next (leg ∷ legs) none =
     one_step number place stop next leg legs (joins stop.node next.node leg) refl (step_from number place stop next legs) none

@@ -5,6 +5,7 @@ pub mod CapacityFacts
 pub mod CostFacts
 pub mod CountFacts
 pub mod FirstFacts
+pub mod FirstRules
 pub mod JudgeFacts
 pub mod LoadFacts
 pub mod StayFacts

@@ -24,7 +24,9 @@ pub mod trips;
 pub use broken::Broken;
 pub use costs::cost;
 pub use judging::{Verdict, judge};
-pub use laws::{plans_that_break_nothing_are_feasible, trips_are_counted_once};
+pub use laws::{
+    first_broken_rules_are_first, plans_that_break_nothing_are_feasible, trips_are_counted_once,
+};
 pub use loads::Loads;
 
 #[cfg(test)]

@@ -319,5 +319,6 @@ fn loads_count_the_trips_of_a_plan(rt: HostRuntime) -> Result<(), Fail> {
     loads.add(&s, 1, &[Stop { node: 0, time: 1 }]);
     trips_are_counted_once();
     plans_that_break_nothing_are_feasible();
+    first_broken_rules_are_first();
     Ok(())
 }
