@@ -1,5 +1,7 @@
 -- Which rule a plan breaks first: the number of its trips, then the trips flight by flight and stop
 -- by stop, then the turnarounds, then the capacities to depart, to arrive and inside sectors.
+-- Every plan has an answer. A node that a flight hasn't is entered by no leg, so that its window is
+-- never asked for; and the turnarounds and capacities are asked for where all trips are trips.
 use Rattle.std.specs.Prelude.{ℕ, zero, suc, ◌+◌, ◌==◌, Bool, ◌&&◌, nat_le, List, [], ◌∷◌, length, Option, Some, None, Result, Ok, Err, ◌≡◌, slice_get, slice_index_or, option_and_then, if◌then◌else◌}
 use Rattle.std.specs.List.{find}
 use Rattle.std.specs.Option.{option_or}
@@ -18,25 +20,25 @@ use Rattle.plan_rules.specs.declared.broken.Broken.TheVariants as broken
 
 -- what is found at the first number below n at which something is
 abbrev pub first_below : ℕ → (ℕ → Option Broken) → Option Broken
-first_below zero find = None
-first_below (suc n) find = option_or (first_below n find) (find n)
+first_below zero found = None
+first_below (suc n) found = option_or (first_below n found) (found n)
 
 -- the same along a list, of each item and its position
 abbrev pub found_at : {A : Type 0} → (ℕ → A → Option Broken) → List A → ℕ → Option Broken
-found_at find items k = option_and_then (find k) (slice_get items k)
+found_at found items k = option_and_then (found k) (slice_get items k)
 
 abbrev pub first_along : {A : Type 0} → (ℕ → A → Option Broken) → List A → Option Broken
-first_along find items = first_below (length items) (found_at find items)
+first_along found items = first_below (length items) (found_at found items)
 
 -- the rule is broken unless the test holds
 abbrev pub unless : Bool → Broken → Option Broken
 unless test rule = if test then None else Some rule
 
--- the plan has one trip for each flight
+-- more trips than flights, or fewer
 abbrev pub broken_number : ℕ → ℕ → Option Broken
 broken_number trips flights = unless (trips == flights) (broken.Trips trips flights)
 
--- the stop's time is in its node's window
+-- a stop whose time isn't in its node's window
 abbrev pub is_within_hours : ℕ → Flight → Stop → Bool
 is_within_hours periods flight stop =
     nat_le (earliest_of flight stop.node) stop.time && nat_le stop.time (latest_of periods flight stop.node)
@@ -55,7 +57,8 @@ broken_step number place stop next None = Some (broken.NoLeg number place)
 broken_step number place stop next (Some leg) =
     unless (nat_le (stop.time + leg.least) next.time) (broken.Least number place leg.least)
 
--- what the stops after this one break first, or their end: it stands at that place in the trip
+-- What breaks first after a stop, which stands at that place in the trip: stop by stop the way to the
+-- next one, then its window, and at the last stop its node.
 abbrev pub broken_onward : ℕ → ℕ → Flight → ℕ → Stop → List Stop → Option Broken
 broken_onward periods number flight place stop [] =
     unless (stop.node + 1 == length flight.nodes) (broken.Ending number)
@@ -64,7 +67,7 @@ broken_onward periods number flight place stop (next ∷ rest) =
     (option_or (broken_window periods number flight (place + 1) next)
     (broken_onward periods number flight (place + 1) next rest))
 
--- what the trip of the flight of that number breaks first
+-- the trip of the flight of that number: its start, the first stop's window, and so on
 abbrev pub broken_trip : ℕ → ℕ → Flight → List Stop → Option Broken
 broken_trip periods number flight [] = Some (broken.Start number)
 broken_trip periods number flight (stop ∷ rest) =
@@ -75,15 +78,15 @@ broken_trip periods number flight (stop ∷ rest) =
 abbrev pub broken_trip_in : ℕ → List (List Stop) → ℕ → Flight → Option Broken
 broken_trip_in periods plan number flight = broken_trip periods number flight (slice_index_or plan number [])
 
--- what the second flight breaks that leaves before the turnaround has passed after the arrival of
--- the first one
+-- a flight that leaves before the turnaround has passed since the one before it arrived, where both
+-- are there
 abbrev pub broken_times : ℕ → ℕ → Option ℕ → Option ℕ → Option Broken
 broken_times number turnaround None leaves = None
 broken_times number turnaround (Some arrives) None = None
 broken_times number turnaround (Some arrives) (Some leaves) =
     unless (nat_le (arrives + turnaround) leaves) (broken.Turn number arrives leaves)
 
--- the connection of that number, where flights arrive and depart at these times
+-- the same of the connection of that number, where flights arrive and depart at these times
 abbrev pub broken_turn : (ℕ → Option ℕ) → (ℕ → Option ℕ) → ℕ → Connection → Option Broken
 broken_turn arrival departure number connection =
     broken_times number connection.turnaround (arrival connection.first) (departure connection.second)
@@ -95,7 +98,7 @@ arrival_in plan flight = option_and_then arrival_of (slice_get plan flight)
 abbrev pub departure_in : List (List Stop) → ℕ → Option ℕ
 departure_in plan flight = option_and_then departure_of (slice_get plan flight)
 
--- more than the capacity of this kind
+-- more than the capacity of this kind, by the name of the rule
 abbrev pub over : CapKind → ℕ → ℕ → ℕ → ℕ → Broken
 over kind.Dep place period load capacity = broken.Departures place period load capacity
 over kind.Arr place period load capacity = broken.Arrivals place period load capacity
@@ -111,7 +114,7 @@ abbrev pub first_over_in : Parts → CapKind → (ℕ → ℕ → ℕ) → ℕ �
 first_over_in parts kind load place =
     if has_kind kind (slice_get parts.places place) then first_below parts.day.periods (broken_capacity parts kind load place) else None
 
--- the first place that is
+-- the first place that is, and its first period
 abbrev pub first_over : Parts → CapKind → (ℕ → ℕ → ℕ) → Option Broken
 first_over parts kind load = first_below (length parts.places) (first_over_in parts kind load)
 

@@ -69,7 +69,7 @@ fn check_onward(
     Ok(())
 }
 
-// Whether a leg leads from the stop to the next one, and in time.
+// Whether a leg leads from the stop to the next one, and in time; the next one's node is then higher.
 fn check_step(
     flight: &Flight,
     number: u32,
