@@ -1,6 +1,11 @@
+pub mod BrokenCases
+pub mod BrokenPlans
+pub mod BrokenTrips
+pub mod CapacityFacts
 pub mod CostFacts
 pub mod CountFacts
-pub mod FeasibleFacts
+pub mod FirstFacts
+pub mod FirstRules
 pub mod JudgeFacts
 pub mod LoadFacts
 pub mod StayFacts

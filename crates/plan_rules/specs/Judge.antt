@@ -1,11 +1,11 @@
 -- What a verdict says.
-use Rattle.std.specs.Prelude.{◌≡◌, ℕ, zero, suc, ◌+◌, ◌<◌, ◌≤◌, List, [], ◌∷◌, Some, slice_get, IsTrue, All, ℤ}
-use Rattle.flow_types.specs.declared.flight.Connection.{Connection}
+use Rattle.std.specs.Prelude.{ℕ, zero, suc, ◌<◌, List, [], ◌∷◌, Option, ℤ}
+use Rattle.std.specs.Option.{option_or}
+use Rattle.flow_types.specs.declared.flight.Leg.{Leg}
 use Rattle.flow_types.specs.declared.parts.Parts.{Parts}
-use Rattle.flow_types.specs.declared.place.CapKind.{CapKind}
 use Rattle.flow_types.specs.declared.place.CapKind.TheVariants as kind
 use Rattle.flow_types.specs.declared.plan.Stop.{Stop}
-use Rattle.flow_types.specs.Capacities.{capacity_of, has_kind}
+use Rattle.plan_rules.specs.FirstBroken.{broken_turn, first_along, first_over}
 use Rattle.plan_rules.specs.Loads.{arrival_at, departure_at, load_at}
 use Rattle.plan_rules.specs.declared.broken.Broken.{Broken}
 use Rattle.plan_rules.specs.declared.judging.Verdict.{Verdict}
@@ -17,26 +17,17 @@ abbrev pub MatchVerdict : Verdict → (ℤ → Type 0) → (Broken → Type 0) �
 MatchVerdict (Keeps cost) P Q = P cost
 MatchVerdict (Breaks broken) P Q = Q broken
 
--- where both flights are there, the loads keep the turnaround
-pub record KeepsTurnaround (loads : Loads) (connection : Connection) : Type 0 where
-  pub keeps : (arrives leaves : ℕ) → arrival_at loads connection.first ≡ Some arrives → departure_at loads connection.second ≡ Some leaves
-      → arrives + connection.turnaround ≤ leaves
+-- the leg leads to a higher node
+abbrev pub IsUpward : Leg → Type 0
+IsUpward leg = leg.from < leg.to
 
--- the loads keep the capacities of a place, and those of every place that has them
-abbrev pub KeepsPlace : Parts → Loads → CapKind → ℕ → Type 0
-KeepsPlace parts loads kind place =
-    (t : ℕ) → t < parts.day.periods → load_at loads kind place t ≤ capacity_of parts.places kind place t
-
-abbrev pub KeepsKind : Parts → Loads → CapKind → Type 0
-KeepsKind parts loads kind =
-    (k : ℕ) → IsTrue (has_kind kind (slice_get parts.places k)) → KeepsPlace parts loads kind k
-
--- the loads keep every turnaround and every capacity
-pub record KeepsLoads (parts : Parts) (loads : Loads) : Type 0 where
-  pub turns : All (KeepsTurnaround loads) parts.connections
-  pub departures : KeepsKind parts loads kind.Dep
-  pub arrivals : KeepsKind parts loads kind.Arr
-  pub sectors : KeepsKind parts loads kind.Sector
+-- the first turnaround or capacity that the loads break
+abbrev pub first_broken_load : Parts → Loads → Option Broken
+first_broken_load parts loads =
+    option_or (first_along (broken_turn (arrival_at loads) (departure_at loads)) parts.connections)
+    (option_or (first_over parts kind.Dep (load_at loads kind.Dep))
+    (option_or (first_over parts kind.Arr (load_at loads kind.Arr))
+    (first_over parts kind.Sector (load_at loads kind.Sector))))
 
 -- the first trips of a plan, and no stops for the other flights
 abbrev pub first_trips : ℕ → List (List Stop) → List (List Stop)

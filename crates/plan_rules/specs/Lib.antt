@@ -1,3 +1,5 @@
 pub mod Table
 pub mod Loads
+pub mod FirstBroken
+pub mod BrokenRules
 pub mod Judge

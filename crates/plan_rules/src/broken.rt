@@ -1,10 +1,15 @@
-//! The rules that a plan may break. No clause says yet which one `judge` answers.
+//! The rules that a plan may break.
 
-/// The first rule that a plan breaks, in the order of these variants; flight by flight for the
-/// rules of trips, connection by connection, and by place and then period.
+/// The first rule that a plan breaks. The number of trips comes first. Then come the rules of a trip,
+/// flight by flight: its start; stop by stop its window, then whether a leg leads to the next stop and
+/// in time; its ending. Then come turnarounds by connection, and departures, arrivals and sectors, each
+/// by place and then period. `first_broken` in `specs/FirstBroken.antt` says it exactly.
+///
+/// Flights, connections and places are numbers in the scenario's lists; a place in a trip is the number
+/// of a stop. All count from 0.
 #[derive(Clone, Copy, Debug, PartialEq, Eq)]
 pub enum Broken {
-    /// The plan hasn't one trip for each flight.
+    /// The plan hasn't one trip for each flight: it has `got`, and there are `need` flights.
     Trips {
         got: u64,
         need: u32,
@@ -18,12 +23,12 @@ pub enum Broken {
         flight: u32,
         place_in_trip: u16,
     },
-    /// No leg leads to the next stop.
+    /// No leg leads from the stop to the next one.
     NoLeg {
         flight: u32,
         place_in_trip: u16,
     },
-    /// The next stop comes earlier than the leg's least time allows.
+    /// The stop after it comes earlier than the leg's least time allows.
     Least {
         flight: u32,
         place_in_trip: u16,
@@ -33,7 +38,7 @@ pub enum Broken {
     Ending {
         flight: u32,
     },
-    /// The second flight leaves before the turnaround has passed.
+    /// The second flight leaves before the turnaround has passed since the first one arrived.
     Turn {
         connection: u32,
         arrives: u16,

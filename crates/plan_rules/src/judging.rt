@@ -1,11 +1,13 @@
 //! Whether a plan keeps every rule.
-ghost use Rattle.std.specs.Prelude.{◌≡◌, ◌↔◌, ◌<◌, ◌^◌, Some, ⊤, IsOk, IsTrue, OnOk, All, length, slice_get};
+ghost use Rattle.std.specs.Prelude.{◌≡◌, ◌<◌, ◌^◌, None, Some, ⊤, IsTrue, OnOk, All, length, slice_get};
+ghost use Rattle.std.specs.Option.{option_or};
 ghost use Rattle.flow_types.specs.Capacities.{has_kind};
 ghost use Rattle.flow_types.specs.Costs.{plan_cost};
 ghost use Rattle.flow_types.specs.Feasible.{AreTrips, IsFeasible};
 ghost use Rattle.flow_types.specs.Scenario.{parts_of};
-ghost use Rattle.plan_rules.specs.Judge.{KeepsKind, KeepsLoads, KeepsPlace, KeepsTurnaround, MatchVerdict};
-ghost use Rattle.plan_rules.specs.Loads.{AreLoads, IsMadeFor, no_trips};
+ghost use Rattle.plan_rules.specs.FirstBroken.{Finds, broken_turn, first_along, first_broken, first_over, first_over_in, over};
+ghost use Rattle.plan_rules.specs.Judge.{MatchVerdict, first_broken_load};
+ghost use Rattle.plan_rules.specs.Loads.{AreLoads, IsMadeFor, arrival_at, departure_at, load_at, no_trips};
 
 use crate::costs::cost;
 use crate::trips::check_trips;
@@ -28,7 +30,7 @@ fn check_turns(loads: &Loads, connections: &[Connection]) -> Result<(), Broken>
     requires few { length connections.now < 2 ^ 32 }
     requires arrives { All (λ connection. connection.first < length loads.now.arrives.items) connections.now }
     requires leaves { All (λ connection. connection.second < length loads.now.leaves.items) connections.now }
-    ensures { IsOk result ↔ All (KeepsTurnaround loads.now) connections.now }
+    ensures { Finds (first_along (broken_turn (arrival_at loads.now) (departure_at loads.now)) connections.now) result }
 {
     for at in 0..connections.len() {
         check_turn(loads, &connections[at], at as u32)?;
@@ -40,7 +42,7 @@ fn check_turns(loads: &Loads, connections: &[Connection]) -> Result<(), Broken>
 fn check_turn(loads: &Loads, connection: &Connection, number: u32) -> Result<(), Broken>
     requires arrives { connection.now.first < length loads.now.arrives.items }
     requires leaves { connection.now.second < length loads.now.leaves.items }
-    ensures { IsOk result ↔ KeepsTurnaround loads.now connection.now }
+    ensures { Finds (broken_turn (arrival_at loads.now) (departure_at loads.now) number connection.now) result }
 {
     let Some(arrives) = loads.arrival(connection.first) else {
         return Ok(());
@@ -61,12 +63,10 @@ fn check_turn(loads: &Loads, connection: &Connection, number: u32) -> Result<(),
 // Whether the capacities of this kind are kept in every place that has them.
 fn check_kind(loads: &Loads, s: &Scenario, kind: CapKind) -> Result<(), Broken>
     requires { IsMadeFor (parts_of s.now) loads.now }
-    ensures { IsOk result ↔ KeepsKind (parts_of s.now) loads.now kind }
+    ensures { Finds (first_over (parts_of s.now) kind (load_at loads.now kind)) result }
 {
     for place in 0..s.places().len() {
-        if has_kind(kind, &s.places()[place]) {
-            check_place(loads, s, kind, place as u32)?;
-        }
+        check_place(loads, s, kind, place as u32)?;
     }
     Ok(())
 }
@@ -82,24 +82,29 @@ fn has_kind(kind: CapKind, place: &Place) -> bool
     }
 }
 
-// Whether they are kept in the place in every period.
+// Whether they are kept in the place in every period, if it has them.
 fn check_place(loads: &Loads, s: &Scenario, kind: CapKind, place: u32) -> Result<(), Broken>
     requires made { IsMadeFor (parts_of s.now) loads.now }
-    requires place { IsTrue (has_kind kind (slice_get (parts_of s.now).places place)) }
-    ensures { IsOk result ↔ KeepsPlace (parts_of s.now) loads.now kind place }
+    requires place { place < length (parts_of s.now).places }
+    ensures { Finds (first_over_in (parts_of s.now) kind (load_at loads.now kind) place) result }
 {
+    if !has_kind(kind, &s.places()[place as usize]) {
+        return Ok(());
+    }
     for period in 0..s.day().periods {
         let load = loads.load(kind, place, period);
         let capacity = s.capacity(kind, place, period);
         if load > capacity {
-            return Err(full(kind, place, period, load, capacity));
+            return Err(over(kind, place, period, load, capacity));
         }
     }
     Ok(())
 }
 
 // The broken capacity.
-fn full(kind: CapKind, place: u32, period: u16, load: u32, capacity: u32) -> Broken {
+fn over(kind: CapKind, place: u32, period: u16, load: u32, capacity: u32) -> Broken
+    ensures { result ≡ over kind place period load capacity }
+{
     match kind {
         CapKind::Dep => Broken::Departures {
             place,
@@ -131,14 +136,15 @@ pub enum Verdict {
     Breaks(Broken),
 }
 
-/// Whether the plan keeps every rule of the scenario, with its cost, or a rule that it breaks (that it
-/// breaks one is claimed, and not yet which).
+/// Whether the plan keeps every rule of the scenario, with its cost, or the first rule that it breaks,
+/// in the order that `Broken` says. Every plan is judged: no leg leads to a node that a flight hasn't.
 /// The loads were made for the scenario. After `Keeps` they are the plan's; after `Breaks` they
 /// hold no trips. It takes no memory.
 pub fn judge(loads: &mut Loads, s: &Scenario, plan: &Plan) -> Verdict
     requires { IsMadeFor (parts_of s.now) loads.old }
     ensures keeps { MatchVerdict result (λ cost. IsFeasible (parts_of s.now) plan.now) (λ broken. IsFeasible (parts_of s.now) plan.now → ⊥) }
     ensures cost { MatchVerdict result (λ cost. cost ≡ plan_cost (parts_of s.now).tables (parts_of s.now).flights plan.now) (λ broken. ⊤) }
+    ensures broken { MatchVerdict result (λ cost. first_broken (parts_of s.now) plan.now ≡ None) (λ broken. first_broken (parts_of s.now) plan.now ≡ Some broken) }
     ensures loads { MatchVerdict result (λ cost. AreLoads (parts_of s.now) plan.now loads.new)
         (λ broken. AreLoads (parts_of s.now) (no_trips (parts_of s.now)) loads.new) }
 {
@@ -157,11 +163,11 @@ pub fn judge(loads: &mut Loads, s: &Scenario, plan: &Plan) -> Verdict
 // Whether the plan keeps every rule. Its trips are in the loads then.
 fn check(loads: &mut Loads, s: &Scenario, plan: &Plan) -> Result<(), Broken>
     requires { AreLoads (parts_of s.now) (no_trips (parts_of s.now)) loads.old }
-    ensures feasible { IsOk result ↔ IsFeasible (parts_of s.now) plan.now }
+    ensures broken { Finds (first_broken (parts_of s.now) plan.now) result }
     ensures loads { OnOk result (AreLoads (parts_of s.now) plan.now loads.new) }
     ensures made { IsMadeFor (parts_of s.now) loads.new }
 {
-    check_trips(s.day().periods, s.flights(), plan.items())?;
+    check_trips(s, plan.items())?;
     add_all(loads, s, plan.items());
     check_loads(loads, s)
 }
@@ -169,7 +175,7 @@ fn check(loads: &mut Loads, s: &Scenario, plan: &Plan) -> Result<(), Broken>
 // Whether the trips in the loads keep turnarounds and capacities.
 fn check_loads(loads: &Loads, s: &Scenario) -> Result<(), Broken>
     requires { IsMadeFor (parts_of s.now) loads.now }
-    ensures { IsOk result ↔ KeepsLoads (parts_of s.now) loads.now }
+    ensures { Finds (first_broken_load (parts_of s.now) loads.now) result }
 {
     check_turns(loads, s.connections())?;
     check_kind(loads, s, CapKind::Dep)?;

@@ -2,8 +2,10 @@
 //! costs.
 //!
 //! A caller makes `Loads` once for a scenario and lends them to `judge`, which takes no memory.
-//! `judge` answers `Keeps`, with the plan's cost, exactly where the plan is feasible; the loads
-//! then count its trips. `cost` is the sum of the costs of a plan's trips.
+//! `judge` answers `Keeps`, with the plan's cost, exactly where the plan is feasible (`keeps`, `cost`);
+//! the loads then count its trips (`loads`). Otherwise it answers the first rule that the plan breaks,
+//! with its values, and the loads hold no trips (`broken`, `loads`). `cost` is the sum of the costs of a
+//! plan's trips. `plans_that_break_nothing_are_feasible` ties the two definitions together.
 //!
 //! Time: `judge` looks at each stop with the legs of its flight, at each period that a flight
 //! spends in a sector, and at each place and period once. `Loads` take twelve bytes a place and
@@ -22,7 +24,9 @@ pub mod trips;
 pub use broken::Broken;
 pub use costs::cost;
 pub use judging::{Verdict, judge};
-pub use laws::trips_are_counted_once;
+pub use laws::{
+    first_broken_rules_are_first, plans_that_break_nothing_are_feasible, trips_are_counted_once,
+};
 pub use loads::Loads;
 
 #[cfg(test)]

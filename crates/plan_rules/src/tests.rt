@@ -1,10 +1,9 @@
-//! What no clause says: that calls succeed with ample memory, and which rule is named first.
+//! Each call once with ample memory, and plans that break several rules.
 ghost use Rattle.std.specs.Prelude.{IfOk};
 ghost use Rattle.flow_types.specs.Scenario.{parts_of};
 ghost use Rattle.plan_rules.specs.Loads.{IsMadeFor};
 
 use super::*;
-use crate::trips::check_trips;
 use flow_types::{
     CapKind, Connection, Connections, Cost, Day, Flight, Flights, Leg, OutOfMemory, Parts, Place,
     PlaceKind, Places, Plan, Scenario, Sequence, Stop, Tables, Trip,
@@ -146,7 +145,7 @@ fn judged(alloc: Global, s: Scenario, stops: &[(u16, u16)]) -> Result<Verdict, O
 fn trips_are_judged(rt: HostRuntime) -> Result<(), Fail> {
     let alloc = rt.alloc();
     let (flight, place_in_trip) = (1, 0);
-    let rows: [(&[(u16, u16)], Broken); 6] = [
+    let rows: [(&[(u16, u16)], Broken); 9] = [
         (&[], Broken::Start { flight }),
         (&[(1, 0)], Broken::Start { flight }),
         (
@@ -157,10 +156,32 @@ fn trips_are_judged(rt: HostRuntime) -> Result<(), Fail> {
             },
         ),
         (
+            &[(0, 4), (1, 12), (2, 7)],
+            Broken::Window {
+                flight,
+                place_in_trip: 1,
+            },
+        ),
+        (
+            &[(0, 1), (1, 1), (2, 8)],
+            Broken::Window {
+                flight,
+                place_in_trip: 2,
+            },
+        ),
+        (
             &[(0, 1), (2, 3)],
             Broken::NoLeg {
                 flight,
                 place_in_trip,
+            },
+        ),
+        // The flight has no such node, and no leg leads there.
+        (
+            &[(0, 1), (1, 1), (9, 99)],
+            Broken::NoLeg {
+                flight,
+                place_in_trip: 1,
             },
         ),
         (
@@ -187,7 +208,7 @@ fn capacities_are_judged(rt: HostRuntime) -> Result<(), Fail> {
     // The capacities to leave, to arrive and inside, and what is broken where both go alike.
     let rows = [
         (
-            (1, 9, 9),
+            (1, 1, 1),
             Broken::Departures {
                 place: 0,
                 period: 0,
@@ -196,7 +217,7 @@ fn capacities_are_judged(rt: HostRuntime) -> Result<(), Fail> {
             },
         ),
         (
-            (9, 1, 9),
+            (9, 1, 1),
             Broken::Arrivals {
                 place: 1,
                 period: 2,
@@ -247,10 +268,14 @@ fn a_plan_costs(rt: HostRuntime) -> Result<(), Fail> {
     let s = two_flights(alloc, (9, 9, 9))?;
     // Four periods late, two of them on the ground.
     let plan = plan_with(alloc, &[(0, 2), (1, 2), (2, 6)])?;
-    let trips = check_trips(s.day().periods, s.flights(), plan.items());
-    assert!(rt; trips.is_ok());
-    assert_eq!(rt; cost(&s, &plan), 6);
     let mut loads = Loads::new(alloc, &s)?;
+    match judge(&mut loads, &s, &plan) {
+        Verdict::Keeps { cost: paid } => {
+            assert_eq!(rt; paid, 6);
+            assert_eq!(rt; cost(&s, &plan), 6);
+        }
+        Verdict::Breaks(_) => return Err("the plan keeps every rule".into()),
+    }
     let none = Plan::empty(alloc);
     let broken = Broken::Trips { got: 0, need: 2 };
     assert_eq!(rt; judge(&mut loads, &s, &none), Verdict::Breaks(broken));
@@ -293,5 +318,7 @@ fn loads_count_the_trips_of_a_plan(rt: HostRuntime) -> Result<(), Fail> {
     loads.clear();
     loads.add(&s, 1, &[Stop { node: 0, time: 1 }]);
     trips_are_counted_once();
+    plans_that_break_nothing_are_feasible();
+    first_broken_rules_are_first();
     Ok(())
 }

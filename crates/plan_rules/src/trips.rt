@@ -1,23 +1,27 @@
 //! Whether each flight has a trip of its own network and windows.
-ghost use Rattle.std.specs.Prelude.{◌≡◌, ◌≤◌, ◌<◌, ◌+◌, ◌^◌, ◌↔◌, IsTrue, IsOk, length};
-ghost use Rattle.std.specs.List.{Any};
-ghost use Rattle.flow_types.specs.Feasible.{AreTrips};
-ghost use Rattle.flow_types.specs.Trips.{IsLegBetween, IsOnward, IsStep, IsTrip, IsWithinHours, earliest_of, latest_of};
+ghost use Rattle.std.specs.Prelude.{◌≡◌, ◌==◌, ◌<◌, ◌+◌, ◌^◌, All, OnOk, length};
+ghost use Rattle.std.specs.Option.{option_or};
+ghost use Rattle.flow_types.specs.Scenario.{parts_of};
+ghost use Rattle.flow_types.specs.Trips.{earliest_of, latest_of};
+ghost use Rattle.plan_rules.specs.FirstBroken.{Finds, broken_number, broken_onward, broken_step, broken_trip, broken_trip_in, broken_window, first_along, is_within_hours, leg_between};
+ghost use Rattle.plan_rules.specs.Judge.{IsUpward};
 
 use crate::Broken;
-use flow_types::{Flight, Leg, Stop, Trip};
+use flow_types::{Flight, Leg, Scenario, Stop, Trip};
 
 /// Whether each flight has one trip, and a trip of its own.
-pub fn check_trips(periods: u16, flights: &[Flight], plan: &[Trip]) -> Result<(), Broken>
-    requires { length flights.now < 2 ^ 32 }
-    ensures { IsOk result ↔ AreTrips periods flights.now plan.now }
+pub fn check_trips(s: &Scenario, plan: &[Trip]) -> Result<(), Broken>
+    ensures { Finds (option_or (broken_number (length plan.now) (length (parts_of s.now).flights))
+        (first_along (broken_trip_in (parts_of s.now).day.periods plan.now) (parts_of s.now).flights)) result }
 {
+    let flights = s.flights();
     if plan.len() != flights.len() {
         return Err(Broken::Trips {
             got: plan.len() as u64,
             need: flights.len() as u32,
         });
     }
+    let periods = s.day().periods;
     for at in 0..flights.len() {
         check_trip(periods, &flights[at], at as u32, plan[at].items())?;
     }
@@ -26,7 +30,8 @@ pub fn check_trips(periods: u16, flights: &[Flight], plan: &[Trip]) -> Result<()
 
 // Whether the stops are a trip of the flight.
 fn check_trip(periods: u16, flight: &Flight, number: u32, stops: &[Stop]) -> Result<(), Broken>
-    ensures { IsOk result ↔ IsTrip periods flight.now stops.now }
+    requires { All IsUpward flight.now.legs }
+    ensures { Finds (broken_trip periods number flight.now stops.now) result }
 {
     let Some((first, rest)) = stops.split_first() else {
         return Err(Broken::Start { flight: number });
@@ -34,16 +39,12 @@ fn check_trip(periods: u16, flight: &Flight, number: u32, stops: &[Stop]) -> Res
     if first.node != 0 {
         return Err(Broken::Start { flight: number });
     }
-    if !is_within_hours(periods, flight, *first) {
-        return Err(Broken::Window {
-            flight: number,
-            place_in_trip: 0,
-        });
-    }
+    check_window(periods, flight, number, 0, *first)?;
     check_onward(periods, flight, number, *first, rest)
 }
 
-// Whether the rest of the stops leads from the first one to the flight's last node.
+// Whether the rest of the stops leads from the first one to the flight's last node. Each leg leads to
+// a higher node, so the places in the trip are at most the nodes and fit their type.
 fn check_onward(
     periods: u16,
     flight: &Flight,
@@ -51,21 +52,15 @@ fn check_onward(
     first: Stop,
     rest: &[Stop],
 ) -> Result<(), Broken>
-    ensures { IsOk result ↔ IsOnward periods flight.now first rest.now }
+    requires { All IsUpward flight.now.legs }
+    ensures { Finds (broken_onward periods number flight.now 0 first rest.now) result }
 {
     let mut stop = first;
     let mut place_in_trip = 0u16;
     for next in rest {
-        if !is_step(flight, stop, *next) {
-            return Err(broken_step(flight, number, place_in_trip, stop, *next));
-        }
-        place_in_trip = place_in_trip.saturating_add(1);
-        if !is_within_hours(periods, flight, *next) {
-            return Err(Broken::Window {
-                flight: number,
-                place_in_trip,
-            });
-        }
+        check_step(flight, number, place_in_trip, stop, *next)?;
+        place_in_trip += 1;
+        check_window(periods, flight, number, place_in_trip, *next)?;
         stop = *next;
     }
     if !is_last(flight, stop.node) {
@@ -74,55 +69,73 @@ fn check_onward(
     Ok(())
 }
 
-// What is broken where no leg leads to the next stop in time: there is none, or it takes longer.
-fn broken_step(flight: &Flight, number: u32, place_in_trip: u16, stop: Stop, next: Stop) -> Broken {
-    match leg_between(flight.legs.items(), stop.node, next.node) {
-        None => Broken::NoLeg {
+// Whether a leg leads from the stop to the next one, and in time; the next one's node is then higher.
+fn check_step(
+    flight: &Flight,
+    number: u32,
+    place_in_trip: u16,
+    stop: Stop,
+    next: Stop,
+) -> Result<(), Broken>
+    requires { All IsUpward flight.now.legs }
+    ensures broken { Finds (broken_step number place_in_trip stop next (leg_between flight.now.legs stop.node next.node)) result }
+    ensures upward { OnOk result (stop.node < next.node) }
+    ensures within { OnOk result (next.node < 2 ^ 16) }
+{
+    let Some(leg) = leg_between(flight.legs.items(), stop.node, next.node) else {
+        return Err(Broken::NoLeg {
             flight: number,
             place_in_trip,
-        },
-        Some(leg) => Broken::Least {
+        });
+    };
+    if u32::from(stop.time) + u32::from(leg.least) > u32::from(next.time) {
+        return Err(Broken::Least {
             flight: number,
             place_in_trip,
             least: leg.least,
-        },
+        });
     }
+    Ok(())
+}
+
+// The leg between the nodes, if there is one.
+fn leg_between(legs: &[Leg], from: u16, to: u16) -> Option<Leg>
+    ensures { result ≡ leg_between legs.now from to }
+{
+    legs.iter()
+        .copied()
+        .find(|leg| leg.from == from && leg.to == to)
+}
+
+// Whether the stop's time is in its node's window.
+fn check_window(
+    periods: u16,
+    flight: &Flight,
+    number: u32,
+    place_in_trip: u16,
+    stop: Stop,
+) -> Result<(), Broken>
+    ensures { Finds (broken_window periods number flight.now place_in_trip stop) result }
+{
+    if !is_within_hours(periods, flight, stop) {
+        return Err(Broken::Window {
+            flight: number,
+            place_in_trip,
+        });
+    }
+    Ok(())
 }
 
 // Whether the node is the flight's last.
 fn is_last(flight: &Flight, node: u16) -> bool
-    ensures { IsTrue result ↔ (node + 1 ≡ length flight.now.nodes) }
+    ensures { result ≡ (node + 1 == length flight.now.nodes) }
 {
     usize::from(node) + 1 == flight.nodes.items().len()
 }
 
-// Whether some leg leads from the stop to the next one in the time between them.
-fn is_step(flight: &Flight, stop: Stop, next: Stop) -> bool
-    ensures { IsTrue result ↔ IsStep flight.now.legs stop next }
-{
-    let legs = flight.legs.items();
-    legs.iter().any(|leg| is_leg_between(leg, stop, next))
-}
-
-// Whether the leg does.
-fn is_leg_between(leg: &Leg, stop: Stop, next: Stop) -> bool
-    ensures { IsTrue result ↔ IsLegBetween stop next leg.now }
-{
-    leg.from == stop.node
-        && leg.to == next.node
-        && u32::from(stop.time) + u32::from(leg.least) <= u32::from(next.time)
-}
-
-// The first leg between the nodes.
-fn leg_between(legs: &[Leg], from: u16, to: u16) -> Option<Leg> {
-    legs.iter()
-        .find(|leg| leg.from == from && leg.to == to)
-        .copied()
-}
-
-// Whether the stop's time is in its node's window.
+// The same as a test.
 fn is_within_hours(periods: u16, flight: &Flight, stop: Stop) -> bool
-    ensures { IsTrue result ↔ IsWithinHours periods flight.now stop }
+    ensures { result ≡ is_within_hours periods flight.now stop }
 {
     let time = u32::from(stop.time);
     earliest_of(flight, stop.node) <= time && time <= latest_of(periods, flight, stop.node)

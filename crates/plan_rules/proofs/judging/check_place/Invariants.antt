@@ -1,9 +1,10 @@
-use Rattle.std.proofs.Common.{ℕ, ◌<◌, ◌≤◌}
-use Rattle.flow_types.specs.Capacities.{capacity_of}
+use Rattle.std.proofs.Common.{◌≡◌, None}
 use Rattle.flow_types.specs.Scenario.{parts_of}
+use Rattle.plan_rules.specs.FirstBroken.{broken_capacity, first_below}
 use Rattle.plan_rules.specs.Loads.{load_at}
 use Rattle.plan_rules.proofs.judging.check_place.Given as goal
 
+-- no period so far is over the capacity
 abbrev pub invariant-loop-period : goal.invariant-loop-period
 invariant-loop-period l =
-    (t : ℕ) → t < l.period → load_at l.loads l.kind l.place t ≤ capacity_of (parts_of l.s).places l.kind l.place t
+    first_below l.period (broken_capacity (parts_of l.s) l.kind (load_at l.loads l.kind) l.place) ≡ None
