@@ -9,24 +9,19 @@ use Rattle.flow_types.specs.declared.flight.Cost.TheVariants.{Linear, Tables}
 use Rattle.flow_types.specs.declared.flight.CostTable.{CostTable}
 use Rattle.flow_types.specs.declared.flight.Flight.{Flight}
 use Rattle.flow_types.specs.declared.parts.Parts.{Parts}
-use Rattle.flow_types.specs.declared.place.Place.{Place}
-use Rattle.flow_types.specs.declared.place.PlaceKind.TheVariants.{Airport, Sector}
 use Rattle.flow_types.specs.declared.plan.Stop.{Stop}
 use Rattle.flow_types.specs.Routes.{IsChain}
+use Rattle.flow_types.proofs.WorkedCases.{day_with, places_with, there}
+use Rattle.flow_types.proofs.WorkedScenario.{all_two, one_way_on}
 use Rattle.chain_plan.specs.Chains.{AreChains, HasEarliest, IsLeastPair, IsPair, earliest_trip, least_time, pair_cost}
 use Rattle.chain_plan.specs.Outcome.{IsFirstBound, IsFirstPlan, total_of_all}
 
--- a flight from an airport to another one through a sector, which takes so long
+-- a flight of the route of the worked day, which may be so late and takes so long in the sector
 abbrev flight_with : ℕ → ℕ → ℕ → Cost → Flight
-flight_with sd md least cost = record {
-  name = 70 ∷ [];
-  from = 0;
-  to = 1;
+flight_with sd md least cost = record there {
   sd = sd;
   sa = sd + 2;
-  mg = 4;
   md = md;
-  nodes = 0 ∷ 2 ∷ 1 ∷ [];
   legs = record { from = 0; to = 1; least = 0 } ∷ record { from = 1; to = 2; least = least } ∷ [];
   cost = cost;
 }
@@ -55,17 +50,11 @@ earliest_late = refl
 -- Through two sectors each stop is as late as the legs before it take, in whatever order the legs
 -- stand.
 abbrev two_sectors : Flight
-two_sectors = record {
-  name = 70 ∷ [];
-  from = 0;
-  to = 1;
+two_sectors = record there {
   sd = 1;
   sa = 4;
-  mg = 4;
-  md = 5;
   nodes = 0 ∷ 2 ∷ 3 ∷ 1 ∷ [];
   legs = record { from = 1; to = 2; least = 2 } ∷ record { from = 0; to = 1; least = 1 } ∷ record { from = 2; to = 3; least = 3 } ∷ [];
-  cost = Linear 1 2;
 }
 
 earliest_of_two_sectors : earliest_trip two_sectors ≡ stop_at 0 1 ∷ stop_at 1 2 ∷ stop_at 2 4 ∷ stop_at 3 7 ∷ []
@@ -163,30 +152,9 @@ least_by_tables = record {
   below = below_by_tables;
 }
 
--- the same capacity in each of eight periods
-abbrev all_day : ℕ → List ℕ
-all_day n = n ∷ n ∷ n ∷ n ∷ n ∷ n ∷ n ∷ n ∷ []
-
--- two airports and a sector; so many may leave the first airport in a period
-abbrev places_with : ℕ → List Place
-places_with leave =
-    record { name = 79 ∷ []; kind = Airport; first = all_day leave; second = all_day 9 }
-    ∷ record { name = 68 ∷ []; kind = Airport; first = all_day 9; second = all_day 9 }
-    ∷ record { name = 83 ∷ []; kind = Sector; first = all_day 9; second = [] } ∷ []
-
+-- the day of two such flights; so many may leave in a period
 abbrev day_of : ℕ → Flight → Flight → Parts
-day_of leave first second = record {
-  day = record { year = 2011; month = 3; day = 14; hour = 6; minute = 0; minutes = 15; periods = 8 };
-  places = places_with leave;
-  flights = first ∷ second ∷ [];
-  tables = [];
-  connections = [];
-}
-
-all_two : {A : Type 0} (P : A → Type 0) (a b : A) → P a → P b → All P (a ∷ b ∷ [])
-all_two P a b first second zero d within = first
-all_two P a b first second (suc zero) d within = second
-all_two P a b first second (suc (suc k)) d within = absurd (omega (arith, within))
+day_of leave first second = record (day_with (places_with leave 9 9) second []) { flights = first ∷ second ∷ [] }
 
 -- Both flights keep the schedule, and the bound is the sum 0 + 0. How many may leave in a period doesn't
 -- change it.
@@ -246,9 +214,4 @@ no_bound_with_too_far least bound = past_its_window (bound.0 1 too_far (omega ar
 
 -- There is one way on from each node: the day is one of chains.
 all_chains : AreChains two_flights.flights
-all_chains = all_two (λ flight. IsChain flight.legs) on_time on_time is_chain is_chain where
-  is_chain : IsChain on_time.legs
-  is_chain zero (suc zero) d less within = λ same. cc
-  is_chain zero zero d less within = absurd (omega (arith, less))
-  is_chain zero (suc (suc j)) d less within = absurd (omega (arith, within))
-  is_chain (suc i) j d less within = absurd (omega (arith, less, within))
+all_chains = all_two (λ flight. IsChain flight.legs) on_time on_time one_way_on one_way_on
