@@ -57,7 +57,7 @@ module _ (leave arrive inside : ℕ) (few_leave : leave ≤ 1000000) (few_arrive
     abbrev flight : Flight
     flight = flight_with name 0 1 0 (Linear 1 2)
 
-    route_is : IsRoute (places_with leave arrive inside) 0 1 flight.nodes legs
+    pub route_is : IsRoute (places_with leave arrive inside) 0 1 flight.nodes legs
     route_is = record {
       nodes_from = omega arith;
       nodes_to = omega arith;
@@ -88,7 +88,7 @@ module _ (leave arrive inside : ℕ) (few_leave : leave ≤ 1000000) (few_arrive
       left (suc zero) within = refl
       left (suc (suc k)) within = absurd (omega (arith, within))
 
-    flight_is : IsFlight 8 (places_with leave arrive inside) [] flight
+    pub flight_is : IsFlight 8 (places_with leave arrive inside) [] flight
     flight_is = record {
       name = named;
       forward = omega arith;
