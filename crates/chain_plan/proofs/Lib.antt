@@ -2,3 +2,4 @@ pub mod BoundFacts
 pub mod ChainFacts
 pub mod EarliestFacts
 pub mod PairFacts
+mod WorkedCases

@@ -2,3 +2,4 @@ pub mod CostFacts
 pub mod PairFacts
 pub mod WordFacts
 pub mod WorkedCases
+pub mod WorkedScenario

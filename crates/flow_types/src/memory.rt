@@ -1,5 +1,5 @@
 //! Want of memory, the one error that no caller can rule out.
-ghost use Rattle.std.specs.Prelude.{◌≡◌};
+ghost use Rattle.std.specs.Prelude.{◌≡◌, Some, codes};
 
 use std::alloc::{AllocError, AllocFailed};
 use std::error::Error;
@@ -11,6 +11,8 @@ use std::fmt;
 pub struct OutOfMemory;
 
 impl fmt::Display for OutOfMemory {
+    ghost output = { λ _. Some (codes "out of memory") };
+
     fn fmt<W: fmt::Write>(&self, f: &mut fmt::Formatter<W>) -> fmt::Result {
         write!(f, "out of memory")
     }
