@@ -22,6 +22,7 @@ use Rattle.flow_types.specs.Valid.{IsFlight}
 use Rattle.flow_types.specs.declared.fault.Fault.{Fault}
 use Rattle.flow_types.proofs.WorkedCases.{airport_within, beside, beside_is, day_with, places_with, plan_with, sector_within, there, there_is, trip_at, within}
 use Rattle.flow_types.proofs.WorkedScenario.{all_two, is_scenario, one_way_on, route_is}
+use Rattle.scenario_reader.specs.FirstForm.{HasFirstForm}
 use Rattle.scenario_reader.specs.Reading.{scenario_of}
 use Rattle.chain_plan.specs.Chains.{AreChains, HasEarliest, IsLeastPair}
 use Rattle.chain_plan.proofs.BoundFacts.{none_feasible, pairs_below}
@@ -235,11 +236,11 @@ module _ (text : List ℕ) (few : length text ≤ most_bytes) where
     whole = refl;
   })
 
-  run_is_planned : scenario_of text ≡ Ok (two_flights 2) → Ends (Some file) 0 0 words (Some []) (Some optimal_text) Done
-  run_is_planned read = of_file optimal_text Done (inl (record {
+  run_is_planned : scenario_of text ≡ Ok (two_flights 2) → HasFirstForm text → Ends (Some file) 0 0 words (Some []) (Some optimal_text) Done
+  run_is_planned read form = of_file optimal_text Done (inl (record {
     parts = two_flights 2;
     read = read;
-    form = subst (λ (read : Result Parts Fault). IsOkAnd read (λ parts. AreChains parts.flights)) (sym read) are_chains;
+    form = form;
     day = optimal_day;
   }))
 
@@ -247,7 +248,7 @@ module _ (text : List ℕ) (few : length text ≤ most_bytes) where
   run_is_refused : (fault : Fault) → scenario_of text ≡ Err fault → Ends (Some file) 0 0 words (Some []) (Some (codes "refused,notyet\n")) BadScenario
   run_is_refused fault read = of_file (codes "refused,notyet\n") BadScenario (inr (record {
     ends = refl;
-    form = λ form. subst (λ (read : Result Parts Fault). IsOkAnd read (λ parts. AreChains parts.flights)) read form;
+    form = λ form. subst (λ (read : Result Parts Fault). IsOkAnd read (λ parts. AreChains parts.flights)) read form.chains;
     text = refl;
   }))
 
