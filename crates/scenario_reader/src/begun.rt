@@ -5,10 +5,8 @@ ghost use Rattle.scenario_reader.specs.Names.{position_of};
 ghost use Rattle.scenario_reader.specs.Sketch.{flight_names};
 ghost use Rattle.scenario_reader.specs.Tables.{with_cost_at};
 
-use crate::names::NameIndex;
+use crate::books::Book;
 use flow_types::{Cost, Name, OutOfMemory, Sequence};
-use std::alloc::Global;
-use std::marker::Model;
 
 /// A leg between two places, named by their positions.
 #[derive(Clone, Copy, Debug, PartialEq, Eq)]
@@ -95,80 +93,15 @@ impl Begun {
     }
 }
 
-/// The flights so far, found by their names. Contracts see it as the list.
-#[derive(Drop)]
-pub struct FlightBook {
-    flights: Vec<Begun>,
-    index: NameIndex,
-}
-
-impl Model for FlightBook {
-    ghost use Rattle.std.specs.Prelude.{◌≡◌, ◌≤◌, List, length};
-    ghost use Rattle.scenario_reader.specs.declared.begun.Begun.{Begun};
-    ghost use Rattle.scenario_reader.specs.Sketch.{flight_names};
-
-    ghost Value = { List Begun };
-
-    ghost view = { λ book. book.flights.items };
-
-    ghost invariant = { λ book. (book.index ≡ flight_names book.flights.items) × (length book.flights.items ≤ 2000) };
-}
-
-impl FlightBook {
-    /// No flights. It takes no memory.
-    pub fn empty(alloc: Global) -> Self
-        ensures { result ≡ [] }
-    {
-        FlightBook {
-            flights: Vec::new(alloc),
-            index: NameIndex::empty(alloc),
-        }
-    }
-
-    /// The flights.
-    pub fn flights(&self) -> &[Begun]
-        ensures { result.now ≡ self.now }
-    {
-        &self.flights
-    }
-
-    /// The names of the flights.
-    pub fn names(&self) -> &NameIndex
-        ensures { result.now ≡ flight_names self.now }
-    {
-        &self.index
-    }
-
-    /// The flight of this name.
-    pub fn find(&self, name: &[u8]) -> Option<u32>
-        ensures { result ≡ position_of name.now (flight_names self.now) }
-    {
-        self.index.find(name)
-    }
-
-    /// The book with one more flight, of a new name.
-    pub fn with_flight(self, alloc: Global, flight: Begun) -> Result<Self, OutOfMemory>
-        requires fresh { position_of flight.name (flight_names self) ≡ None }
-        requires room { length self < 2000 }
-        ensures { IfOk result (λ book. book ≡ self ++ flight ∷ []) }
-    {
-        let FlightBook {
-            mut flights,
-            mut index,
-        } = self;
-        index.add(alloc, flight.name.items())?;
-        flights.push(flight)?;
-        Ok(FlightBook { flights, index })
-    }
-
+impl Book<Begun> {
     /// The book with another cost of a flight. It takes no memory.
     pub fn with_cost(self, flight: u32, cost: Cost) -> Self
         requires { flight < length self }
         ensures { result ≡ with_cost_at self flight cost }
     {
-        let FlightBook { mut flights, index } = self;
-        flights[flight as usize].cost = cost;
-        FlightBook { flights, index }
+        let Book { mut items, index } = self;
+        items[flight as usize].cost = cost;
+        Book { items, index }
     }
 
     /// The book with one more leg of a flight.
@@ -176,8 +109,8 @@ impl FlightBook {
         requires { flight < length self }
         ensures { IfOk result (λ book. book ≡ with_leg_at self flight leg) }
     {
-        let FlightBook { mut flights, index } = self;
-        flights[flight as usize].add_leg(leg)?;
-        Ok(FlightBook { flights, index })
+        let Book { mut items, index } = self;
+        items[flight as usize].add_leg(leg)?;
+        Ok(Book { items, index })
     }
 }

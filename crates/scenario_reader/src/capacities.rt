@@ -6,8 +6,9 @@ ghost use Rattle.text_records.specs.Flaws.{Finds};
 ghost use Rattle.scenario_reader.specs.Capacities.{cap_change_of, cap_kind_at, cap_kind_of, last_in, place_in};
 ghost use Rattle.scenario_reader.specs.Validity.{IsCapChange};
 
+use crate::books::Book;
 use crate::names::known_in;
-use crate::places::{PlaceBook, is_airport, is_sector};
+use crate::places::{is_airport, is_sector};
 use csv::ByteRecord;
 use flow_types::{CapKind, Cause, Place};
 use text_records::{Flaw, end_after, field_at, number_at};
@@ -58,12 +59,12 @@ fn has_kind(kind: CapKind, places: &[Place], place: u32) -> bool
 
 // The place, which has capacities of this kind.
 #[tactic(auto, unfolding(crate::specs::Capacities::place_in))]
-fn place_in(kind: CapKind, book: &PlaceBook, row: &ByteRecord) -> Result<u32, Flaw>
+fn place_in(kind: CapKind, book: &Book<Place>, row: &ByteRecord) -> Result<u32, Flaw>
     ensures found { Finds (λ place. place) result (place_in kind book.now (fields_of row.now)) }
     ensures kind { IfOk result (λ place. IsTrue (has_kind kind (slice_get book.now place))) }
 {
     let place = known_in(3, book.names(), row)?;
-    if !has_kind(kind, book.places(), place) {
+    if !has_kind(kind, book.items(), place) {
         return Err(Flaw {
             field: 3,
             cause: Cause::UnknownName,
@@ -92,7 +93,7 @@ fn last_in(periods: u16, first: u64, row: &ByteRecord) -> Result<u64, Flaw>
 
 /// The change of capacities that a `cap` record tells.
 #[tactic(auto, unfolding(crate::specs::Capacities::cap_change_of))]
-pub fn cap_change_of(periods: u16, book: &PlaceBook, row: &ByteRecord) -> Result<CapChange, Flaw>
+pub fn cap_change_of(periods: u16, book: &Book<Place>, row: &ByteRecord) -> Result<CapChange, Flaw>
     requires { 1 ≤ periods }
     ensures found { Finds (λ change. change) result (cap_change_of periods book.now (fields_of row.now)) }
     ensures valid { IfOk result (IsCapChange periods book.now) }

@@ -5,7 +5,8 @@ ghost use Rattle.text_records.specs.Flaws.{Finds};
 ghost use Rattle.scenario_reader.specs.Connections.{are_connected, connection_of, first_in, meet, second_in};
 ghost use Rattle.scenario_reader.specs.Validity.{IsMeeting};
 
-use crate::begun::{Begun, FlightBook};
+use crate::begun::Begun;
+use crate::books::Book;
 use crate::names::known_in;
 use csv::ByteRecord;
 use flow_types::{Cause, Connection};
@@ -13,7 +14,7 @@ use text_records::{Flaw, end_after, number_at};
 
 // The flight that brings the aircraft.
 #[tactic(auto, unfolding(crate::specs::Connections::first_in))]
-fn first_in(book: &FlightBook, connections: &[Connection], row: &ByteRecord) -> Result<u32, Flaw>
+fn first_in(book: &Book<Begun>, connections: &[Connection], row: &ByteRecord) -> Result<u32, Flaw>
     ensures found { Finds (λ first. first) result (first_in book.now connections.now (fields_of row.now)) }
     ensures room { OnOk result (length connections.now < 4000) }
 {
@@ -49,7 +50,7 @@ fn meet(flights: &[Begun], first: u32, second: u32) -> bool
 // The flight that leaves with it.
 #[tactic(auto, unfolding(crate::specs::Connections::second_in))]
 fn second_in(
-    book: &FlightBook,
+    book: &Book<Begun>,
     connections: &[Connection],
     first: u32,
     row: &ByteRecord,
@@ -63,7 +64,7 @@ fn second_in(
     if are_connected(connections, first, second) {
         return refused(Cause::Repeated);
     }
-    if !meet(book.flights(), first, second) {
+    if !meet(book.items(), first, second) {
         return refused(Cause::Apart);
     }
     Ok(second)
@@ -72,7 +73,7 @@ fn second_in(
 /// The connection that a `connect` record tells.
 #[tactic(auto, unfolding(crate::specs::Connections::connection_of))]
 pub fn connection_of(
-    book: &FlightBook,
+    book: &Book<Begun>,
     connections: &[Connection],
     row: &ByteRecord,
 ) -> Result<Connection, Flaw>

@@ -2,10 +2,10 @@
 ghost use Rattle.std.specs.Prelude.{◌≡◌};
 ghost use Rattle.scenario_reader.specs.Drafts.{IsDraft};
 
-use crate::begun::{Begun, FlightBook, Hop};
+use crate::begun::{Begun, Hop};
+use crate::books::Book;
 use crate::capacities::CapChange;
-use crate::places::PlaceBook;
-use crate::tables::{Pricing, TableBook};
+use crate::tables::Pricing;
 use flow_types::{Connection, Connections, Cost, CostTable, Day, OutOfMemory, Place, Sequence};
 use std::alloc::Global;
 
@@ -13,9 +13,9 @@ use std::alloc::Global;
 #[derive(Drop)]
 pub struct Draft {
     pub day: Day,
-    pub places: PlaceBook,
-    pub flights: FlightBook,
-    pub tables: TableBook,
+    pub places: Book<Place>,
+    pub flights: Book<Begun>,
+    pub tables: Book<CostTable>,
     pub connections: Connections,
     /// How many nodes the flights have in all.
     pub nodes: u32,
@@ -40,9 +40,9 @@ impl Draft {
     {
         Draft {
             day,
-            places: PlaceBook::empty(alloc),
-            flights: FlightBook::empty(alloc),
-            tables: TableBook::empty(alloc),
+            places: Book::empty(alloc),
+            flights: Book::empty(alloc),
+            tables: Book::empty(alloc),
             connections: Sequence::empty(alloc),
             nodes: 0,
         }
@@ -63,7 +63,7 @@ impl Draft {
             connections,
             nodes,
         } = self;
-        let places = places.with_place(alloc, place)?;
+        let places = places.with_item(alloc, place)?;
         Ok(Draft {
             day,
             places,
@@ -91,7 +91,7 @@ impl Draft {
             connections,
             nodes,
         } = self;
-        let flights = flights.with_flight(alloc, flight)?;
+        let flights = flights.with_item(alloc, flight)?;
         Ok(Draft {
             day,
             places,
@@ -116,7 +116,7 @@ impl Draft {
             connections,
             nodes,
         } = self;
-        let adds = flights.flights()[flight as usize].adds_node(leg.to);
+        let adds = flights.items()[flight as usize].adds_node(leg.to);
         let flights = flights.with_leg(flight, leg)?;
         Ok(Draft {
             day,
@@ -143,7 +143,7 @@ impl Draft {
             connections,
             nodes,
         } = self;
-        let tables = tables.with_table(alloc, table)?;
+        let tables = tables.with_item(alloc, table)?;
         Ok(Draft {
             day,
             places,

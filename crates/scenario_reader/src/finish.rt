@@ -128,7 +128,7 @@ fn finished_flights(alloc: Global, flights: &[Begun]) -> Result<Flights, ReadErr
 pub fn finished(alloc: Global, draft: Draft) -> Result<Scenario, ReadError>
     ensures { Reads parts_of result (finished (sketch_of draft)) }
 {
-    let flights = finished_flights(alloc, draft.flights.flights())?;
+    let flights = finished_flights(alloc, draft.flights.items())?;
     let Draft {
         day,
         places,
@@ -139,9 +139,9 @@ pub fn finished(alloc: Global, draft: Draft) -> Result<Scenario, ReadError>
     } = draft;
     Ok(Scenario::of_valid(Parts {
         day,
-        places: places.into_places(),
+        places: places.into_items(),
         flights,
-        tables: tables.into_tables(),
+        tables: tables.into_items(),
         connections,
     }))
 }

@@ -11,8 +11,9 @@ ghost use Rattle.scenario_reader.specs.Names.{position_of};
 ghost use Rattle.scenario_reader.specs.Validity.{IsHours};
 
 use crate::begun::Hours;
+use crate::books::Book;
 use crate::names::{NameIndex, new_name};
-use crate::places::{PlaceBook, is_airport};
+use crate::places::is_airport;
 use csv::ByteRecord;
 use flow_types::{Cause, Cost, Place};
 use text_records::{Flaw, end_after, name_at, number_at};
@@ -57,12 +58,12 @@ fn airport_at(number: u32, places: &[Place], place: Option<u32>) -> Result<u32, 
 
 /// Where the flight departs from.
 #[tactic(auto, unfolding(crate::specs::Flights::origin_in))]
-pub fn origin_in(book: &PlaceBook, row: &ByteRecord) -> Result<u32, Flaw>
+pub fn origin_in(book: &Book<Place>, row: &ByteRecord) -> Result<u32, Flaw>
     ensures found { Finds (λ place. place) result (origin_in book.now (fields_of row.now)) }
     ensures airport { IfOk result (λ place. IsTrue (is_airport (slice_get book.now place))) }
 {
     let name = name_at(row, 3)?;
-    airport_at(3, book.places(), book.find(name))
+    airport_at(3, book.items(), book.names().find(name))
 }
 
 // The place, which has to be an airport other than the origin.
@@ -82,13 +83,13 @@ fn other_airport_at(places: &[Place], origin: u32, place: Option<u32>) -> Result
 
 /// Where the flight arrives.
 #[tactic(auto, unfolding(crate::specs::Flights::destination_in))]
-pub fn destination_in(book: &PlaceBook, origin: u32, row: &ByteRecord) -> Result<u32, Flaw>
+pub fn destination_in(book: &Book<Place>, origin: u32, row: &ByteRecord) -> Result<u32, Flaw>
     ensures found { Finds (λ place. place) result (destination_in book.now origin (fields_of row.now)) }
     ensures airport { IfOk result (λ place. IsTrue (is_airport (slice_get book.now place))) }
     ensures apart { IfOk result (λ place. origin ≢ place) }
 {
     let name = name_at(row, 4)?;
-    other_airport_at(book.places(), origin, book.find(name))
+    other_airport_at(book.items(), origin, book.names().find(name))
 }
 
 // The scheduled arrival.

@@ -5,8 +5,9 @@ ghost use Rattle.text_records.specs.Flaws.{Finds};
 ghost use Rattle.scenario_reader.specs.Legs.{adds_node, end_in, flight_at, flight_in, is_among, is_back, is_full, is_joined, is_own, leg_of, own_at, own_in, start_in};
 ghost use Rattle.scenario_reader.specs.Validity.{IsNewLeg};
 
-use crate::begun::{Begun, FlightBook, Hop, is_among};
-use crate::places::{PlaceBook, is_sector};
+use crate::begun::{Begun, Hop, is_among};
+use crate::books::Book;
+use crate::places::is_sector;
 use csv::ByteRecord;
 use flow_types::{Cause, Place};
 use text_records::{Flaw, end_after, name_at, number_at};
@@ -38,13 +39,13 @@ fn flight_at(flights: &[Begun], flight: Option<u32>) -> Result<(u32, &Begun), Fl
 
 /// The flight that gets a leg, with its position.
 #[tactic(auto, unfolding(crate::specs::Legs::flight_in))]
-pub fn flight_in<'a>(book: &'a FlightBook, row: &ByteRecord) -> Result<(u32, &'a Begun), Flaw>
+pub fn flight_in<'a>(book: &'a Book<Begun>, row: &ByteRecord) -> Result<(u32, &'a Begun), Flaw>
     ensures found { Finds (λ found. (found.0, found.1.now)) result (flight_in book.now (fields_of row.now)) }
     ensures here { IfOk result (λ found. slice_get book.now found.0 ≡ Some found.1.now) }
     ensures room { IfOk result (λ found. length found.1.now.legs < 64) }
 {
     let name = name_at(row, 2)?;
-    flight_at(book.flights(), book.find(name))
+    flight_at(book.items(), book.names().find(name))
 }
 
 // Whether the place is a sector, or one of the flight's two airports.
@@ -69,18 +70,18 @@ fn own_at(number: u32, places: &[Place], flight: &Begun, place: Option<u32>) -> 
 }
 
 #[tactic(auto, unfolding(crate::specs::Legs::own_in))]
-fn own_in(number: u32, book: &PlaceBook, flight: &Begun, row: &ByteRecord) -> Result<u32, Flaw>
+fn own_in(number: u32, book: &Book<Place>, flight: &Begun, row: &ByteRecord) -> Result<u32, Flaw>
     requires { 1 ≤ number }
     ensures found { Finds (λ place. place) result (own_in number book.now flight.now (fields_of row.now)) }
     ensures own { IfOk result (λ place. IsTrue (is_own book.now flight.now place)) }
 {
     let name = name_at(row, number)?;
-    own_at(number, book.places(), flight, book.find(name))
+    own_at(number, book.items(), flight, book.names().find(name))
 }
 
 // Where the leg starts.
 #[tactic(auto, unfolding(crate::specs::Legs::start_in))]
-fn start_in(book: &PlaceBook, flight: &Begun, row: &ByteRecord) -> Result<u32, Flaw>
+fn start_in(book: &Book<Place>, flight: &Begun, row: &ByteRecord) -> Result<u32, Flaw>
     ensures found { Finds (λ place. place) result (start_in book.now flight.now (fields_of row.now)) }
     ensures start { IfOk result (λ place. IsTrue (place == flight.now.from || is_among flight.now.reached place)) }
 {
@@ -104,7 +105,7 @@ fn is_full(total: u32, flight: &Begun) -> bool
 // Where the leg leads.
 #[tactic(auto, unfolding(crate::specs::Legs::end_in))]
 fn end_in(
-    book: &PlaceBook,
+    book: &Book<Place>,
     total: u32,
     flight: &Begun,
     from: u32,
@@ -132,7 +133,7 @@ fn end_in(
 
 /// The leg that a `leg` record tells of its flight.
 #[tactic(auto, unfolding(crate::specs::Legs::leg_of))]
-pub fn leg_of(book: &PlaceBook, total: u32, flight: &Begun, row: &ByteRecord) -> Result<Hop, Flaw>
+pub fn leg_of(book: &Book<Place>, total: u32, flight: &Begun, row: &ByteRecord) -> Result<Hop, Flaw>
     requires { length flight.now.legs < 64 }
     ensures found { Finds (λ leg. leg) result (leg_of book.now total flight.now (fields_of row.now)) }
     ensures valid { IfOk result (IsNewLeg book.now total flight.now) }

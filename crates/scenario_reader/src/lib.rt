@@ -28,6 +28,7 @@ ghost use Rattle.scenario_reader.specs.FirstForm.{HasFirstForm};
 ghost use Rattle.scenario_reader.specs.Reading.{scenario_of};
 
 mod begun;
+mod books;
 mod capacities;
 mod connections;
 mod date;

@@ -11,98 +11,25 @@ ghost use Rattle.scenario_reader.specs.Places.{airport_of, day_of, sector_of};
 ghost use Rattle.scenario_reader.specs.Sketch.{place_names};
 ghost use Rattle.flow_types.specs.declared.place.Place.{Place};
 
+use crate::books::Book;
 use crate::capacities::CapChange;
 use crate::date::moment_of;
 use crate::names::{NameIndex, new_name};
 use csv::ByteRecord;
-use flow_types::{CapKind, Caps, Day, OutOfMemory, Place, PlaceKind, Places, Sequence};
+use flow_types::{CapKind, Caps, Day, Place, PlaceKind, Sequence};
 use std::alloc::{AllocError, Global};
-use std::marker::Model;
 use text_records::{Flaw, Trouble, end_after, field_at, number_at};
 
-/// The places so far, found by their names. Contracts see it as the list.
-#[derive(Drop)]
-pub struct PlaceBook {
-    places: Vec<Place>,
-    index: NameIndex,
-}
-
-impl Model for PlaceBook {
-    ghost use Rattle.std.specs.Prelude.{◌≡◌, ◌≤◌, List, length};
-    ghost use Rattle.flow_types.specs.declared.place.Place.{Place};
-    ghost use Rattle.scenario_reader.specs.Sketch.{place_names};
-
-    ghost Value = { List Place };
-
-    ghost view = { λ book. book.places.items };
-
-    ghost invariant = { λ book. (book.index ≡ place_names book.places.items) × (length book.places.items ≤ 1000) };
-}
-
-impl PlaceBook {
-    /// No places. It takes no memory.
-    pub fn empty(alloc: Global) -> Self
-        ensures { result ≡ [] }
-    {
-        PlaceBook {
-            places: Vec::new(alloc),
-            index: NameIndex::empty(alloc),
-        }
-    }
-
-    /// The places.
-    pub fn places(&self) -> &[Place]
-        ensures { result.now ≡ self.now }
-    {
-        &self.places
-    }
-
-    /// The names of the places.
-    pub fn names(&self) -> &NameIndex
-        ensures { result.now ≡ place_names self.now }
-    {
-        &self.index
-    }
-
-    /// The place of this name.
-    pub fn find(&self, name: &[u8]) -> Option<u32>
-        ensures { result ≡ position_of name.now (place_names self.now) }
-    {
-        self.index.find(name)
-    }
-
-    /// The book with one more place, of a new name.
-    pub fn with_place(self, alloc: Global, place: Place) -> Result<Self, OutOfMemory>
-        requires fresh { position_of place.name (place_names self) ≡ None }
-        requires room { length self < 1000 }
-        ensures { IfOk result (λ book. book ≡ self ++ place ∷ []) }
-    {
-        let PlaceBook {
-            mut places,
-            mut index,
-        } = self;
-        index.add(alloc, place.name.items())?;
-        places.push(place)?;
-        Ok(PlaceBook { places, index })
-    }
-
+impl Book<Place> {
     /// The book with a change of a place's capacities. It takes no memory.
     pub fn with_change(self, change: CapChange) -> Self
         requires here { change.place < length self }
         requires within { (place : Place) → slice_get self change.place ≡ Some place → Reaches change place }
         ensures { result ≡ changed_at (with_change change) self change.place }
     {
-        let PlaceBook { mut places, index } = self;
-        change_place(&mut places[change.place as usize], change);
-        PlaceBook { places, index }
-    }
-
-    /// The places alone.
-    pub fn into_places(self) -> Places
-        ensures { result ≡ self }
-    {
-        let PlaceBook { places, index: _ } = self;
-        Sequence::from_vec(places)
+        let Book { mut items, index } = self;
+        change_place(&mut items[change.place as usize], change);
+        Book { items, index }
     }
 }
 

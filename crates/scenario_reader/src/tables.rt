@@ -8,83 +8,13 @@ ghost use Rattle.scenario_reader.specs.Sketch.{table_names};
 ghost use Rattle.scenario_reader.specs.Tables.{has_tables, pricing_of, signed, table_in, table_of, untabled_at, untabled_in, value_at, value_in, value_of, values_from};
 ghost use Rattle.scenario_reader.specs.Validity.{IsPricing};
 
-use crate::begun::{Begun, FlightBook};
+use crate::begun::Begun;
+use crate::books::Book;
 use crate::names::{NameIndex, known_in, new_name};
 use csv::ByteRecord;
-use flow_types::{Cause, Cost, CostTable, OutOfMemory, Sequence, Tables, Values, parse_number};
+use flow_types::{Cause, Cost, CostTable, Sequence, Values, parse_number};
 use std::alloc::Global;
-use std::marker::Model;
 use text_records::{Flaw, Trouble, end_after, field_at};
-
-/// The tables so far, found by their names. Contracts see it as the list.
-#[derive(Drop)]
-pub struct TableBook {
-    tables: Tables,
-    index: NameIndex,
-}
-
-impl Model for TableBook {
-    ghost use Rattle.std.specs.Prelude.{◌≡◌, ◌≤◌, List, length};
-    ghost use Rattle.flow_types.specs.declared.flight.CostTable.{CostTable};
-    ghost use Rattle.scenario_reader.specs.Sketch.{table_names};
-
-    ghost Value = { List CostTable };
-
-    ghost view = { λ book. book.tables };
-
-    ghost invariant = { λ book. (book.index ≡ table_names book.tables) × (length book.tables ≤ 1000) };
-}
-
-impl TableBook {
-    ghost use Rattle.std.specs.Prelude.{◌++◌, ◌∷◌, []};
-
-    /// No tables. It takes no memory.
-    pub fn empty(alloc: Global) -> Self
-        ensures { result ≡ [] }
-    {
-        TableBook {
-            tables: Sequence::empty(alloc),
-            index: NameIndex::empty(alloc),
-        }
-    }
-
-    /// The tables.
-    pub fn tables(&self) -> &[CostTable]
-        ensures { result.now ≡ self.now }
-    {
-        self.tables.items()
-    }
-
-    /// The names of the tables.
-    pub fn names(&self) -> &NameIndex
-        ensures { result.now ≡ table_names self.now }
-    {
-        &self.index
-    }
-
-    /// The book with one more table, of a new name.
-    pub fn with_table(self, alloc: Global, table: CostTable) -> Result<Self, OutOfMemory>
-        requires fresh { position_of table.name (table_names self) ≡ None }
-        requires room { length self < 1000 }
-        ensures { IfOk result (λ book. book ≡ self ++ table ∷ []) }
-    {
-        let TableBook {
-            mut tables,
-            mut index,
-        } = self;
-        index.add(alloc, table.name.items())?;
-        tables.add(table)?;
-        Ok(TableBook { tables, index })
-    }
-
-    /// The tables alone.
-    pub fn into_tables(self) -> Tables
-        ensures { result ≡ self }
-    {
-        let TableBook { tables, index: _ } = self;
-        tables
-    }
-}
 
 /// The tables of a flight. It and they are named by their positions.
 #[derive(Clone, Copy, Debug, PartialEq, Eq)]
@@ -208,12 +138,12 @@ fn untabled_at(flights: &[Begun], k: u32) -> Result<(u32, &Begun), Flaw>
 }
 
 #[tactic(auto, unfolding(crate::specs::Tables::untabled_in))]
-fn untabled_in<'a>(book: &'a FlightBook, row: &ByteRecord) -> Result<(u32, &'a Begun), Flaw>
+fn untabled_in<'a>(book: &'a Book<Begun>, row: &ByteRecord) -> Result<(u32, &'a Begun), Flaw>
     ensures found { Finds (λ found. (found.0, found.1.now)) result (untabled_in book.now (fields_of row.now)) }
     ensures here { IfOk result (λ found. slice_get book.now found.0 ≡ Some found.1.now) }
 {
     let k = known_in(2, book.names(), row)?;
-    untabled_at(book.flights(), k)
+    untabled_at(book.items(), k)
 }
 
 // How many values the table has.
@@ -228,13 +158,18 @@ fn value_count(tables: &[CostTable], table: u32) -> usize
 
 // The table, which has so many values at the least.
 #[tactic(auto, unfolding(crate::specs::Tables::table_in))]
-fn table_in(number: u32, least: usize, book: &TableBook, row: &ByteRecord) -> Result<u32, Flaw>
+fn table_in(
+    number: u32,
+    least: usize,
+    book: &Book<CostTable>,
+    row: &ByteRecord,
+) -> Result<u32, Flaw>
     requires { 1 ≤ number }
     ensures found { Finds (λ table. table) result (table_in number least book.now (fields_of row.now)) }
     ensures long { IfOk result (λ table. least ≤ value_count (slice_get book.now table)) }
 {
     let table = known_in(number, book.names(), row)?;
-    if value_count(book.tables(), table) < least {
+    if value_count(book.items(), table) < least {
         return Err(Flaw {
             field: number,
             cause: Cause::ShortTable,
@@ -246,8 +181,8 @@ fn table_in(number: u32, least: usize, book: &TableBook, row: &ByteRecord) -> Re
 /// The tables that a `cost` record tells of its flight.
 #[tactic(auto, unfolding(crate::specs::Tables::pricing_of))]
 pub fn pricing_of(
-    flights: &FlightBook,
-    tables: &TableBook,
+    flights: &Book<Begun>,
+    tables: &Book<CostTable>,
     row: &ByteRecord,
 ) -> Result<Pricing, Flaw>
     ensures found { Finds (λ pricing. pricing) result (pricing_of flights.now tables.now (fields_of row.now)) }

@@ -11,9 +11,9 @@ counted total nodes adds b e h = rw e h
 
 pub invariant_of-result : goal.invariant_of-result
 invariant_of-result c =
-    let flight = c.index-flights-flight.result in
+    let flight = c.index-items-flight.result in
     let here : slice_get c.args.self.flights c.args.flight ≡ Some flight =
-    slice_get_read c.args.self.flights _ c.args.flight flight refl c.requires.here (rw c.flights.ensures at c.index-flights-flight.is) in
+    slice_get_read c.args.self.flights _ c.args.flight flight refl c.requires.here (rw c.items.ensures at c.index-items-flight.is) in
     let total : c.if-adds.result ≡ c.args.self.nodes + cond (adds_node flight c.args.leg.to) 1 0 =
     elim c.if-adds.branch [
       | then-adds w ↦ counted _ _ _ true (sym c.adds_node-adds.ensures ∙ w.if-adds.true) w.result-is
