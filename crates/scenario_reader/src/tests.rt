@@ -1,6 +1,6 @@
 use crate::reading::read_exactly;
 use crate::{Refusal, read_scenario};
-use flow_types::{Cause, Fault, Leg, OutOfMemory, PlaceKind};
+use flow_types::{Cause, Connection, Cost, Fault, Leg, OutOfMemory, PlaceKind};
 use std::alloc::Global;
 use std::fmt::Write;
 use std::test::Fail;
@@ -16,6 +16,19 @@ leg,F1,S,DEST,2
 flight,F2,ORIG,DEST,0,2,4,5,1,2
 leg,F2,ORIG,S,0
 leg,F2,S,DEST,2
+";
+
+// One record at least of each kind that the two flights don't have.
+const MORE_KINDS: &[u8] = b"flight,G,DEST,ORIG,3,5,1,1,1,2
+leg,G,DEST,ORIG,2
+connect,F1,G,2
+table,TT,0,-5
+table,CC,0,2
+cost,G,TT,CC
+cap,dep,ORIG,1,2,0
+cap,dep,ORIG,2,2,7
+note,anything,\"at, all\"
+note
 ";
 
 // The first fault of a text, if it has one.
@@ -63,6 +76,103 @@ fn a_day_of_two_flights(rt: HostRuntime) -> Result<(), Fail> {
         };
         assert_eq!(rt; flight.legs.items(), [first, last].as_slice());
     }
+    Ok(())
+}
+
+#[test]
+fn records_of_all_kinds(rt: HostRuntime) -> Result<(), Fail> {
+    let mut text = Vec::from_slice(rt.alloc(), TWO_FLIGHTS)?;
+    text.extend_from_slice(MORE_KINDS)?;
+    assert!(rt; text.len() < 1000);
+    assert_eq!(rt;
+        read_scenario(rt.alloc(), &text).err(),
+        Some(Refusal::NotYet)
+    );
+    let Ok(scenario) = read_exactly(rt.alloc(), &text) else {
+        return Err(OutOfMemory.into());
+    };
+    let connection = Connection {
+        first: 0,
+        second: 2,
+        turnaround: 2,
+    };
+    assert_eq!(rt; scenario.connections(), [connection].as_slice());
+    assert_eq!(rt; scenario.tables().len(), 2);
+    assert_eq!(rt; scenario.tables()[0].name.items(), b"TT".as_slice());
+    assert_eq!(rt; scenario.tables()[0].values.items(), [0i64, -5].as_slice());
+    assert_eq!(rt; scenario.tables()[1].values.items(), [0i64, 2].as_slice());
+    assert_eq!(rt; scenario.flights().len(), 3);
+    let cost = Cost::Tables {
+        total: 0,
+        credit: 1,
+    };
+    assert_eq!(rt; scenario.flights()[2].cost, cost);
+    assert_eq!(rt; scenario.places().len(), 3);
+    assert_eq!(rt;
+        scenario.places()[0].first.items(),
+        [1, 0, 7, 1, 1, 1, 1, 1].as_slice()
+    );
+    assert_eq!(rt; scenario.places()[0].second.items(), [9; 8].as_slice());
+    Ok(())
+}
+
+// A day with so many tables of one value.
+fn day_with_tables(alloc: Global, tables: u32) -> Result<String, Fail> {
+    let mut text = day_with(alloc, 0)?;
+    for k in 0..tables {
+        writeln!(text, "table,T{k},-{k}")?;
+    }
+    Ok(text)
+}
+
+// A day with a table of so many values.
+fn day_with_values(alloc: Global, values: u32) -> Result<String, Fail> {
+    let mut text = day_with(alloc, 0)?;
+    write!(text, "table,T")?;
+    for k in 0..values {
+        write!(text, ",{k}")?;
+    }
+    Ok(text)
+}
+
+#[test]
+fn as_many_tables_and_values_as_there_may_be(rt: HostRuntime) -> Result<(), Fail> {
+    let tables = day_with_tables(rt.alloc(), 1000)?;
+    assert_eq!(rt; fault_of(rt.alloc(), tables.as_bytes())?, None);
+    let tables = day_with_tables(rt.alloc(), 1001)?;
+    assert_eq!(rt;
+        fault_of(rt.alloc(), tables.as_bytes())?,
+        fault(1004, 2, Cause::Limit)
+    );
+    let values = day_with_values(rt.alloc(), 512)?;
+    assert_eq!(rt; fault_of(rt.alloc(), values.as_bytes())?, None);
+    let values = day_with_values(rt.alloc(), 600)?;
+    assert_eq!(rt;
+        fault_of(rt.alloc(), values.as_bytes())?,
+        fault(4, 515, Cause::ExtraField)
+    );
+    Ok(())
+}
+
+#[test]
+fn as_many_connections_as_there_may_be(rt: HostRuntime) -> Result<(), Fail> {
+    let mut text = day_with(rt.alloc(), 0)?;
+    for flight in 0..64u32 {
+        fly_through(&mut text, flight, 0)?;
+        write!(
+            text,
+            "flight,G{flight},B,A,0,1,0,0,0,0\nleg,G{flight},B,A,1\n"
+        )?;
+    }
+    for pair in 0..4000u32 {
+        writeln!(text, "connect,F{},G{},1", pair / 64, pair % 64)?;
+    }
+    assert_eq!(rt; fault_of(rt.alloc(), text.as_bytes())?, None);
+    writeln!(text, "connect,F63,G63,1")?;
+    assert_eq!(rt;
+        fault_of(rt.alloc(), text.as_bytes())?,
+        fault(4260, 2, Cause::Limit)
+    );
     Ok(())
 }
 

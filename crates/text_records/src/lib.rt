@@ -16,7 +16,7 @@
 pub mod fields;
 pub mod flaw;
 pub mod rows;
-pub mod scan;
+mod scan;
 
 pub use fields::{end_after, field_at, name_at, number_at};
 pub use flaw::{Flaw, ReadError, Trouble, in_record};
