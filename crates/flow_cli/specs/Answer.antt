@@ -42,7 +42,7 @@ pub record IsPlanned (bytes printed : List ℕ) (status : Status) : Type 0 where
   pub form : HasFirstForm bytes
   pub day : IsPlannedDay parts printed status
 
--- the bytes aren't a scenario, or not one of the form that is read so far
+-- the bytes aren't a scenario, or not one of the form that is planned so far
 pub record IsRefused (bytes printed : List ℕ) (status : Status) : Type 0 where
   pub ends : status ≡ BadScenario
   pub form : HasFirstForm bytes → ⊥

@@ -1,6 +1,6 @@
 -- Which rule a plan breaks first: the number of its trips, then the trips flight by flight and stop
 -- by stop, then the turnarounds, then the capacities to depart, to arrive and inside sectors.
--- Every plan has an answer. A node that a flight hasn't is entered by no leg, so that its window is
+-- It is said of every plan. A node that a flight hasn't is entered by no leg, so that its window is
 -- never asked for; and the turnarounds and capacities are asked for where all trips are trips.
 use Rattle.std.specs.Prelude.{ℕ, zero, suc, ◌+◌, ◌==◌, Bool, ◌&&◌, nat_le, List, [], ◌∷◌, length, Option, Some, None, Result, Ok, Err, ◌≡◌, slice_get, slice_index_or, option_and_then, if◌then◌else◌}
 use Rattle.std.specs.List.{find}

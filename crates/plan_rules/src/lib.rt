@@ -8,7 +8,7 @@
 //! plan's trips. `plans_that_break_nothing_are_feasible` ties the two definitions together.
 //!
 //! Time: `judge` looks at each stop with the legs of its flight, at each period that a flight
-//! spends in a sector, and at each place and period once. `Loads` take twelve bytes a place and
+//! spends in a sector, and a few times at each place and period. `Loads` take twelve bytes a place and
 //! period, and eight a flight.
 #![tactic(auto)]
 
@@ -17,9 +17,9 @@ pub mod costs;
 pub mod judging;
 pub mod laws;
 pub mod loads;
-pub mod stays;
-pub mod table;
-pub mod trips;
+mod stays;
+mod table;
+mod trips;
 
 pub use broken::Broken;
 pub use costs::cost;

@@ -38,7 +38,7 @@ impl Table {
         clear_all(&mut self.counts);
     }
 
-    /// The count of the place in the period, 0 outside the table.
+    /// The count of the place in the period, which are in the table.
     pub fn get(&self, place: u32, period: u16) -> u32
         ensures { place < self.now.places → period < self.now.periods → result ≡ count_at self.now place period }
     {

@@ -1,4 +1,4 @@
--- The texts that are read so far: those whose records are of the first kinds.
+-- The texts that are planned so far: those whose records are of the first kinds.
 use Rattle.std.specs.Prelude.{ℕ, Bool, true, false, List, Option, Some, None, Result, Ok, Err, All, IsOkAnd, IsTrue}
 use Rattle.std.specs.List.{list_all}
 use Rattle.flow_types.specs.Routes.{IsChain}

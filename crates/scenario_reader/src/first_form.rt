@@ -1,4 +1,4 @@
-//! The texts that are read so far.
+//! The texts that are planned so far.
 ghost use Rattle.std.specs.Prelude.{◌≡◌, ◌↔◌, All, IfOk, IsTrue};
 ghost use Rattle.csv.specs.Records.{fields_of};
 ghost use Rattle.flow_types.specs.Routes.{IsChain};
@@ -12,7 +12,7 @@ use flow_types::{Leg, OutOfMemory, Scenario};
 use std::alloc::Global;
 use text_records::{Rows, field_at};
 
-// Whether records of this kind are read so far.
+// Whether days with records of this kind are planned so far.
 fn is_first_kind(kind: Option<Kind>) -> bool
     ensures { result ≡ is_first_kind kind }
 {
@@ -22,7 +22,7 @@ fn is_first_kind(kind: Option<Kind>) -> bool
     }
 }
 
-// Whether the record is of a kind that is read so far.
+// Whether the record is of such a kind.
 fn is_first(row: &ByteRecord) -> bool
     ensures { result ≡ is_first (fields_of row.now) }
 {
@@ -32,7 +32,7 @@ fn is_first(row: &ByteRecord) -> bool
     }
 }
 
-/// Whether each record of a text is of a kind that is read so far.
+/// Whether each record of a text is of a kind that is planned so far.
 pub fn are_first(alloc: Global, text: &[u8]) -> Result<bool, OutOfMemory>
     ensures { IfOk result (λ first. first ≡ are_first (rows_of text.now)) }
 {
@@ -45,6 +45,7 @@ pub fn are_first(alloc: Global, text: &[u8]) -> Result<bool, OutOfMemory>
     }
     Ok(true)
 }
+
 // Whether no two legs leave one node.
 fn is_chain(legs: &[Leg]) -> bool
     ensures { IsTrue result ↔ IsChain legs.now }

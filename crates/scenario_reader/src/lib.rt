@@ -53,7 +53,7 @@ use text_records::ReadError;
 /// Why a text isn't read.
 #[derive(Clone, Copy, Debug, PartialEq, Eq)]
 pub enum Refusal {
-    /// The text isn't a scenario, or not one that is read so far: each of its records a `day`,
+    /// The text isn't a scenario, or not one that is planned so far: each of its records a `day`,
     /// `airport`, `sector`, `flight` or `leg`, and no two legs of a flight from one node.
     NotYet,
     OutOfMemory,

@@ -15,8 +15,8 @@ rows_of bytes = records default_config (strip_bom bytes)
 abbrev pub rows_from : State → List ℕ → List Fields
 rows_from state bytes = records_from default_config (length bytes + 1) state bytes
 
--- What is kept of a record: its first 515 fields, and the first 33 bytes of each. A record of any kind
--- has at most 514 fields, and a field that passes any test at most 32 bytes.
+-- What is kept of a record: its first 515 fields, and the first 33 bytes of each. No record that isn't
+-- passed over may have more than 514 fields, and a field that passes any test has at most 32 bytes.
 abbrev pub clipped : Fields → Fields
 clipped fields = map (take 33) (take 515 fields)
 

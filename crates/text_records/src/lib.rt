@@ -1,8 +1,8 @@
 //! Texts of records: their rows one at a time, and fields that are names or numbers.
 //!
 //! A caller makes `Rows` of a text, which contracts see as the list of what is kept of each record that
-//! is left (`clipped`: as many fields, and as many bytes of each, as any record may have), and has
-//! `next_row` fill one `ByteRecord` with each in turn. The records of a text are those of `csv`'s
+//! is left (`clipped`: one field, and one byte of each field, more than any record may have that isn't
+//! passed over), and has `next_row` fill one `ByteRecord` with each in turn. The records of a text are those of `csv`'s
 //! definitions, and what is kept tells of their fields what they tell (`proofs/ClippedFacts.antt`).
 //!
 //! A field's function answers the value or a `Flaw`, which is a field and a cause; a `Flaw` and the

@@ -1,5 +1,5 @@
 //! The rows of a text, one at a time.
-ghost use Rattle.std.specs.Prelude.{◌≡◌, ◌≤◌, [], IfOk, OnErr, length, map};
+ghost use Rattle.std.specs.Prelude.{◌≡◌, ◌≤◌, [], Ok, false, IfOk, OnErr, length, map};
 ghost use Rattle.csv.specs.Reading.{is_bom, strip_bom};
 ghost use Rattle.csv.specs.Records.{fields_of};
 ghost use Rattle.text_records.specs.Rows.{TakesRow, clipped, rows_of};
@@ -41,9 +41,10 @@ impl<'a> Rows<'a> {
 
     /// Puts what is kept of the next record into `row`, if there is one: its first 515 fields, and the
     /// first 33 bytes of each. After want of memory nothing is left. It takes at most the memory of
-    /// these.
+    /// these. Where there is none, nothing is left, and what `row` holds isn't said.
     pub fn next_row(&mut self, row: &mut ByteRecord) -> Result<bool, OutOfMemory>
         ensures takes { IfOk result (λ found. TakesRow found self.old (fields_of row.new) self.new) }
+        ensures ends { result ≡ Ok false → self.new ≡ [] }
         ensures stops { OnErr result (self.new ≡ []) }
     {
         let text = self.left;

@@ -1,7 +1,7 @@
 //! One record of a text, byte by byte, after the state machine of `csv`.
 //!
 //! `csv`'s own reader holds a record whole, at 8 bytes a field, in a block that doubles; here no more is
-//! held of a record than what any record may have (`clipped` in `specs/Rows.antt`).
+//! held of a record than what tells whether it may stand (`clipped` in `specs/Rows.antt`).
 ghost use Rattle.std.specs.Prelude.{◌≡◌, [], IfOk, OnOk, length, option_map};
 ghost use Rattle.csv.specs.Machine.{ends_at_end, is_end};
 ghost use Rattle.csv.specs.Records.{fields_of, partial_of};

@@ -11,3 +11,6 @@ returns-in-Some-clause-takes c =
 pub returns-in-None-clause-takes : goal.returns-in-None-clause-takes
 returns-in-None-clause-takes c =
     rw (← c.self.view_is) (took_none _ (rw c.in-None.is at c.in_ok-left.ensures))
+
+pub returns-in-None-clause-ends : goal.returns-in-None-clause-ends
+returns-in-None-clause-ends c = λ e. none_left
