@@ -1,5 +1,5 @@
 -- The plan of a text, or its first fault.
-use Rattle.std.specs.Prelude.{ℕ, ◌+◌, List, [], ◌∷◌, map, set, Option, Some, None, Result, Ok, Err}
+use Rattle.std.specs.Prelude.{ℕ, ◌+◌, List, [], ◌∷◌, length, map, replicate, set, Option, Some, None, Result, Ok, Err}
 use Rattle.flow_types.specs.declared.fault.Cause.TheVariants.{UnknownKind}
 use Rattle.flow_types.specs.declared.fault.Fault.{Fault}
 use Rattle.flow_types.specs.declared.flight.Flight.{Flight}
@@ -43,7 +43,7 @@ records_step parts at told (fields ∷ rows) = do
 
 -- before the first record
 abbrev pub none_told : List Flight → Told
-none_told flights = map (λ flight. None) flights
+none_told flights = replicate (length flights) None
 
 -- the stops, none where no record told a trip
 abbrev pub stops_or_none : Option (List Stop) → List Stop

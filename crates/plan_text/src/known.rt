@@ -32,7 +32,7 @@ impl<'a> Model for Known<'a> {
 
 impl<'a> Known<'a> {
     /// The scenario with its names. It takes memory for the names.
-    pub fn of(alloc: Global, scenario: &'a Scenario) -> Result<Self, OutOfMemory>
+    pub fn of_scenario(alloc: Global, scenario: &'a Scenario) -> Result<Self, OutOfMemory>
         ensures { IfOk result (λ known. known ≡ parts_of scenario.now) }
     {
         let flights = NameIndex::of_flights(alloc, scenario.flights())?;
