@@ -26,10 +26,9 @@ mod reading;
 mod told;
 mod trips;
 
-pub use lines::trip_line;
-
 use crate::reading::read_exactly;
 use flow_types::{Fault, Plan, Scenario};
+pub use lines::trip_line;
 use std::alloc::Global;
 use text_records::ReadError;
 
@@ -58,3 +57,6 @@ pub fn read_plan(alloc: Global, s: &Scenario, text: &[u8]) -> Result<Plan, PlanR
         Err(ReadError::OutOfMemory) => Err(PlanRefusal::OutOfMemory),
     }
 }
+
+#[cfg(test)]
+mod tests;

@@ -61,12 +61,7 @@ fn stop_in(known: &Known, nodes: &[u32], row: &ByteRecord, number: u32) -> Resul
 }
 
 // The stops that the record tells, of which there are at most 32.
-fn stops_in(
-    alloc: Global,
-    known: &Known,
-    nodes: &[u32],
-    row: &ByteRecord,
-) -> Result<Trip, Trouble>
+fn stops_in(alloc: Global, known: &Known, nodes: &[u32], row: &ByteRecord) -> Result<Trip, Trouble>
     requires { length nodes.now ≤ 32 }
     ensures { Gives (λ trip. trip) result (stops_from known.now nodes.now (fields_of row.now) 32 3) }
 {
