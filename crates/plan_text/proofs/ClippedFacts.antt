@@ -1,12 +1,11 @@
 -- What is kept of each record makes the same plan, or the same first fault, as the whole records.
-use Rattle.std.proofs.Common.{◌≡◌, ℕ, zero, suc, ◌+◌, ◌*◌, ◌-◌, ◌≤◌, ◌<◌, Bool, true, false, cond, ◌||◌, List, [], ◌∷◌, length, map, take, min, nat_lt, Option, Some, None, Result, Ok, Err, refl, ap, sym, ◌∙◌, arith}
+use Rattle.std.proofs.Common.{◌≡◌, ℕ, zero, suc, ◌+◌, ◌*◌, ◌-◌, ◌≤◌, ◌<◌, Bool, true, false, List, [], ◌∷◌, length, map, take, min, nat_lt, Option, Some, None, refl, ap, ◌∙◌, arith}
 use Rattle.std.specs.Prelude.{codes}
 use Rattle.std.proofs.lemmas.Bool.{le-ltb, lt-ltb, ltb-false, ltb-true}
 use Rattle.std.proofs.lemmas.List.{length-map, length-take}
 use Rattle.flow_types.specs.declared.parts.Parts.{Parts}
-use Rattle.flow_types.specs.declared.plan.Stop.{Stop}
 use Rattle.text_records.specs.Fields.{field_in}
-use Rattle.text_records.specs.Flaws.{◌>>=◌, in_record}
+use Rattle.text_records.specs.Flaws.{in_record}
 use Rattle.text_records.specs.Rows.{Fields, clipped}
 use Rattle.text_records.proofs.ClippedFacts.{bind_same, kept_ends_after, kept_field_in, kept_name_in, kept_number_in, long_other, same_of}
 use Rattle.plan_text.specs.Kinds.{kind_of}

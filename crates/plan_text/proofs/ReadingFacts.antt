@@ -1,10 +1,10 @@
 -- The definition, record by record.
-use Rattle.std.proofs.Common.{◌≡◌, ℕ, ◌+◌, List, [], ◌∷◌, length, map, replicate, set, Option, Some, None, Result, Ok, Err, refl, sym, ap, ◌∙◌}
+use Rattle.std.proofs.Common.{◌≡◌, ℕ, ◌+◌, List, [], ◌∷◌, length, Option, Some, None, Result, Ok, Err, refl, sym, ◌∙◌}
 use Rattle.flow_types.specs.declared.fault.Fault.{Fault}
 use Rattle.flow_types.specs.declared.parts.Parts.{Parts}
 use Rattle.flow_types.specs.declared.plan.Stop.{Stop}
 use Rattle.std.proofs.lemmas.List.{length-map, length-replicate, length-set}
-use Rattle.text_records.specs.Fields.{ends_after, field_in}
+use Rattle.text_records.specs.Fields.{field_in}
 use Rattle.text_records.specs.Flaws.{◌>>=◌, error_of, fault_of, in_record, Refuses, Stops}
 use Rattle.text_records.specs.Rows.{Fields}
 use Rattle.text_records.specs.declared.flaw.Flaw.{Flaw}

@@ -1,9 +1,8 @@
-use Rattle.std.proofs.Common.{◌≡◌, ◌∙◌, List, length, map, None, replicate, sym, rules}
+use Rattle.std.proofs.Common.{◌≡◌, rules}
 use Rattle.std.proofs.lemmas.Result.{err_from_is_err_and}
 use Rattle.flow_types.specs.Scenario.{parts_of}
-use Rattle.text_records.specs.Flaws.{Reads, Refuses}
-use Rattle.text_records.specs.Rows.{clipped, rows_of}
-use Rattle.plan_text.specs.Plans.{none_told, records_step}
+use Rattle.text_records.specs.Rows.{rows_of}
+use Rattle.plan_text.specs.Plans.{none_told}
 use Rattle.plan_text.proofs.ClippedFacts.{kept_plan}
 use Rattle.plan_text.proofs.ReadingFacts.{plan_is, plan_refused}
 use Rattle.plan_text.proofs.reading.read_exactly.Goals as goal

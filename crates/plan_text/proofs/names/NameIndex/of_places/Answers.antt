@@ -1,4 +1,4 @@
-use Rattle.std.proofs.Common.{◌≡◌, ℕ, List, arith}
+use Rattle.std.proofs.Common.{arith}
 use Rattle.flow_types.specs.declared.place.Place.{Place}
 use Rattle.plan_text.proofs.NameFacts.{fresh}
 use Rattle.plan_text.proofs.names.NameIndex.of_places.Goals as goal
