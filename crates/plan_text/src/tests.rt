@@ -161,7 +161,7 @@ fn trips_stand_in_the_order_of_the_flights(rt: HostRuntime) -> Result<(), Fail> 
 }
 
 #[test]
-fn the_first_fault(rt: HostRuntime) -> Result<(), Fail> {
+fn the_first_fault_of_a_flight(rt: HostRuntime) -> Result<(), Fail> {
     let s = two_flights(rt.alloc())?;
     let cases = [
         (
@@ -182,6 +182,17 @@ fn the_first_fault(rt: HostRuntime) -> Result<(), Fail> {
             b"trip,F1\ntrip,F1\n".as_slice(),
             fault(2, 2, Cause::Repeated),
         ),
+    ];
+    for (text, wanted) in cases {
+        assert_eq!(rt; fault_of(rt.alloc(), &s, text)?, wanted);
+    }
+    Ok(())
+}
+
+#[test]
+fn the_first_fault_of_a_stop(rt: HostRuntime) -> Result<(), Fail> {
+    let s = two_flights(rt.alloc())?;
+    let cases = [
         (b"trip,F1,S!,0\n".as_slice(), fault(1, 3, Cause::BadName)),
         (b"trip,F1,\n".as_slice(), fault(1, 3, Cause::BadName)),
         (b"trip,F1,T,0\n".as_slice(), fault(1, 3, Cause::UnknownName)),
