@@ -1,0 +1,5 @@
+pub mod NameFacts
+pub mod TripFacts
+pub mod ReadingFacts
+pub mod ClippedFacts
+mod Worked

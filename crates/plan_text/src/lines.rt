@@ -1,0 +1,99 @@
+//! The line of a trip.
+ghost use Rattle.std.specs.Prelude.{◌≡◌, ◌<◌, ◌++◌, All, IfOk, IfSome, OnOk, length, slice_get};
+ghost use Rattle.flow_types.specs.Scenario.{flight_at, parts_of};
+ghost use Rattle.flow_types.specs.Trips.{place_at};
+ghost use Rattle.plan_text.specs.Lines.{name_at, stop_text, stops_text, trip_text};
+
+use flow_types::{Flight, OutOfMemory, Place, Scenario, Stop};
+use std::alloc::Global;
+
+// Adds bytes at the end.
+fn put(out: &mut Vec<u8>, bytes: &[u8]) -> Result<(), OutOfMemory>
+    ensures { OnOk result (out.new.items ≡ out.old.items ++ bytes.now) }
+{
+    out.extend_from_slice(bytes)?;
+    Ok(())
+}
+
+// The name of the place at the node of the flight, empty where there is none.
+fn name_at<'a>(places: &'a [Place], flight: &Flight, node: u16) -> &'a [u8]
+    ensures { result.now ≡ name_at (slice_get places.now (place_at flight.now node)) }
+{
+    let place = flight
+        .nodes
+        .items()
+        .get(node as usize)
+        .copied()
+        .unwrap_or(0);
+    match places.get(place as usize) {
+        None => b"",
+        Some(place) => place.name.items(),
+    }
+}
+
+// Adds a stop of the flight.
+fn put_stop(
+    alloc: Global,
+    out: &mut Vec<u8>,
+    places: &[Place],
+    flight: &Flight,
+    stop: Stop,
+) -> Result<(), OutOfMemory>
+    ensures { OnOk result (out.new.items ≡ out.old.items ++ stop_text places.now flight.now stop) }
+{
+    put(out, b",")?;
+    put(out, name_at(places, flight, stop.node))?;
+    put(out, b",")?;
+    put(out, stop.time.to_string(alloc)?.as_bytes())
+}
+
+// Adds the stops of the flight.
+fn put_stops(
+    alloc: Global,
+    out: &mut Vec<u8>,
+    places: &[Place],
+    flight: &Flight,
+    stops: &[Stop],
+) -> Result<(), OutOfMemory>
+    ensures { OnOk result (out.new.items ≡ out.old.items ++ stops_text places.now flight.now stops.now) }
+{
+    for stop in stops {
+        put_stop(alloc, out, places, flight, *stop)?;
+    }
+    Ok(())
+}
+
+// Adds the line for the trip of the flight.
+fn put_trip(
+    alloc: Global,
+    out: &mut Vec<u8>,
+    places: &[Place],
+    flight: &Flight,
+    stops: &[Stop],
+) -> Result<(), OutOfMemory>
+    ensures { OnOk result (out.new.items ≡ out.old.items ++ trip_text places.now flight.now stops.now) }
+{
+    put(out, b"trip,")?;
+    put(out, flight.name.items())?;
+    put_stops(alloc, out, places, flight, stops)?;
+    put(out, b"\n")
+}
+
+/// The line of a flight's trip, with its line feed: `trip,<flight>,<place>,<period>,..`. The flight is
+/// one of the scenario's by its position, and the stops are at nodes of it, in any order. It takes
+/// memory for the line.
+pub fn trip_line(
+    alloc: Global,
+    s: &Scenario,
+    flight: u32,
+    stops: &[Stop],
+) -> Result<Vec<u8>, OutOfMemory>
+    requires flight { flight < length (parts_of s.now).flights }
+    requires nodes { IfSome (flight_at s.now flight) (λ of. All (λ stop. stop.node < length of.nodes) stops.now) }
+    ensures { IfSome (flight_at s.now flight) (λ of. IfOk result (λ line. line.items ≡ trip_text (parts_of s.now).places of stops.now)) }
+{
+    let mut line = Vec::new(alloc);
+    let flight = &s.flights()[flight as usize];
+    put_trip(alloc, &mut line, s.places(), flight, stops)?;
+    Ok(line)
+}
