@@ -1,7 +1,7 @@
 //! A scenario whose flights and places are found by their names.
-ghost use Rattle.std.specs.Prelude.{◌≡◌, ◌≤◌, ◌-◌, ◌==◌, Some, IfOk, length, position};
+ghost use Rattle.std.specs.Prelude.{◌≡◌, ◌≤◌, ◌-◌, ◌==◌, IfOk, length, position};
 ghost use Rattle.flow_types.specs.Scenario.{parts_of};
-ghost use Rattle.plan_text.specs.Names.{flight_names, node_at, node_named, nodes_at, position_of};
+ghost use Rattle.plan_text.specs.Names.{flight_names, node_named, nodes_at, position_of};
 
 use crate::names::NameIndex;
 use flow_types::{OutOfMemory, Scenario};
@@ -19,7 +19,6 @@ pub struct Known<'a> {
 impl<'a> Model for Known<'a> {
     ghost use Rattle.std.specs.Prelude.{◌≡◌};
     ghost use Rattle.flow_types.specs.Scenario.{parts_of};
-    ghost use Rattle.flow_types.specs.Valid.{IsScenario};
     ghost use Rattle.flow_types.specs.declared.parts.Parts.{Parts};
     ghost use Rattle.plan_text.specs.Names.{flight_names, place_names};
 

@@ -1,5 +1,5 @@
 //! Names by their positions.
-ghost use Rattle.std.specs.Prelude.{◌≡◌, ◌≢◌, ◌<◌, ◌≤◌, ◌-◌, ◌^◌, ◌++◌, ◌∷◌, [], None, AllPairs, IfOk, IfSome, OnOk, length};
+ghost use Rattle.std.specs.Prelude.{◌≡◌, ◌≢◌, ◌<◌, ◌≤◌, ◌-◌, ◌^◌, ◌++◌, ◌∷◌, [], None, AllPairs, IfOk, OnOk, length};
 ghost use Rattle.plan_text.specs.Names.{flight_names, place_names, position_of};
 
 use flow_types::{Flight, OutOfMemory, Place};

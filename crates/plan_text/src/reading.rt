@@ -1,5 +1,5 @@
 //! A text record by record, into one `ByteRecord` that is used again.
-ghost use Rattle.std.specs.Prelude.{◌≡◌, ◌≤◌, length};
+ghost use Rattle.std.specs.Prelude.{◌≤◌, length};
 ghost use Rattle.csv.specs.Records.{fields_of};
 ghost use Rattle.flow_types.specs.Scenario.{parts_of};
 ghost use Rattle.text_records.specs.Flaws.{Gives, Reads};

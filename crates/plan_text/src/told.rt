@@ -1,5 +1,5 @@
 //! The trips that have been read so far.
-ghost use Rattle.std.specs.Prelude.{◌≡◌, ◌<◌, Some, IfOk, length, set, slice_get};
+ghost use Rattle.std.specs.Prelude.{◌≡◌, ◌<◌, None, IfOk, length, replicate, slice_get};
 ghost use Rattle.text_records.specs.Flaws.{Finds};
 ghost use Rattle.plan_text.specs.Plans.{trips_of, with_trip};
 ghost use Rattle.plan_text.specs.Trips.{untold_at};
@@ -24,8 +24,6 @@ impl Model for Told {
 }
 
 impl Told {
-    ghost use Rattle.std.specs.Prelude.{◌≡◌, ◌<◌, IfOk, None, length, replicate};
-
     /// No trips of so many flights.
     pub fn none(alloc: Global, flights: usize) -> Result<Self, OutOfMemory>
         ensures { IfOk result (λ told. told ≡ replicate flights None) }

@@ -1,5 +1,5 @@
 //! The record `trip`.
-ghost use Rattle.std.specs.Prelude.{◌≡◌, ◌≤◌, ◌<◌, IfOk, length};
+ghost use Rattle.std.specs.Prelude.{◌≤◌, ◌<◌, IfOk, length};
 ghost use Rattle.csv.specs.Records.{fields_of};
 ghost use Rattle.text_records.specs.Flaws.{Finds, Gives};
 ghost use Rattle.plan_text.specs.Names.{known_at};
