@@ -2,7 +2,7 @@
 use Rattle.std.proofs.Common.{◌≡◌, ℕ, suc, ◌+◌, ◌-◌, ◌≤◌, ◌<◌, Bool, true, false, cond, ◌||◌, eqb, List, [], ◌∷◌, ◌++◌, length, map, take, drop, get_or, Option, Some, None, Result, Ok, Err, OnErr, refl, ap, sym, ◌∙◌, nat_lt, option_map, arith}
 use Rattle.std.proofs.lemmas.Bool.{le-ltb, ltb-false, ltb-true}
 use Rattle.std.proofs.lemmas.List.{length-append, length-map, length-take-le, take-append-le, take_all, take_rest}
-use Rattle.csv.specs.Machine.{Read, ends_at_end, field_after, fields_after, is_end, next_record, start_field, step}
+use Rattle.csv.specs.Machine.{Read, ends_at_end, field_after, fields_after, is_end, next_record, ends_with, start_field, step}
 use Rattle.csv.specs.Reading.{default_config, is_bom, records, records_from, strip_bom}
 use Rattle.csv.specs.declared.parser.Action.{Action}
 use Rattle.csv.specs.declared.parser.Action.TheVariants as act
@@ -193,6 +193,22 @@ took_none bytes e = by (next_record default_config st.StartRecord [] [] bytes) r
     by : (o : Option Read) → next_record default_config st.StartRecord [] [] bytes ≡ o → None ≡ option_map kept_of o → rows_left bytes ≡ []
     by None is e = ap (map clipped) (no_row st.StartRecord bytes is)
     by (Some read) is e = absurd cc
+
+-- the end of a line at the front gives no record
+blank_step : (byte : ℕ) → ends_with default_config.terminator byte ≡ true → step default_config st.StartRecord byte ≡ (st.StartRecord, act.Skip)
+blank_step byte e = rw e refl
+
+blank_record : (byte : ℕ) (rest : List ℕ) → ends_with default_config.terminator byte ≡ true
+    → next_record default_config st.StartRecord [] [] (byte ∷ rest) ≡ next_record default_config st.StartRecord [] [] rest
+unfolding next_record
+blank_record byte rest e = rw (blank_step byte e) refl
+
+pub blank_left : (byte : ℕ) (bytes rest : List ℕ) → bytes ≡ byte ∷ rest → ends_with default_config.terminator byte ≡ true → rows_left bytes ≡ rows_left rest
+blank_left byte bytes rest is e = rw is (ap (map clipped) (by (next_record default_config st.StartRecord [] [] rest) refl))
+  where
+    by : (o : Option Read) → next_record default_config st.StartRecord [] [] rest ≡ o → records default_config (byte ∷ rest) ≡ records default_config rest
+    by None none = no_row st.StartRecord (byte ∷ rest) (blank_record byte rest e ∙ none) ∙ sym (no_row st.StartRecord rest none)
+    by (Some read) some = first_row st.StartRecord (byte ∷ rest) read refl (blank_record byte rest e ∙ some) ∙ sym (first_row st.StartRecord rest read refl some)
 
 pub none_left : rows_left [] ≡ []
 unfolding kept_record

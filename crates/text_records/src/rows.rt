@@ -1,8 +1,10 @@
 //! The rows of a text, one at a time.
 ghost use Rattle.std.specs.Prelude.{◌≡◌, ◌≤◌, [], Ok, false, IfOk, OnErr, length, map};
-ghost use Rattle.csv.specs.Reading.{is_bom, strip_bom};
+ghost use Rattle.csv.specs.Machine.{ends_with};
+ghost use Rattle.csv.specs.Reading.{default_config, is_bom, strip_bom};
 ghost use Rattle.csv.specs.Records.{fields_of};
 ghost use Rattle.text_records.specs.Rows.{TakesRow, clipped, rows_of};
+ghost use Rattle.text_records.specs.Scan.{rows_left};
 
 use crate::scan::take_record;
 use csv::ByteRecord;
@@ -47,7 +49,7 @@ impl<'a> Rows<'a> {
         ensures ends { result ≡ Ok false → self.new ≡ [] }
         ensures stops { OnErr result (self.new ≡ []) }
     {
-        let text = self.left;
+        let text = without_blanks(self.left);
         self.left = &[];
         match take_record(text, row, &mut self.field)? {
             Some(left) => {
@@ -57,6 +59,26 @@ impl<'a> Rows<'a> {
             None => Ok(false),
         }
     }
+}
+
+// What is left of a text without the ends of lines at its front, which give no record.
+fn without_blanks(text: &[u8]) -> &[u8]
+    ensures { rows_left result.now ≡ rows_left text.now }
+{
+    let mut rest = text;
+    'blanks: while let Some((byte, after)) = rest.split_first() {
+        if !ends_line(*byte) {
+            return rest;
+        }
+        rest = after;
+    }
+    rest
+}
+
+fn ends_line(byte: u8) -> bool
+    ensures { result ≡ ends_with default_config.terminator byte }
+{
+    byte == b'\r' || byte == b'\n'
 }
 
 // A text without the byte order mark at its start.
