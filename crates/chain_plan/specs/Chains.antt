@@ -1,8 +1,11 @@
 -- Flights whose routes are chains: the trip that is never late, and the least cost of any trip.
-use Rattle.std.specs.Prelude.{◌≡◌, ℕ, zero, suc, ◌+◌, ◌-◌, ◌≤◌, ◌==◌, max, min, List, [], ◌∷◌, length, map, All, if◌then◌else◌, ℤ, ◌-ℤ◌, ◌≤ℤ◌}
+use Rattle.std.specs.Prelude.{◌≡◌, ℕ, zero, suc, ◌+◌, ◌-◌, ◌≤◌, ◌==◌, Bool, true, false, IsTrue, max, min, List, [], ◌∷◌, length, map, All, if◌then◌else◌, ℤ, ◌-ℤ◌, ◌≤ℤ◌}
+use Rattle.flow_types.specs.declared.flight.Cost.{Cost}
+use Rattle.flow_types.specs.declared.flight.Cost.TheVariants.{Linear, Tables}
 use Rattle.flow_types.specs.declared.flight.CostTable.{CostTable}
 use Rattle.flow_types.specs.declared.flight.Flight.{Flight}
 use Rattle.flow_types.specs.declared.flight.Leg.{Leg}
+use Rattle.flow_types.specs.declared.parts.Parts.{Parts}
 use Rattle.flow_types.specs.declared.plan.Stop.{Stop}
 use Rattle.flow_types.specs.Costs.{credit_of, total_of}
 use Rattle.flow_types.specs.Routes.{IsChain}
@@ -10,6 +13,18 @@ use Rattle.flow_types.specs.Routes.{IsChain}
 -- no flight has two legs from one node
 abbrev pub AreChains : List Flight → Type 0
 AreChains flights = All (λ flight. IsChain flight.legs) flights
+
+-- each period of delay costs the same
+abbrev pub is_linear : Cost → Bool
+is_linear (Linear on_ground airborne) = true
+is_linear (Tables total credit) = false
+
+-- The days that are planned here: every route is a chain, no flight has tables of costs, and no two
+-- flights are connected.
+pub record IsDayOfChains (parts : Parts) : Type 0 where
+  pub apart : parts.connections ≡ []
+  pub chains : AreChains parts.flights
+  pub linear : All (λ flight. IsTrue (is_linear flight.cost)) parts.flights
 
 -- the least time of the leg from a node
 abbrev pub least_from : List Leg → ℕ → ℕ

@@ -1,5 +1,7 @@
 //! A first plan, and a bound, for a day whose routes are chains.
 //!
+//! `is_day_of_chains` says of a day whether it is one: that is proved both ways.
+//!
 //! `plan_chains` gives each flight its earliest trip, which departs on schedule, and keeps the plan
 //! where it is feasible. Its bound is the sum over the flights of the least cost of a ground delay
 //! and an arrival delay that leave time for the legs between; it is `NoPlan` where a flight has no
@@ -10,10 +12,12 @@
 //! its loads.
 #![tactic(auto)]
 
+pub mod chains;
 pub mod earliest;
 pub mod outcome;
 pub mod pairs;
 
+pub use chains::is_day_of_chains;
 pub use outcome::{Costed, Outcome, plan_chains};
 
 #[cfg(test)]

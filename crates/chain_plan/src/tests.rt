@@ -1,7 +1,4 @@
 //! What no clause says: that a day is planned with ample memory, and what its plan and bound are.
-ghost use Rattle.std.specs.Prelude.{◌↔◌, All, IsTrue};
-ghost use Rattle.flow_types.specs.Routes.{IsChain};
-
 use super::*;
 use crate::earliest::{earliest_arrival, earliest_trip, has_earliest, least_time};
 use crate::pairs::least_pair;
@@ -94,27 +91,6 @@ fn two_flights(alloc: Global, leave: u32, second: Flight) -> Result<Scenario, Fa
     Ok(Scenario::new(parts).map_err(|_| "the parts are valid")?)
 }
 
-// Whether no two legs leave one node.
-fn is_chain(legs: &[Leg]) -> bool
-    ensures { IsTrue result ↔ IsChain legs.now }
-{
-    for i in 0..legs.len() {
-        for j in i + 1..legs.len() {
-            if legs[i].from == legs[j].from {
-                return false;
-            }
-        }
-    }
-    true
-}
-
-// Whether no flight has two legs from one node.
-fn are_chains(flights: &[Flight]) -> bool
-    ensures { IsTrue result ↔ All (λ flight. IsChain flight.legs) flights.now }
-{
-    flights.iter().all(|flight| is_chain(flight.legs.items()))
-}
-
 // The cost of a plan, and when its last flight arrives.
 fn end_of(kept: Costed) -> (i64, u16) {
     let Some(trip) = kept.plan.items().last() else {
@@ -143,7 +119,7 @@ fn days_of_two_flights_are_planned(rt: HostRuntime) -> Result<(), Fail> {
     ];
     for (leave, sd, md, least, kept, bound) in rows {
         let s = two_flights(alloc, leave, flight(alloc, b"F2", sd, md, least)?)?;
-        assert!(rt; are_chains(s.flights()));
+        assert!(rt; is_day_of_chains(&s));
         let outcome = plan_chains(alloc, &s)?;
         assert_eq!(rt; outcome.bound, bound);
         assert_eq!(rt; outcome.kept.map(end_of), kept);

@@ -1,2 +1,5 @@
+pub mod JudgingFacts
 pub mod TextFacts
 mod WorkedCases
+mod WorkedRuns
+mod WorkedVerdicts

@@ -1,13 +1,10 @@
--- What is printed of worked days and words, byte by byte, and a whole answer from a text's bytes.
+-- What is printed of worked days, byte by byte, what words ask for, and how days are planned.
 use Rattle.std.specs.Prelude.{codes}
-use Rattle.std.proofs.Common.{◌≡◌, ◌⊎◌, ℕ, ◌+◌, ◌≤◌, ◌++◌, List, [], ◌∷◌, length, Some, None, Result, Ok, Err, IsSome, IsOkAnd, All, pos, negsuc, refl, sym, subst, ◌∙◌, inl, inr, arith}
-use Rattle.std.specs.Cmp.Lexicographic.{nat_list_cmp_total}
-use Rattle.std.specs.FinMap.{from_entries, get, get-from_entries}
+use Rattle.std.proofs.Common.{◌≡◌, ℕ, ◌+◌, ◌≤◌, ◌++◌, List, [], ◌∷◌, Some, None, IsTrue, All, pos, negsuc, refl, sym, arith}
 use Rattle.std.specs.List.{Any, AllZip}
-use Rattle.std.proofs.lemmas.Bool.{false≢true}
 use Rattle.std.proofs.lemmas.Int.{ints}
 use Rattle.std.proofs.lemmas.List.Elements.{All-cons, All-nil}
-use Rattle.flow_outside.specs.Held.{Held}
+use Rattle.std.specs.Fmt.{digits}
 use Rattle.flow_types.specs.declared.bound.Bound.TheVariants.{AtLeast, NoPlan}
 use Rattle.flow_types.specs.declared.flight.Flight.{Flight}
 use Rattle.flow_types.specs.declared.parts.Parts.{Parts}
@@ -19,29 +16,24 @@ use Rattle.flow_types.specs.Bounds.{IsBound}
 use Rattle.flow_types.specs.Feasible.{IsFeasible}
 use Rattle.flow_types.specs.Routes.{IsChain}
 use Rattle.flow_types.specs.Valid.{IsFlight}
-use Rattle.flow_types.specs.declared.fault.Fault.{Fault}
 use Rattle.flow_types.proofs.WorkedCases.{airport_within, beside, beside_is, day_with, places_with, plan_with, sector_within, there, there_is, trip_at, within}
 use Rattle.flow_types.proofs.WorkedScenario.{all_two, is_scenario, one_way_on, route_is}
-use Rattle.scenario_reader.specs.FirstForm.{HasFirstForm}
-use Rattle.scenario_reader.specs.Reading.{scenario_of}
-use Rattle.chain_plan.specs.Chains.{AreChains, HasEarliest, IsLeastPair}
+use Rattle.chain_plan.specs.Chains.{AreChains, HasEarliest, IsDayOfChains, IsLeastPair, is_linear}
 use Rattle.chain_plan.proofs.BoundFacts.{none_feasible, pairs_below}
-use Rattle.flow_cli.specs.declared.status.Status.TheVariants.{Done, Infeasible, OpenGap, BadScenario, ReadFault, Usage}
-use Rattle.flow_cli.specs.declared.status.Status.{Status}
-use Rattle.std.specs.Fmt.{decimal, digits}
-use Rattle.flow_cli.specs.Answer.{Ends, IsPlanned, IsPlannedDay, IsRefused, IsUsage, most_bytes}
+use Rattle.flow_cli.specs.declared.status.Status.TheVariants.{Done, Infeasible, OpenGap}
+use Rattle.flow_cli.specs.Planning.{IsPlannedDay}
 use Rattle.flow_cli.specs.Texts.{report_text}
-use Rattle.flow_cli.specs.Words.{planned_name, usage_text}
+use Rattle.flow_cli.specs.Words.{Judged, Planned, asked}
 
 -- the day of two flights, of which so many may leave in a period
-abbrev two_flights : ℕ → Parts
+abbrev pub two_flights : ℕ → Parts
 two_flights leave = day_with (places_with leave 9 9) beside []
 
-abbrev on_time : List (List Stop)
+abbrev pub on_time : List (List Stop)
 on_time = plan_with (trip_at 0 2)
 
 -- what is printed of a plan that no plan betters, of none that was found, and of none that exists
-abbrev optimal_text : List ℕ
+abbrev pub optimal_text : List ℕ
 optimal_text = codes "status,optimal\ncost,0\nbound,0\nnodes,1\ntrip,F1,ORIG,0,S,0,DEST,2\ntrip,F2,ORIG,0,S,0,DEST,2\n"
 
 abbrev none_found_text : List ℕ
@@ -75,37 +67,43 @@ report_of_infeasible : (parts : Parts) → report_text parts None NoPlan 1 ≡ i
 unfolding digits
 report_of_infeasible parts = refl
 
--- The words name a day where they are `plan` and one name.
-name_of_a_day : planned_name (codes "plan" ∷ codes "day.csv" ∷ []) ≡ Some (codes "day.csv")
-name_of_a_day = refl
+-- The words ask for a plan where they are `plan` and one name, and for a verdict where they are `judge`
+-- and two.
+a_day_to_plan : asked (codes "plan" ∷ codes "day.csv" ∷ []) ≡ Some (Planned (codes "day.csv"))
+a_day_to_plan = refl
 
-no_words : planned_name [] ≡ None
+a_plan_to_judge : asked (codes "judge" ∷ codes "day.csv" ∷ codes "plan.csv" ∷ []) ≡ Some (Judged (codes "day.csv") (codes "plan.csv"))
+a_plan_to_judge = refl
+
+no_words : asked [] ≡ None
 no_words = refl
 
-no_name : planned_name (codes "plan" ∷ []) ≡ None
+no_name : asked (codes "plan" ∷ []) ≡ None
 no_name = refl
 
-an_empty_name : planned_name (codes "plan" ∷ [] ∷ []) ≡ None
+an_empty_name : asked (codes "plan" ∷ [] ∷ []) ≡ None
 an_empty_name = refl
 
-an_option_for_a_name : planned_name (codes "plan" ∷ codes "--nodes" ∷ []) ≡ None
+an_option_for_a_name : asked (codes "plan" ∷ codes "--nodes" ∷ []) ≡ None
 an_option_for_a_name = refl
 
-a_word_too_many : planned_name (codes "plan" ∷ codes "day.csv" ∷ codes "day.csv" ∷ []) ≡ None
+a_word_too_many : asked (codes "plan" ∷ codes "day.csv" ∷ codes "day.csv" ∷ []) ≡ None
 a_word_too_many = refl
 
-another_command : planned_name (codes "Plan" ∷ codes "day.csv" ∷ []) ≡ None
+another_command : asked (codes "Plan" ∷ codes "day.csv" ∷ []) ≡ None
 another_command = refl
 
-a_longer_command : planned_name (codes "planes" ∷ codes "day.csv" ∷ []) ≡ None
+a_longer_command : asked (codes "planes" ∷ codes "day.csv" ∷ []) ≡ None
 a_longer_command = refl
 
--- Other words get the usage.
-usage_of_no_words : IsUsage usage_text Usage
-usage_of_no_words = record { ends = refl; text = refl }
+no_plan_to_judge : asked (codes "judge" ∷ codes "day.csv" ∷ []) ≡ None
+no_plan_to_judge = refl
+
+an_option_for_a_plan : asked (codes "judge" ∷ codes "day.csv" ∷ codes "-" ∷ []) ≡ None
+an_option_for_a_plan = refl
 
 -- The plan of the earliest trips keeps every rule where two may leave in a period.
-keeps : IsFeasible (two_flights 2) on_time
+pub keeps : IsFeasible (two_flights 2) on_time
 keeps =
     let places = (two_flights 2).places in
     let flights = (two_flights 2).flights in
@@ -136,6 +134,13 @@ both_least = (least_of (codes "F1"), (least_of (codes "F2"), tt))
 are_chains : AreChains (two_flights 2).flights
 are_chains = all_two (λ (flight : Flight). IsChain flight.legs) there beside one_way_on one_way_on
 
+pub is_day_of_chains : IsDayOfChains (two_flights 2)
+is_day_of_chains = record {
+  apart = refl;
+  chains = are_chains;
+  linear = all_two (λ (flight : Flight). IsTrue (is_linear flight.cost)) there beside refl refl;
+}
+
 module _ (leave : ℕ) (few : leave ≤ 1000000) where
   no_cheaper : IsBound (two_flights leave) (AtLeast (pos 0))
   no_cheaper plan feasible =
@@ -143,7 +148,7 @@ module _ (leave : ℕ) (few : leave ≤ 1000000) where
       (is_scenario leave 9 9 few (omega arith) (omega arith)).flights are_chains feasible.trips both_least
 
 -- So the day is planned as is printed: the plan is optimal.
-optimal_day : IsPlannedDay (two_flights 2) optimal_text Done
+pub optimal_day : IsPlannedDay (two_flights 2) optimal_text Done
 optimal_day = record {
   plan = Some on_time;
   bound = AtLeast (pos 0);
@@ -206,67 +211,3 @@ infeasible_day = record {
 } where
   late : Any (λ (flight : Flight). HasEarliest 8 flight → ⊥) (too_far ∷ [])
   late = (0, too_far, omega arith, refl, too_late)
-
--- A file of any text that has this scenario: the whole run, from the words to the bytes written.
-abbrev words : List (List ℕ)
-words = codes "plan" ∷ codes "day.csv" ∷ []
-
-module _ (text : List ℕ) (few : length text ≤ most_bytes) where
-  abbrev file : Held
-  file = from_entries ((codes "day.csv", text) ∷ [])
-
-  file_holds : get file (codes "day.csv") ≡ Some text
-  file_holds = get-from_entries nat_list_cmp_total ((codes "day.csv", text) ∷ []) (codes "day.csv")
-
-  one_value : {A : Type 0} {x y : A} → Some x ≡ Some y → x ≡ y
-  one_value is = cc
-
-  -- what is said of the text is said of the file
-  of_file : (printed : List ℕ) (status : Status) → IsPlanned text printed status ⊎ IsRefused text printed status
-      → Ends (Some file) 0 0 words (Some []) (Some printed) status
-  of_file printed status answer = inl (record {
-    printed = printed;
-    answer = inl (record {
-      present = subst IsSome (sym file_holds) refl;
-      bytes = text;
-      source = λ told is. one_value (sym file_holds ∙ is);
-      within = few;
-      answer = answer;
-    });
-    whole = refl;
-  })
-
-  run_is_planned : scenario_of text ≡ Ok (two_flights 2) → HasFirstForm text → Ends (Some file) 0 0 words (Some []) (Some optimal_text) Done
-  run_is_planned read form = of_file optimal_text Done (inl (record {
-    parts = two_flights 2;
-    read = read;
-    form = form;
-    day = optimal_day;
-  }))
-
-  -- The same of a text that isn't a scenario.
-  run_is_refused : (fault : Fault) → scenario_of text ≡ Err fault → Ends (Some file) 0 0 words (Some []) (Some (codes "refused,notyet\n")) BadScenario
-  run_is_refused fault read = of_file (codes "refused,notyet\n") BadScenario (inr (record {
-    ends = refl;
-    form = λ form. subst (λ (read : Result Parts Fault). IsOkAnd read (λ parts. AreChains parts.flights)) read form.chains;
-    text = refl;
-  }))
-
--- Where the name isn't there, and where the words name no day.
-abbrev no_files : Held
-no_files = from_entries []
-
-run_is_fault : Ends (Some no_files) 0 0 words (Some []) (Some (codes "fault,read\n")) ReadFault
-run_is_fault = inl (record {
-  printed = codes "fault,read\n";
-  answer = inr (inr (record { ends = refl; failed = λ has. absurd (false≢true (subst IsSome (get-from_entries nat_list_cmp_total [] (codes "day.csv")) has)); text = refl }));
-  whole = refl;
-})
-
-run_is_usage : Ends (Some no_files) 0 0 (codes "plan" ∷ []) (Some []) (Some usage_text) Usage
-run_is_usage = inl (record { printed = usage_text; answer = usage_of_no_words; whole = refl })
-
--- A text of a byte too many is refused by its size.
-size_is_printed : codes "refused,toolong," ++ (decimal (most_bytes + 1) ++ codes "\n") ≡ codes "refused,toolong,67108865\n"
-unfolding digits
-size_is_printed = refl

@@ -1,4 +1,11 @@
 pub mod Answer
+pub mod Answers
+pub mod Faults
+pub mod Judging
+pub mod Lines
+pub mod Planning
+pub mod Reading
 pub mod Status
 pub mod Texts
+pub mod Verdicts
 pub mod Words

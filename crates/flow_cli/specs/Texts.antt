@@ -1,5 +1,5 @@
--- The texts that are printed, byte by byte.
-use Rattle.std.specs.Prelude.{ℕ, List, [], ◌∷◌, ◌++◌, Option, None, Some, slice_get, codes, ℤ, option_map}
+-- What is printed of a day that was planned, byte by byte.
+use Rattle.std.specs.Prelude.{ℕ, List, [], ◌∷◌, ◌++◌, Option, None, Some, codes, ℤ, option_map}
 use Rattle.std.specs.Fmt.{decimal, signed_decimal}
 use Rattle.flow_types.specs.declared.bound.Bound.{Bound}
 use Rattle.flow_types.specs.declared.bound.Bound.TheVariants.{AtLeast, NoPlan}
@@ -8,9 +8,10 @@ use Rattle.flow_types.specs.declared.parts.Parts.{Parts}
 use Rattle.flow_types.specs.declared.place.Place.{Place}
 use Rattle.flow_types.specs.declared.plan.Stop.{Stop}
 use Rattle.flow_types.specs.Costs.{plan_cost}
-use Rattle.flow_types.specs.Trips.{place_at}
+use Rattle.plan_text.specs.Lines.{trip_text}
 use Rattle.flow_cli.specs.declared.status.Status.{Status}
 use Rattle.flow_cli.specs.declared.status.Status.TheVariants.{Done, Infeasible}
+use Rattle.flow_cli.specs.Lines.{line_text}
 use Rattle.flow_cli.specs.Status.{status_of}
 
 -- the word for a status
@@ -28,10 +29,6 @@ abbrev pub bound_word : Bound → List ℕ
 bound_word NoPlan = codes "none"
 bound_word (AtLeast least) = signed_decimal least
 
--- a line: what it says, and its word
-abbrev pub line_text : List ℕ → List ℕ → List ℕ
-line_text label word = label ++ (word ++ codes "\n")
-
 -- four lines: the status, the cost, the bound, and how many nodes the search has
 abbrev pub claim_text : Option ℤ → Bound → ℕ → List ℕ
 claim_text cost bound nodes =
@@ -40,24 +37,7 @@ claim_text cost bound nodes =
     ++ (line_text (codes "bound,") (bound_word bound)
     ++ line_text (codes "nodes,") (decimal nodes)))
 
--- the name of a place, empty where there is none
-abbrev pub name_at : Option Place → List ℕ
-name_at None = []
-name_at (Some place) = place.name
-
--- a place and a period for each stop
-abbrev pub stop_text : List Place → Flight → Stop → List ℕ
-stop_text places flight stop =
-    codes "," ++ (name_at (slice_get places (place_at flight stop.node)) ++ (codes "," ++ decimal stop.time))
-
-abbrev pub stops_text : List Place → Flight → List Stop → List ℕ
-stops_text places flight [] = []
-stops_text places flight (stop ∷ stops) = stop_text places flight stop ++ stops_text places flight stops
-
--- a line for the trip of a flight
-abbrev pub trip_text : List Place → Flight → List Stop → List ℕ
-trip_text places flight stops = codes "trip," ++ (flight.name ++ (stops_text places flight stops ++ codes "\n"))
-
+-- a line for the trip of each flight
 abbrev pub trips_text : List Place → List Flight → List (List Stop) → List ℕ
 trips_text places flights [] = []
 trips_text places [] (trip ∷ plan) = []

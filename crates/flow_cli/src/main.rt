@@ -1,12 +1,20 @@
-//! The program: it plans a day of air traffic, and says how good the plan is.
+//! The program: it plans a day of air traffic and says how good the plan is, and it judges plans.
 //!
 //! `run` is the whole program over files and an output that it is lent; `main` lends it the
-//! system's. What is printed and how it ends is said by `run`'s contract, in `specs/Answer`.
+//! system's. What is printed and how it ends is said by `run`'s contract: in `specs/Answer.antt`, and for
+//! each command in `specs/Planning.antt` and `specs/Judging.antt`.
 #![tactic(auto)]
 
+mod answer;
+mod faults;
+mod judging;
+mod lines;
+mod planning;
+mod reading;
 mod report;
 mod run;
 mod status;
+mod verdicts;
 mod words;
 
 use crate::run::run;

@@ -1,16 +1,18 @@
-//! The texts that are printed.
-ghost use Rattle.std.specs.Prelude.{◌≡◌, ◌++◌, Option, None, Some, IfOk, IfSome, OnOk, codes, option_map, slice_get};
+//! What is printed of a day that was planned.
+ghost use Rattle.std.specs.Prelude.{◌≡◌, ◌++◌, Option, None, Some, IfOk, IfSome, OnOk, codes, option_map};
 ghost use Rattle.std.specs.Fmt.{decimal, signed_decimal};
 ghost use Rattle.chain_plan.specs.Outcome.{IsCosted, plan_of};
 ghost use Rattle.chain_plan.specs.declared.outcome.Costed.{Costed};
 ghost use Rattle.flow_types.specs.Scenario.{parts_of};
-ghost use Rattle.flow_types.specs.Trips.{place_at};
+ghost use Rattle.flow_cli.specs.Lines.{line_text};
 ghost use Rattle.flow_cli.specs.Status.{status_of};
-ghost use Rattle.flow_cli.specs.Texts.{bound_word, claim_text, cost_word, line_text, name_at, report_text, status_word, stop_text, stops_text, trip_text, trips_text};
+ghost use Rattle.flow_cli.specs.Texts.{bound_word, claim_text, cost_word, report_text, status_word, trips_text};
 
+use crate::lines::put_line;
 use crate::status::Status;
 use chain_plan::Outcome;
-use flow_types::{Bound, Flight, OutOfMemory, Place, Plan, Scenario, Stop, Trip};
+use flow_types::{Bound, Flight, OutOfMemory, Place, Plan, Scenario, Trip};
+use plan_text::put_trip;
 use std::alloc::Global;
 
 /// The status of a plan's cost, if there is one, beside the bound.
@@ -41,23 +43,6 @@ fn status_word(status: Status) -> &'static [u8]
         Status::Infeasible => b"infeasible",
         _ => b"open",
     }
-}
-
-// Adds bytes at the end.
-fn put(out: &mut Vec<u8>, bytes: &[u8]) -> Result<(), OutOfMemory>
-    ensures { OnOk result (out.new.items ≡ out.old.items ++ bytes.now) }
-{
-    out.extend_from_slice(bytes)?;
-    Ok(())
-}
-
-// Adds a line at the end.
-fn put_line(out: &mut Vec<u8>, label: &[u8], word: &[u8]) -> Result<(), OutOfMemory>
-    ensures { OnOk result (out.new.items ≡ out.old.items ++ line_text label.now word.now) }
-{
-    put(out, label)?;
-    put(out, word)?;
-    put(out, b"\n")
 }
 
 // Adds the line of the status.
@@ -110,70 +95,6 @@ fn put_claim(
     put_nodes(alloc, out, nodes)
 }
 
-// The name of the place at the node of the flight, empty where there is none.
-fn name_at<'a>(places: &'a [Place], flight: &Flight, node: u16) -> &'a [u8]
-    ensures { result.now ≡ name_at (slice_get places.now (place_at flight.now node)) }
-{
-    let place = flight
-        .nodes
-        .items()
-        .get(node as usize)
-        .copied()
-        .unwrap_or(0);
-    match places.get(place as usize) {
-        None => b"",
-        Some(place) => place.name.items(),
-    }
-}
-
-// Adds a stop of the flight.
-fn put_stop(
-    alloc: Global,
-    out: &mut Vec<u8>,
-    places: &[Place],
-    flight: &Flight,
-    stop: Stop,
-) -> Result<(), OutOfMemory>
-    ensures { OnOk result (out.new.items ≡ out.old.items ++ stop_text places.now flight.now stop) }
-{
-    put(out, b",")?;
-    put(out, name_at(places, flight, stop.node))?;
-    put(out, b",")?;
-    put(out, stop.time.to_string(alloc)?.as_bytes())
-}
-
-// Adds the stops of the flight.
-fn put_stops(
-    alloc: Global,
-    out: &mut Vec<u8>,
-    places: &[Place],
-    flight: &Flight,
-    stops: &[Stop],
-) -> Result<(), OutOfMemory>
-    ensures { OnOk result (out.new.items ≡ out.old.items ++ stops_text places.now flight.now stops.now) }
-{
-    for stop in stops {
-        put_stop(alloc, out, places, flight, *stop)?;
-    }
-    Ok(())
-}
-
-// Adds the line for the trip of the flight.
-fn put_trip(
-    alloc: Global,
-    out: &mut Vec<u8>,
-    places: &[Place],
-    flight: &Flight,
-    stops: &[Stop],
-) -> Result<(), OutOfMemory>
-    ensures { OnOk result (out.new.items ≡ out.old.items ++ trip_text places.now flight.now stops.now) }
-{
-    put(out, b"trip,")?;
-    put(out, flight.name.items())?;
-    put_stops(alloc, out, places, flight, stops)?;
-    put(out, b"\n")
-}
-
 // Adds a line for each flight's trip.
 fn put_trips(
     alloc: Global,
@@ -219,18 +140,5 @@ pub fn plan_report(
             put_trips(alloc, &mut out, s.places(), s.flights(), kept.plan.items())?;
         }
     }
-    Ok(out)
-}
-
-/// The text that is printed for a text of too many bytes.
-pub fn too_long(alloc: Global, size: u64) -> Result<Vec<u8>, OutOfMemory>
-    ensures { IfOk result (λ text. text.items ≡ codes "refused,toolong," ++ (decimal size ++ codes "\n")) }
-{
-    let mut out = Vec::new(alloc);
-    put_line(
-        &mut out,
-        b"refused,toolong,",
-        size.to_string(alloc)?.as_bytes(),
-    )?;
     Ok(out)
 }

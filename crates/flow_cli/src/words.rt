@@ -1,19 +1,43 @@
 //! The words of the command line.
-ghost use Rattle.std.specs.Prelude.{◌≡◌, option_copied, map, string_bytes};
-ghost use Rattle.flow_cli.specs.Words.{is_word_for_name, planned_name};
+ghost use Rattle.std.specs.Prelude.{◌≡◌, map, option_map, string_bytes};
+ghost use Rattle.flow_cli.specs.Words.{asked, asked_by, is_word_for_name};
 
-/// The name of the day that is to be planned: the words are `plan` and the name, which isn't empty
+/// What is to be done.
+#[derive(Clone, Copy)]
+pub enum Command<'a> {
+    /// To plan the day of this name.
+    Plan { name: &'a str },
+    /// To judge the plan of the second name by the day of the first.
+    Judge { name: &'a str, plan: &'a str },
+}
+
+/// The command in the words, which are `plan` and a name, or `judge` and two names. A name isn't empty
 /// and doesn't begin with `-`.
-pub fn planned_name(words: &[String]) -> Option<&str>
-    ensures { option_copied result ≡ planned_name (map string_bytes words.now) }
+pub fn command_of(words: &[String]) -> Option<Command<'_>>
+    ensures { option_map asked_by result ≡ asked (map string_bytes words.now) }
 {
-    let [command, name] = words else {
-        return None;
-    };
-    if command.as_str() == "plan" && is_word_for_name(name.as_str()) {
-        Some(name.as_str())
-    } else {
-        None
+    match words {
+        [command, name] => {
+            if command.as_str() == "plan" && is_word_for_name(name.as_str()) {
+                return Some(Command::Plan {
+                    name: name.as_str(),
+                });
+            }
+            None
+        }
+        [command, name, plan] => {
+            if command.as_str() == "judge"
+                && is_word_for_name(name.as_str())
+                && is_word_for_name(plan.as_str())
+            {
+                return Some(Command::Judge {
+                    name: name.as_str(),
+                    plan: plan.as_str(),
+                });
+            }
+            None
+        }
+        _ => None,
     }
 }
 

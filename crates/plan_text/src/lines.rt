@@ -63,8 +63,10 @@ fn put_stops(
     Ok(())
 }
 
-// Adds the line for the trip of the flight.
-fn put_trip(
+/// Adds the line of a flight's trip at the end of a text, where `places` are those of the scenario. A
+/// stop at a node that the flight hasn't is written without a name. After `OutOfMemory` a front of the
+/// line stands.
+pub fn put_trip(
     alloc: Global,
     out: &mut Vec<u8>,
     places: &[Place],

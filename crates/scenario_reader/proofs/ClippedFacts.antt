@@ -19,7 +19,6 @@ use Rattle.flow_types.specs.declared.flight.Connection.{Connection}
 use Rattle.flow_types.specs.declared.flight.CostTable.{CostTable}
 use Rattle.flow_types.specs.declared.place.CapKind.{CapKind}
 use Rattle.scenario_reader.specs.Dates.{moment_of}
-use Rattle.scenario_reader.specs.FirstForm.{are_first, is_first, is_first_kind}
 use Rattle.scenario_reader.specs.Flights.{arrival_in, cost_in, destination_in, flight_name_of, flight_of, hours_in, origin_in}
 use Rattle.scenario_reader.specs.Kinds.{kind_of}
 use Rattle.scenario_reader.specs.Legs.{end_in, flight_in, leg_in, leg_of, own_in, start_in}
@@ -281,13 +280,3 @@ unfolding scenario_from
 kept_scenario [] = refl
 kept_scenario (fields ∷ rows) =
     rw (kept_first fields) (bind_same (in_record 1 (first_step fields)) _ _ (λ first. rw (kept_records 2 first rows) refl))
-
--- ---- the kinds of the records
-
-same_first : (fields : Fields) → is_first (clipped fields) ≡ is_first fields
-same_first [] = refl
-same_first (word ∷ fields) = ap is_first_kind (same_kind word)
-
-pub kept_first_kinds : (rows : List Fields) → are_first (map clipped rows) ≡ are_first rows
-kept_first_kinds [] = refl
-kept_first_kinds (fields ∷ rows) = rw (same_first fields, kept_first_kinds rows) refl

@@ -13,6 +13,5 @@ pub mod Capacities
 pub mod Finish
 pub mod Validity
 pub mod Reading
-pub mod FirstForm
 pub mod Drafts
 pub mod Seen

@@ -5,12 +5,8 @@
 //! `sector`, `cap`, `flight`, `leg`, `connect`, `table`, `cost`, `note`). `scenario_of` in `specs/`
 //! says what a text means: a fold of one step a record over the records that `csv` gives, where each
 //! step checks field by field, so that what it answers is the scenario or the first fault, by record,
-//! then field, then cause. `reading::read_exactly` is proved to answer exactly that.
-//!
-//! What is planned so far is less: texts of the records `day`, `airport`, `sector`, `flight` and
-//! `leg` in which no flight has two ways on from a node. `read_scenario` is proved to give exactly the
-//! scenario of such a text (clauses `scenario` and `form`), and to answer `NotYet` exactly for every
-//! other (`not_yet`). Want of memory is the third answer, of which no clause says when it comes.
+//! then field, then cause. `read_scenario` is proved to answer exactly that (clauses `scenario` and
+//! `fault`). Want of memory is the third answer, of which no clause says when it comes.
 //!
 //! The scenario that is built is known to be valid without a second test: every draft keeps the
 //! rules (`IsSketch`), and a network whose destination is reached and that has no dead end is a
@@ -22,9 +18,9 @@
 //! of its flight, for each change of capacities its periods, and for each connection those before it.
 #![tactic(auto)]
 
-ghost use Rattle.std.specs.Prelude.{◌≡◌, ◌≤◌, Ok, Err, IfOk, OnOk, length};
+ghost use Rattle.std.specs.Prelude.{◌≡◌, ◌≤◌, Ok, Err, IfOk, length};
 ghost use Rattle.flow_types.specs.Scenario.{parts_of};
-ghost use Rattle.scenario_reader.specs.FirstForm.{HasFirstForm};
+ghost use Rattle.flow_types.specs.declared.fault.Fault.{Fault as TheFault};
 ghost use Rattle.scenario_reader.specs.Reading.{scenario_of};
 
 mod begun;
@@ -34,7 +30,6 @@ mod connections;
 mod date;
 mod draft;
 mod finish;
-mod first_form;
 mod flights;
 mod kind;
 mod legs;
@@ -44,39 +39,31 @@ mod reading;
 mod records;
 mod tables;
 
-use crate::first_form::{are_first, is_of_chains};
 use crate::reading::read_exactly;
-use flow_types::Scenario;
+use flow_types::{Fault, Scenario};
 use std::alloc::Global;
 use text_records::ReadError;
 
-/// Why a text isn't read.
+/// Why a scenario isn't read.
 #[derive(Clone, Copy, Debug, PartialEq, Eq)]
 pub enum Refusal {
-    /// The text isn't a scenario, or not one that is planned so far: each of its records a `day`,
-    /// `airport`, `sector`, `flight` or `leg`, and no two legs of a flight from one node.
-    NotYet,
+    /// The text has this fault, and none before it.
+    Text(Fault),
     OutOfMemory,
 }
 
-/// The scenario of a text of at most 64 MiB.
+/// The scenario of a text of at most 64 MiB, or its first fault: by record, then field, then in the
+/// order of `Cause`. It takes memory for the scenario, and as much again while it is read.
 pub fn read_scenario(alloc: Global, text: &[u8]) -> Result<Scenario, Refusal>
     requires { length text.now ≤ 67108864 }
     // What is read is the scenario of the text.
     ensures scenario { IfOk result (λ s. scenario_of text.now ≡ Ok (parts_of s)) }
-    ensures form { OnOk result (HasFirstForm text.now) }
-    ensures not_yet { result ≡ Err Refusal.NotYet → HasFirstForm text.now → ⊥ }
+    // A fault that is told is the text's first.
+    ensures fault { (fault : TheFault) → result ≡ Err (Refusal.Text fault) → scenario_of text.now ≡ Err fault }
 {
-    let Ok(first) = are_first(alloc, text) else {
-        return Err(Refusal::OutOfMemory);
-    };
-    if !first {
-        return Err(Refusal::NotYet);
-    }
     match read_exactly(alloc, text) {
-        Ok(scenario) if is_of_chains(&scenario) => Ok(scenario),
-        Ok(_) => Err(Refusal::NotYet),
-        Err(ReadError::Fault(_)) => Err(Refusal::NotYet),
+        Ok(scenario) => Ok(scenario),
+        Err(ReadError::Fault(fault)) => Err(Refusal::Text(fault)),
         Err(ReadError::OutOfMemory) => Err(Refusal::OutOfMemory),
     }
 }

@@ -1,10 +1,8 @@
-use crate::reading::read_exactly;
 use crate::{Refusal, read_scenario};
 use flow_types::{Cause, Connection, Cost, Fault, Leg, OutOfMemory, PlaceKind};
 use std::alloc::Global;
 use std::fmt::Write;
 use std::test::Fail;
-use text_records::ReadError;
 
 const TWO_FLIGHTS: &[u8] = b"day,2011-03-14T06:00,15,8
 airport,ORIG,1,9
@@ -36,10 +34,10 @@ fn fault_of(alloc: Global, text: &[u8]) -> Result<Option<Fault>, Fail> {
     if text.len() > 67_108_864 {
         return Ok(None);
     }
-    match read_exactly(alloc, text) {
+    match read_scenario(alloc, text) {
         Ok(_) => Ok(None),
-        Err(ReadError::Fault(fault)) => Ok(Some(fault)),
-        Err(ReadError::OutOfMemory) => Err(OutOfMemory.into()),
+        Err(Refusal::Text(fault)) => Ok(Some(fault)),
+        Err(Refusal::OutOfMemory) => Err(OutOfMemory.into()),
     }
 }
 
@@ -84,13 +82,7 @@ fn records_of_all_kinds(rt: HostRuntime) -> Result<(), Fail> {
     let mut text = Vec::from_slice(rt.alloc(), TWO_FLIGHTS)?;
     text.extend_from_slice(MORE_KINDS)?;
     assert!(rt; text.len() < 1000);
-    assert_eq!(rt;
-        read_scenario(rt.alloc(), &text).err(),
-        Some(Refusal::NotYet)
-    );
-    let Ok(scenario) = read_exactly(rt.alloc(), &text) else {
-        return Err(OutOfMemory.into());
-    };
+    let scenario = read_scenario(rt.alloc(), &text)?;
     let connection = Connection {
         first: 0,
         second: 2,
@@ -173,27 +165,6 @@ fn as_many_connections_as_there_may_be(rt: HostRuntime) -> Result<(), Fail> {
         fault_of(rt.alloc(), text.as_bytes())?,
         fault(4260, 2, Cause::Limit)
     );
-    Ok(())
-}
-
-#[test]
-fn what_is_not_read_yet(rt: HostRuntime) -> Result<(), Fail> {
-    let day = b"day,2011-03-14T06:00,15,8\n";
-    assert_eq!(rt; read_scenario(rt.alloc(), day)?.flights().len(), 0);
-    let noted = b"day,2011-03-14T06:00,15,8\nnote,a day without flights\n";
-    assert_eq!(rt;
-        read_scenario(rt.alloc(), noted).err(),
-        Some(Refusal::NotYet)
-    );
-    assert_eq!(rt; read_scenario(rt.alloc(), b"").err(), Some(Refusal::NotYet));
-    let mut two_ways = Vec::from_slice(rt.alloc(), TWO_FLIGHTS)?;
-    two_ways.extend_from_slice(b"leg,F1,ORIG,DEST,1\n")?;
-    assert!(rt; two_ways.len() < 1000);
-    assert_eq!(rt;
-        read_scenario(rt.alloc(), &two_ways).err(),
-        Some(Refusal::NotYet)
-    );
-    assert_eq!(rt; fault_of(rt.alloc(), &two_ways)?, None);
     Ok(())
 }
 

@@ -1,6 +1,6 @@
 use Rattle.std.proofs.Common.{◌≢◌, ℕ, ◌<◌, length, get_or}
 use Rattle.flow_types.specs.declared.flight.Leg.{Leg}
-use Rattle.scenario_reader.proofs.first_form.is_chain.Given as goal
+use Rattle.chain_plan.proofs.chains.is_chain.Given as goal
 
 -- no two legs, the first of them before i, leave one node
 abbrev pub invariant-loop-i : goal.invariant-loop-i

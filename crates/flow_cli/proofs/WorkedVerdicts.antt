@@ -1,0 +1,64 @@
+-- What is printed of each broken rule of a flight and its aircraft's flight back, byte by byte.
+use Rattle.std.specs.Prelude.{codes}
+use Rattle.std.proofs.Common.{◌≡◌, ℕ, List, [], ◌∷◌, negsuc, refl}
+use Rattle.std.specs.Fmt.{digits}
+use Rattle.flow_types.specs.declared.flight.Flight.{Flight}
+use Rattle.flow_types.specs.declared.parts.Parts.{Parts}
+use Rattle.flow_types.specs.declared.plan.Stop.{Stop}
+use Rattle.plan_rules.specs.declared.broken.Broken.{Broken}
+use Rattle.plan_rules.specs.declared.broken.Broken.TheVariants as broken
+use Rattle.flow_types.proofs.WorkedCases.{day_with, places_with, there, trip_at}
+use Rattle.flow_cli.specs.Verdicts.{broken_text, keeps_text}
+
+abbrev back : Flight
+back = record there { name = codes "G1"; from = 1; to = 0; sd = 3; sa = 5; nodes = 1 ∷ 2 ∷ 0 ∷ [] }
+
+abbrev there_and_back : Parts
+there_and_back = day_with (places_with 1 9 9) back (record { first = 0; second = 1; turnaround = 2 } ∷ [])
+
+abbrev round_trip : List (List Stop)
+round_trip = trip_at 0 2 ∷ trip_at 3 5 ∷ []
+
+abbrev line_of : Broken → List ℕ
+line_of rule = broken_text there_and_back round_trip rule
+
+keeps_line : keeps_text (negsuc 4) ≡ codes "keeps,-5\n"
+unfolding digits
+keeps_line = refl
+
+trips_line : line_of (broken.Trips 1 2) ≡ codes "broken,trips,1,2\n"
+unfolding digits
+trips_line = refl
+
+start_line : line_of (broken.Start 1) ≡ codes "broken,start,G1\n"
+start_line = refl
+
+window_line : line_of (broken.Window 1 2) ≡ codes "broken,window,G1,ORIG,5\n"
+unfolding digits
+window_line = refl
+
+no_leg_line : line_of (broken.NoLeg 0 1) ≡ codes "broken,noleg,F1,S,DEST\n"
+no_leg_line = refl
+
+least_line : line_of (broken.Least 1 1 12) ≡ codes "broken,least,G1,S,3,ORIG,5,12\n"
+unfolding digits
+least_line = refl
+
+ending_line : line_of (broken.Ending 0) ≡ codes "broken,ending,F1\n"
+ending_line = refl
+
+turn_line : line_of (broken.Turn 0 2 3) ≡ codes "broken,turn,F1,G1,2,3,2\n"
+unfolding digits
+turn_line = refl
+
+departures_line : line_of (broken.Departures 0 7 2 1) ≡ codes "broken,departures,ORIG,7,2,1\n"
+unfolding digits
+departures_line = refl
+
+arrivals_line : line_of (broken.Arrivals 1 7 2 1) ≡ codes "broken,arrivals,DEST,7,2,1\n"
+unfolding digits
+arrivals_line = refl
+
+sectors_line : line_of (broken.Sectors 2 7 10 9) ≡ codes "broken,sectors,S,7,10,9\n"
+unfolding digits
+sectors_line = refl

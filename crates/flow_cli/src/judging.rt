@@ -1,0 +1,75 @@
+//! The command `judge`.
+ghost use Rattle.std.specs.Prelude.{◌≡◌, ◌⊎◌, ◌≤◌, IfOk};
+ghost use Rattle.flow_types.specs.Scenario.{parts_of};
+ghost use Rattle.flow_cli.specs.Answers.{IfAnswered};
+ghost use Rattle.flow_cli.specs.Judging.{IsOfJudge, IsOfPlanOf, IsVerdict};
+
+use crate::answer::{Answer, Halt};
+use crate::faults::fault_line;
+use crate::reading::{day_of, text_of};
+use crate::status::Status;
+use crate::verdicts::{broken_line, keeps_line};
+use flow_outside::Files;
+use flow_types::{OutOfMemory, Plan, Scenario};
+use plan_rules::{Loads, Verdict, first_broken_rules_are_first, judge};
+use plan_text::{PlanRefusal, read_plan};
+use std::alloc::Global;
+
+/// The answer where the plan of the second name is to be judged by the day of the first, which is read
+/// first.
+pub fn judge_named<F: Files>(
+    alloc: Global,
+    files: &mut F,
+    name: &str,
+    plan: &str,
+) -> Result<Answer, Halt>
+    ensures answered { IfAnswered result (IsOfJudge (F.held files.old) (F.faults files.old) (F.faults files.new) name.now plan.now) }
+    ensures held { F.held files.new ≡ F.held files.old }
+    ensures stores { F.store_faults files.new ≡ F.store_faults files.old }
+    ensures counts { F.faults files.old ≤ F.faults files.new }
+{
+    let s = day_of(alloc, files, name)?;
+    judge_of(alloc, &s, files, plan)
+}
+
+// The answer where the plan of a name is to be judged by the day that was read.
+fn judge_of<F: Files>(
+    alloc: Global,
+    s: &Scenario,
+    files: &mut F,
+    name: &str,
+) -> Result<Answer, Halt>
+    ensures answered { IfAnswered result (IsOfPlanOf (parts_of s.now) (F.held files.old) (F.faults files.old) (F.faults files.new) name.now) }
+    ensures held { F.held files.new ≡ F.held files.old }
+    ensures stores { F.store_faults files.new ≡ F.store_faults files.old }
+    ensures counts { F.faults files.old ≤ F.faults files.new }
+{
+    let text = text_of(alloc, files, name)?;
+    match read_plan(alloc, s, &text) {
+        Ok(plan) => Ok(judge_plan(alloc, s, &plan)?),
+        Err(PlanRefusal::Text(fault)) => Ok(Answer {
+            text: fault_line(alloc, fault)?,
+            status: Status::BadPlan,
+        }),
+        Err(PlanRefusal::OutOfMemory) => Err(Halt::OutOfMemory),
+    }
+}
+
+// The verdict on a plan.
+fn judge_plan(alloc: Global, s: &Scenario, plan: &Plan) -> Result<Answer, OutOfMemory>
+    ensures { IfOk result (λ answer. IsVerdict (parts_of s.now) plan.now answer.text.items answer.status) }
+{
+    // what is found first is broken, and what comes before it is kept
+    first_broken_rules_are_first();
+    let mut loads = Loads::new(alloc, s)?;
+    match judge(&mut loads, s, plan) {
+        Verdict::Keeps { cost } => Ok(Answer {
+            text: keeps_line(alloc, cost)?,
+            status: Status::Done,
+        }),
+        Verdict::Breaks(broken) => Ok(Answer {
+            text: broken_line(alloc, s, plan, broken)?,
+            status: Status::Broken,
+        }),
+    }
+}

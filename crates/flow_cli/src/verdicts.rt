@@ -1,0 +1,338 @@
+//! What is printed of a plan that was judged.
+ghost use Rattle.std.specs.Prelude.{◌≡◌, ◌++◌, [], Some, IfOk, OnOk, codes, slice_get};
+ghost use Rattle.std.specs.Fmt.{decimal};
+ghost use Rattle.flow_types.specs.Scenario.{parts_of};
+ghost use Rattle.flow_types.specs.Trips.{place_at};
+ghost use Rattle.plan_rules.specs.BrokenRules.{stop_at};
+ghost use Rattle.plan_text.specs.Lines.{name_at};
+ghost use Rattle.flow_cli.specs.Lines.{field_text};
+ghost use Rattle.flow_cli.specs.Verdicts.{broken_fields, broken_text, flight_field, flight_name, keeps_text, over_fields, place_field, place_of_stop, time_of_stop, turn_fields};
+
+use crate::lines::{put, put_field, put_line, put_number};
+use flow_types::{Connection, Flight, OutOfMemory, Plan, Scenario, Stop};
+use plan_rules::Broken;
+use std::alloc::Global;
+
+/// The line of a plan that keeps every rule, at its cost.
+pub fn keeps_line(alloc: Global, cost: i64) -> Result<Vec<u8>, OutOfMemory>
+    ensures { IfOk result (λ line. line.items ≡ keeps_text cost) }
+{
+    let mut line = Vec::new(alloc);
+    put_line(&mut line, b"keeps,", cost.to_string(alloc)?.as_bytes())?;
+    Ok(line)
+}
+
+/// The line of a rule that a plan breaks: which rule, where, and with which values.
+pub fn broken_line(
+    alloc: Global,
+    s: &Scenario,
+    plan: &Plan,
+    broken: Broken,
+) -> Result<Vec<u8>, OutOfMemory>
+    ensures { IfOk result (λ line. line.items ≡ broken_text (parts_of s.now) plan.now broken) }
+{
+    let mut line = Vec::new(alloc);
+    put(&mut line, b"broken")?;
+    put_broken(alloc, &mut line, s, plan, broken)?;
+    put(&mut line, b"\n")?;
+    Ok(line)
+}
+
+// Adds the fields that say which rule is broken, and where.
+fn put_broken(
+    alloc: Global,
+    out: &mut Vec<u8>,
+    s: &Scenario,
+    plan: &Plan,
+    broken: Broken,
+) -> Result<(), OutOfMemory>
+    ensures { OnOk result (out.new.items ≡ out.old.items ++ broken_fields (parts_of s.now) plan.now broken) }
+{
+    match broken {
+        Broken::Trips { got, need } => {
+            put_field(out, b"trips")?;
+            put_number(alloc, out, got)?;
+            put_number(alloc, out, u64::from(need))
+        }
+        Broken::Start { flight } => put_rule(out, b"start", s, flight),
+        Broken::Window {
+            flight,
+            place_in_trip,
+        } => put_window(alloc, out, s, plan, flight, place_in_trip),
+        Broken::NoLeg {
+            flight,
+            place_in_trip,
+        } => put_no_leg(out, s, plan, flight, place_in_trip),
+        Broken::Least {
+            flight,
+            place_in_trip,
+            least,
+        } => put_least(alloc, out, s, plan, flight, place_in_trip, least),
+        Broken::Ending { flight } => put_rule(out, b"ending", s, flight),
+        Broken::Turn {
+            connection,
+            arrives,
+            leaves,
+        } => put_turn(alloc, out, s, connection, arrives, leaves),
+        Broken::Departures {
+            place,
+            period,
+            load,
+            capacity,
+        } => {
+            let over = Over {
+                place,
+                period,
+                load,
+                capacity,
+            };
+            put_over(alloc, out, s, b"departures", over)
+        }
+        Broken::Arrivals {
+            place,
+            period,
+            load,
+            capacity,
+        } => {
+            let over = Over {
+                place,
+                period,
+                load,
+                capacity,
+            };
+            put_over(alloc, out, s, b"arrivals", over)
+        }
+        Broken::Sectors {
+            place,
+            period,
+            load,
+            capacity,
+        } => {
+            let over = Over {
+                place,
+                period,
+                load,
+                capacity,
+            };
+            put_over(alloc, out, s, b"sectors", over)
+        }
+    }
+}
+
+// Adds the word for a rule, and the flight whose trip breaks it.
+fn put_rule(out: &mut Vec<u8>, rule: &[u8], s: &Scenario, flight: u32) -> Result<(), OutOfMemory>
+    ensures { OnOk result (out.new.items ≡ out.old.items ++ (field_text rule.now ++ flight_field (parts_of s.now) flight)) }
+{
+    put_field(out, rule)?;
+    put_flight(out, s, flight)
+}
+
+// Adds a stop whose time isn't in its window.
+fn put_window(
+    alloc: Global,
+    out: &mut Vec<u8>,
+    s: &Scenario,
+    plan: &Plan,
+    flight: u32,
+    stop: u16,
+) -> Result<(), OutOfMemory>
+    ensures { OnOk result (out.new.items ≡ out.old.items ++ broken_fields (parts_of s.now) plan.now (Broken.Window flight stop)) }
+{
+    let entered = stop_at(plan, flight, usize::from(stop));
+    put_rule(out, b"window", s, flight)?;
+    put_stop(out, s, flight, entered)?;
+    put_time(alloc, out, entered)
+}
+
+// Adds two stops that no leg joins.
+fn put_no_leg(
+    out: &mut Vec<u8>,
+    s: &Scenario,
+    plan: &Plan,
+    flight: u32,
+    stop: u16,
+) -> Result<(), OutOfMemory>
+    ensures { OnOk result (out.new.items ≡ out.old.items ++ broken_fields (parts_of s.now) plan.now (Broken.NoLeg flight stop)) }
+{
+    put_rule(out, b"noleg", s, flight)?;
+    put_stop(out, s, flight, stop_at(plan, flight, usize::from(stop)))?;
+    put_stop(out, s, flight, stop_at(plan, flight, usize::from(stop) + 1))
+}
+
+// Adds two stops that are nearer in time than the leg between them takes.
+fn put_least(
+    alloc: Global,
+    out: &mut Vec<u8>,
+    s: &Scenario,
+    plan: &Plan,
+    flight: u32,
+    stop: u16,
+    least: u16,
+) -> Result<(), OutOfMemory>
+    ensures { OnOk result (out.new.items ≡ out.old.items ++ broken_fields (parts_of s.now) plan.now (Broken.Least flight stop least)) }
+{
+    let entered = stop_at(plan, flight, usize::from(stop));
+    let next = stop_at(plan, flight, usize::from(stop) + 1);
+    put_rule(out, b"least", s, flight)?;
+    put_stop(out, s, flight, entered)?;
+    put_time(alloc, out, entered)?;
+    put_stop(out, s, flight, next)?;
+    put_time(alloc, out, next)?;
+    put_number(alloc, out, u64::from(least))
+}
+
+// Adds a turnaround that is too short.
+fn put_turn(
+    alloc: Global,
+    out: &mut Vec<u8>,
+    s: &Scenario,
+    connection: u32,
+    arrives: u16,
+    leaves: u16,
+) -> Result<(), OutOfMemory>
+    ensures { OnOk result (out.new.items ≡ out.old.items ++ broken_fields (parts_of s.now) [] (Broken.Turn connection arrives leaves)) }
+{
+    match s.connections().get(connection as usize) {
+        None => put_field(out, b"turn"),
+        Some(connection) => put_times(alloc, out, s, connection, arrives, leaves),
+    }
+}
+
+// Adds the flights of a connection, when they arrive and leave, and the turnaround.
+fn put_times(
+    alloc: Global,
+    out: &mut Vec<u8>,
+    s: &Scenario,
+    connection: &Connection,
+    arrives: u16,
+    leaves: u16,
+) -> Result<(), OutOfMemory>
+    ensures { OnOk result (out.new.items ≡ out.old.items ++ (field_text (codes "turn") ++ turn_fields (parts_of s.now) (Some connection.now) arrives leaves)) }
+{
+    put_rule(out, b"turn", s, connection.first)?;
+    put_flight(out, s, connection.second)?;
+    put_number(alloc, out, u64::from(arrives))?;
+    put_number(alloc, out, u64::from(leaves))?;
+    put_number(alloc, out, u64::from(connection.turnaround))
+}
+
+// A capacity that is passed.
+#[derive(Clone, Copy)]
+struct Over {
+    place: u32,
+    period: u16,
+    load: u32,
+    capacity: u32,
+}
+
+// Adds the word for a rule, and the capacity that is passed.
+fn put_over(
+    alloc: Global,
+    out: &mut Vec<u8>,
+    s: &Scenario,
+    rule: &[u8],
+    over: Over,
+) -> Result<(), OutOfMemory>
+    ensures { OnOk result (out.new.items ≡ out.old.items ++ (field_text rule.now ++ over_fields (parts_of s.now) over.place over.period over.load over.capacity)) }
+{
+    put_field(out, rule)?;
+    put_place(out, s, over.place)?;
+    put_number(alloc, out, u64::from(over.period))?;
+    put_number(alloc, out, u64::from(over.load))?;
+    put_number(alloc, out, u64::from(over.capacity))
+}
+
+// Adds the name of the flight of this number.
+fn put_flight(out: &mut Vec<u8>, s: &Scenario, number: u32) -> Result<(), OutOfMemory>
+    ensures { OnOk result (out.new.items ≡ out.old.items ++ flight_field (parts_of s.now) number) }
+{
+    put_field(out, flight_name(s, number))
+}
+
+// Adds the name of the place of this number.
+fn put_place(out: &mut Vec<u8>, s: &Scenario, number: u32) -> Result<(), OutOfMemory>
+    ensures { OnOk result (out.new.items ≡ out.old.items ++ place_field (parts_of s.now) number) }
+{
+    put_field(out, place_name(s, number))
+}
+
+// Adds the name of the place at which the flight of this number makes the stop.
+fn put_stop(
+    out: &mut Vec<u8>,
+    s: &Scenario,
+    flight: u32,
+    stop: Option<Stop>,
+) -> Result<(), OutOfMemory>
+    ensures { OnOk result (out.new.items ≡ out.old.items ++ place_field (parts_of s.now) (place_of_stop (slice_get (parts_of s.now).flights flight) stop)) }
+{
+    put_place(out, s, place_of_stop(s, flight, stop))
+}
+
+// Adds the period of the stop.
+fn put_time(alloc: Global, out: &mut Vec<u8>, stop: Option<Stop>) -> Result<(), OutOfMemory>
+    ensures { OnOk result (out.new.items ≡ out.old.items ++ field_text (decimal (time_of_stop stop))) }
+{
+    put_number(alloc, out, u64::from(time_of_stop(stop)))
+}
+
+// The name of the flight of this number, empty where there is none.
+fn flight_name(s: &Scenario, number: u32) -> &[u8]
+    ensures { result.now ≡ flight_name (slice_get (parts_of s.now).flights number) }
+{
+    match s.flights().get(number as usize) {
+        None => b"",
+        Some(flight) => flight.name.items(),
+    }
+}
+
+// The name of the place of this number, empty where there is none.
+fn place_name(s: &Scenario, number: u32) -> &[u8]
+    ensures { result.now ≡ name_at (slice_get (parts_of s.now).places number) }
+{
+    match s.places().get(number as usize) {
+        None => b"",
+        Some(place) => place.name.items(),
+    }
+}
+
+// The stop of this number of a flight, if there is one.
+fn stop_at(plan: &Plan, flight: u32, stop: usize) -> Option<Stop>
+    ensures { result ≡ stop_at plan.now flight stop }
+{
+    match plan.items().get(flight as usize) {
+        None => None,
+        Some(trip) => trip.items().get(stop).copied(),
+    }
+}
+
+// The number of the place of a flight's stop, 0 where there is no flight or no stop.
+fn place_of_stop(s: &Scenario, flight: u32, stop: Option<Stop>) -> u32
+    ensures { result ≡ place_of_stop (slice_get (parts_of s.now).flights flight) stop }
+{
+    match (s.flights().get(flight as usize), stop) {
+        (Some(flight), Some(stop)) => place_at(flight, stop.node),
+        _ => 0,
+    }
+}
+
+// The place of a node of a flight, 0 where there is none.
+fn place_at(flight: &Flight, node: u16) -> u32
+    ensures { result ≡ place_at flight.now node }
+{
+    flight
+        .nodes
+        .items()
+        .get(node as usize)
+        .copied()
+        .unwrap_or(0)
+}
+
+// The period of the stop, 0 where there is none.
+fn time_of_stop(stop: Option<Stop>) -> u16
+    ensures { result ≡ time_of_stop stop }
+{
+    match stop {
+        None => 0,
+        Some(stop) => stop.time,
+    }
+}
