@@ -1,7 +1,11 @@
 -- The definition, record by record.
-use Rattle.std.proofs.Common.{◌≡◌, ℕ, ◌+◌, List, [], ◌∷◌, Result, Ok, Err, refl, sym, ◌∙◌}
+use Rattle.std.specs.Prelude.{codes}
+use Rattle.std.specs.Str.{bytes_eq}
+use Rattle.std.proofs.lemmas.Slice.Eq.{bytes_eq-Decides}
+use Rattle.std.proofs.Common.{◌≡◌, ℕ, ◌+◌, true, List, [], ◌∷◌, Some, Result, Ok, Err, refl, sym, ◌∙◌}
 use Rattle.flow_types.specs.declared.fault.Cause.TheVariants.{NoDay}
 use Rattle.flow_types.specs.declared.fault.Fault.{Fault}
+use Rattle.text_records.specs.Fields.{field_in}
 use Rattle.text_records.specs.Flaws.{error_of, fault_at, fault_of, Refuses, Stops}
 use Rattle.text_records.specs.Rows.{Fields}
 use Rattle.text_records.specs.declared.flaw.Flaw.{Flaw}
@@ -10,6 +14,9 @@ use Rattle.text_records.specs.declared.flaw.ReadError.TheVariants as error
 use Rattle.text_records.specs.declared.flaw.Trouble.{Trouble}
 use Rattle.text_records.specs.declared.flaw.Trouble.TheVariants as trouble
 use Rattle.scenario_reader.specs.Finish.{finished}
+use Rattle.scenario_reader.specs.Kinds.{kind_of}
+use Rattle.scenario_reader.specs.Notes.{is_note, is_word_for_note}
+use Rattle.scenario_reader.specs.declared.kind.Kind.TheVariants as kind
 use Rattle.scenario_reader.specs.Reading.{first_step, record_step, records_step, scenario_from}
 use Rattle.scenario_reader.specs.Sketch.{Sketch}
 
@@ -36,6 +43,23 @@ unfolding records_step
 no_record at sketch left total here so_far =
     let step : records_step at sketch left ≡ Ok sketch = rw here refl in
     sym so_far ∙ step
+
+-- ---- notes
+
+note_kind : (word : List ℕ) → bytes_eq word (codes "note") ≡ true → kind_of word ≡ Some kind.Note
+note_kind word is = let same : word ≡ codes "note" = (bytes_eq-Decides word (codes "note")).0 is in rw same refl
+
+note_step : (read : Result (List ℕ) Flaw) (sketch : Sketch) (at : ℕ) (fields : Fields) → field_in fields 1 ≡ read → is_word_for_note read ≡ true
+    → record_step sketch at fields ≡ Ok sketch
+unfolding record_step
+note_step (Ok word) sketch at fields here is = rw (here, note_kind word is) refl
+note_step (Err flaw) sketch at fields here is = cc
+
+-- a note is passed over
+pub passed : (at : ℕ) (sketch : Sketch) (left rest : List Fields) (fields : Fields) → left ≡ fields ∷ rest → is_note fields ≡ true
+    → records_step at sketch left ≡ records_step (at + 1) sketch rest
+passed at sketch left rest fields here is =
+    sym (next_record at sketch sketch left rest fields (records_step at sketch left) here (note_step (field_in fields 1) sketch at fields refl is) refl)
 
 -- ---- the whole text
 

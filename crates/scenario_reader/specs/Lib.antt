@@ -13,5 +13,6 @@ pub mod Capacities
 pub mod Finish
 pub mod Validity
 pub mod Reading
+pub mod Notes
 pub mod Drafts
 pub mod Seen
