@@ -1,39 +1,12 @@
--- Names by their positions, through the keys that an index holds.
-use Rattle.std.proofs.Common.{◌≡◌, ◌≢◌, ℕ, suc, ◌+◌, ◌<◌, ◌≤◌, Bool, true, false, cond, ltb, List, [], ◌∷◌, length, get_or, take, Some, None, map, refl, ap, sym, ◌∙◌, arith, position, not, ◌||◌, AllPairs}
-use Rattle.std.proofs.lemmas.Bool.{le-ltb, ltb-false}
-use Rattle.std.proofs.lemmas.List.{get_or-take, length-map, length-take-le}
+-- A name that differs from those before it isn't among them.
+use Rattle.std.proofs.Common.{◌≡◌, ◌≢◌, ℕ, ◌<◌, ◌≤◌, Bool, true, false, List, length, get_or, take, None, map, refl, ap, sym, ◌∙◌, arith, position, AllPairs}
+use Rattle.std.proofs.lemmas.Bool.{le-ltb}
+use Rattle.std.proofs.lemmas.List.{get_or-take, length-take-le}
 use Rattle.std.proofs.lemmas.List.Sums.{position_or_len_is}
 use Rattle.std.proofs.lemmas.Slice.Eq.{bytes_eq-Decides}
-use Rattle.std.specs.List.{list_any, position_or_len}
 use Rattle.std.specs.Str.{bytes_eq}
-use Rattle.plan_text.specs.Names.{position_of}
-
-pub position_or_len-map : {X Y : Type 0} (p : Y → Bool) (f : X → Y) (xs : List X) → position_or_len p (map f xs) ≡ position_or_len (λ x. p (f x)) xs
-position_or_len-map p f [] = refl
-position_or_len-map p f (x ∷ xs) = rw (position_or_len-map p f xs) refl
-
-pub position-map : {X Y : Type 0} (p : Y → Bool) (f : X → Y) (xs : List X) → position p (map f xs) ≡ position (λ x. p (f x)) xs
-position-map p f xs = rw (position_or_len-map p f xs, length-map xs f) refl
-
--- no position, no element
-step_none : (b : Bool) (n len : ℕ) (any : Bool) → (len ≤ n → any ≡ false)
-    → suc len ≤ cond (not b) (1 + n) 0 → (b || any) ≡ false
-step_none true n len any more h = absurd (omega arith)
-step_none false n len any more h = more (omega arith)
-
-none_by_length : {X : Type 0} (p : X → Bool) (xs : List X) → length xs ≤ position_or_len p xs → list_any p xs ≡ false
-none_by_length p [] h = refl
-none_by_length p (x ∷ xs) h = step_none (p x) (position_or_len p xs) (length xs) (list_any p xs) (none_by_length p xs) h
-
-by_place : (n len : ℕ) → cond (ltb n len) (Some n) None ≡ None → len ≤ n
-by_place n len e = by (ltb n len) refl e
-  where
-    by : (b : Bool) → ltb n len ≡ b → cond b (Some n) None ≡ None → len ≤ n
-    by true h e = absurd cc
-    by false h e = ltb-false n len h
-
-pub position-none : {X : Type 0} (p : X → Bool) (xs : List X) → position p xs ≡ None → list_any p xs ≡ false
-position-none p xs e = none_by_length p xs (by_place (position_or_len p xs) (length xs) e)
+use Rattle.text_records.proofs.NameFacts.{position-map}
+use Rattle.text_records.specs.Names.{position_of}
 
 -- no element, no position
 none_passes : {X : Type 0} (p : X → Bool) (xs : List X) (d : X) → ((i : ℕ) → i < length xs → p (get_or xs i d) ≡ false) → position p xs ≡ None

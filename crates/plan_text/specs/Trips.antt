@@ -7,7 +7,8 @@ use Rattle.text_records.specs.Fields.{ends_after, name_in, number_in}
 use Rattle.text_records.specs.Flaws.{◌>>=◌, flaw_at}
 use Rattle.text_records.specs.Rows.{Fields}
 use Rattle.text_records.specs.declared.flaw.Flaw.{Flaw}
-use Rattle.plan_text.specs.Names.{flight_names, known_at, node_named, nodes_at, position_of}
+use Rattle.text_records.specs.Names.{known_at, position_of}
+use Rattle.plan_text.specs.Names.{flight_names, node_named, nodes_at}
 
 -- what was read so far: for each flight its trip, if a record told it
 abbrev pub Told : Type 0

@@ -1,12 +1,14 @@
 //! A scenario whose flights and places are found by their names.
 ghost use Rattle.std.specs.Prelude.{◌≡◌, ◌≤◌, ◌-◌, ◌==◌, IfOk, length, position};
 ghost use Rattle.flow_types.specs.Scenario.{parts_of};
-ghost use Rattle.plan_text.specs.Names.{flight_names, node_named, nodes_at, position_of};
+ghost use Rattle.text_records.specs.Names.{position_of};
+ghost use Rattle.plan_text.specs.Names.{flight_names, node_named, nodes_at};
 
-use crate::names::NameIndex;
+use crate::names::{names_of_flights, names_of_places};
 use flow_types::{OutOfMemory, Scenario};
 use std::alloc::Global;
 use std::marker::Model;
+use text_records::NameIndex;
 
 /// A scenario with its names. Contracts see it as the scenario's parts.
 #[derive(Drop)]
@@ -34,8 +36,8 @@ impl<'a> Known<'a> {
     pub fn of_scenario(alloc: Global, scenario: &'a Scenario) -> Result<Self, OutOfMemory>
         ensures { IfOk result (λ known. known ≡ parts_of scenario.now) }
     {
-        let flights = NameIndex::of_flights(alloc, scenario.flights())?;
-        let places = NameIndex::of_places(alloc, scenario.places())?;
+        let flights = names_of_flights(alloc, scenario.flights())?;
+        let places = names_of_places(alloc, scenario.places())?;
         Ok(Known {
             scenario,
             flights,

@@ -2,7 +2,7 @@
 ghost use Rattle.std.specs.Prelude.{◌≤◌, ◌<◌, IfOk, length};
 ghost use Rattle.csv.specs.Records.{fields_of};
 ghost use Rattle.text_records.specs.Flaws.{Finds, Gives};
-ghost use Rattle.plan_text.specs.Names.{known_at};
+ghost use Rattle.text_records.specs.Names.{known_at};
 ghost use Rattle.plan_text.specs.Trips.{flight_in, stop_in, stops_from, trip_of};
 
 use crate::known::Known;
@@ -10,17 +10,7 @@ use crate::told::Told;
 use csv::ByteRecord;
 use flow_types::{Cause, Stop, Trip};
 use std::alloc::Global;
-use text_records::{Flaw, Trouble, end_after, name_at, number_at};
-
-// The flight, if its name is known.
-fn flight_known(position: Option<u32>) -> Result<u32, Flaw>
-    ensures { Finds (λ k. k) result (known_at 2 position) }
-{
-    position.ok_or(Flaw {
-        field: 2,
-        cause: Cause::UnknownName,
-    })
-}
+use text_records::{Flaw, Trouble, end_after, known_at, name_at, number_at};
 
 // The node, if the name in the field of this number is that of one.
 fn node_known(number: u32, node: Option<u16>) -> Result<u16, Flaw>
@@ -39,7 +29,7 @@ fn flight_in(known: &Known, told: &Told, row: &ByteRecord) -> Result<u32, Flaw>
     ensures here { IfOk result (λ k. k < length told.now) }
 {
     let name = name_at(row, 2)?;
-    let flight = flight_known(known.flight_named(name))?;
+    let flight = known_at(2, known.flight_named(name))?;
     told.untold_at(flight)
 }
 

@@ -11,7 +11,7 @@ use Rattle.text_records.specs.Rows.{Fields, clipped}
 use Rattle.text_records.proofs.ClippedFacts.{bind_same, kept_ends_after, kept_field_in, kept_name_in, kept_number_in, long_number, long_other, same_of}
 use Rattle.scenario_reader.specs.Capacities.{cap_change_of, cap_kind_at, cap_kind_of, last_in, place_in}
 use Rattle.scenario_reader.specs.Connections.{connection_of, first_in, second_in}
-use Rattle.scenario_reader.specs.Names.{known_in}
+use Rattle.text_records.specs.Names.{known_in}
 use Rattle.scenario_reader.specs.Reading.{cap_step, connect_step, cost_step, table_step}
 use Rattle.scenario_reader.specs.Sketch.{table_names}
 use Rattle.scenario_reader.specs.Tables.{pricing_of, table_in, table_of, untabled_in, value_in, value_of, values_from}
@@ -22,7 +22,7 @@ use Rattle.scenario_reader.specs.Dates.{moment_of}
 use Rattle.scenario_reader.specs.Flights.{arrival_in, cost_in, destination_in, flight_name_of, flight_of, hours_in, origin_in}
 use Rattle.scenario_reader.specs.Kinds.{kind_of}
 use Rattle.scenario_reader.specs.Legs.{end_in, flight_in, leg_in, leg_of, own_in, start_in}
-use Rattle.scenario_reader.specs.Names.{new_name}
+use Rattle.text_records.specs.Names.{new_name}
 use Rattle.scenario_reader.specs.Places.{airport_of, day_of, sector_of}
 use Rattle.scenario_reader.specs.Reading.{airport_step, day_by_kind, first_step, flight_step, leg_step, record_step, records_step, scenario_from, sector_step, step_of}
 use Rattle.scenario_reader.specs.Sketch.{Sketch, flight_names, node_total, place_names}

@@ -20,7 +20,7 @@ use Rattle.scenario_reader.specs.Finish.{finished_flight, finished_flights, flig
 use Rattle.scenario_reader.specs.Sketch.{destinations, node_count, node_total, origins, Sketch}
 use Rattle.scenario_reader.specs.Validity.{IsBegun, IsMeeting, IsSketch}
 use Rattle.scenario_reader.specs.declared.begun.Begun.{Begun}
-use Rattle.scenario_reader.proofs.NameFacts.{position-none}
+use Rattle.text_records.proofs.NameFacts.{position-none}
 use Rattle.scenario_reader.proofs.PlaceFacts.{node_outside}
 use Rattle.scenario_reader.proofs.RouteFacts.{flight_is, passed_few}
 

@@ -1,4 +1,3 @@
-pub mod NameFacts
 pub mod FlightFacts
 pub mod PlaceFacts
 pub mod NetworkFacts

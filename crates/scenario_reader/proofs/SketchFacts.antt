@@ -28,7 +28,7 @@ use Rattle.scenario_reader.specs.Change.{changed_at}
 use Rattle.scenario_reader.specs.Connections.{are_connected, is_same_place}
 use Rattle.scenario_reader.specs.Drafts.{IsDraft}
 use Rattle.scenario_reader.specs.Legs.{adds_node, with_leg, with_leg_at}
-use Rattle.scenario_reader.specs.Names.{position_of}
+use Rattle.text_records.specs.Names.{position_of}
 use Rattle.scenario_reader.specs.Reading.{with_cap_change, with_connection, with_flight, with_flight_leg, with_place, with_pricing, with_table}
 use Rattle.scenario_reader.specs.Sketch.{destinations, flight_names, node_count, node_total, origins, place_names, Sketch, table_names}
 use Rattle.scenario_reader.specs.Tables.{with_cost, with_cost_at}
@@ -38,7 +38,7 @@ use Rattle.scenario_reader.specs.declared.begun.Hop.{Hop}
 use Rattle.scenario_reader.specs.declared.capacities.CapChange.{CapChange}
 use Rattle.scenario_reader.specs.declared.tables.Pricing.{Pricing}
 use Rattle.scenario_reader.proofs.ChangeFacts.{All-changed, get_changed, length-changed, map-changed, pairs_changed}
-use Rattle.scenario_reader.proofs.NameFacts.{position-none}
+use Rattle.text_records.proofs.NameFacts.{position-none}
 use Rattle.scenario_reader.proofs.NetworkFacts.{neither, network_grows}
 use Rattle.scenario_reader.proofs.PlaceFacts.{length_new}
 

@@ -7,12 +7,12 @@ use Rattle.flow_types.specs.declared.flight.Cost.TheVariants.{Linear, Tables}
 use Rattle.flow_types.specs.declared.place.PlaceKind.TheVariants.{Airport, Sector}
 use Rattle.text_records.specs.Flaws.{fault_at}
 use Rattle.text_records.specs.Fields.{name_in, number_in}
-use Rattle.scenario_reader.specs.Names.{new_name}
+use Rattle.text_records.specs.Names.{new_name}
 use Rattle.scenario_reader.specs.Dates.{moment_of}
 use Rattle.scenario_reader.specs.Places.{day_of, airport_of, sector_of}
 use Rattle.scenario_reader.specs.Flights.{flight_name_of, origin_in, destination_in, arrival_in, hours_in, cost_in, flight_of}
 use Rattle.scenario_reader.specs.Legs.{flight_in, own_in, start_in, end_in, leg_of, leg_in}
-use Rattle.scenario_reader.specs.Names.{known_in}
+use Rattle.text_records.specs.Names.{known_in}
 use Rattle.scenario_reader.specs.Connections.{first_in, second_in, connection_of}
 use Rattle.scenario_reader.specs.Tables.{values_from, table_of, untabled_in, table_in, pricing_of}
 use Rattle.scenario_reader.specs.Capacities.{place_in, last_in, cap_change_of}

@@ -11,7 +11,7 @@ use Rattle.text_records.specs.Fields.{ends_after, field_in, number_in}
 use Rattle.text_records.specs.Flaws.{◌>>=◌, flaw_at}
 use Rattle.text_records.specs.Rows.{Fields}
 use Rattle.text_records.specs.declared.flaw.Flaw.{Flaw}
-use Rattle.scenario_reader.specs.Names.{known_in}
+use Rattle.text_records.specs.Names.{known_in}
 use Rattle.scenario_reader.specs.Sketch.{place_names}
 use Rattle.scenario_reader.specs.declared.capacities.CapChange.{CapChange}
 

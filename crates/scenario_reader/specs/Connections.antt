@@ -7,7 +7,7 @@ use Rattle.text_records.specs.Fields.{ends_after, number_in}
 use Rattle.text_records.specs.Flaws.{◌>>=◌, flaw_at}
 use Rattle.text_records.specs.Rows.{Fields}
 use Rattle.text_records.specs.declared.flaw.Flaw.{Flaw}
-use Rattle.scenario_reader.specs.Names.{known_in}
+use Rattle.text_records.specs.Names.{known_in}
 use Rattle.scenario_reader.specs.Sketch.{destinations, flight_names, origins}
 use Rattle.scenario_reader.specs.declared.begun.Begun.{Begun}
 

@@ -9,7 +9,7 @@ use Rattle.text_records.specs.Fields.{ends_after, name_in, number_in}
 use Rattle.text_records.specs.Flaws.{◌>>=◌, flaw_at}
 use Rattle.text_records.specs.Rows.{Fields}
 use Rattle.text_records.specs.declared.flaw.Flaw.{Flaw}
-use Rattle.scenario_reader.specs.Names.{new_name, position_of}
+use Rattle.text_records.specs.Names.{new_name, position_of}
 use Rattle.scenario_reader.specs.Sketch.{Sketch, flight_names, node_total, place_names}
 use Rattle.scenario_reader.specs.declared.begun.Begun.{Begun}
 use Rattle.scenario_reader.specs.declared.begun.Hours.{Hours}

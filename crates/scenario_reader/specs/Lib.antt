@@ -1,4 +1,3 @@
-pub mod Names
 pub mod Kinds
 pub mod Dates
 pub mod Moments

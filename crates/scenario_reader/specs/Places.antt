@@ -8,7 +8,7 @@ use Rattle.text_records.specs.Flaws.{◌>>=◌}
 use Rattle.text_records.specs.Rows.{Fields}
 use Rattle.text_records.specs.declared.flaw.Flaw.{Flaw}
 use Rattle.scenario_reader.specs.Dates.{moment_of}
-use Rattle.scenario_reader.specs.Names.{new_name}
+use Rattle.text_records.specs.Names.{new_name}
 
 -- day, date and time, minutes a period, periods
 unfoldable pub day_of : Fields → Result Day Flaw

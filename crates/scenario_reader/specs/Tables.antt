@@ -11,7 +11,7 @@ use Rattle.text_records.specs.Flaws.{◌>>=◌, flaw_at}
 use Rattle.text_records.specs.Rows.{Fields}
 use Rattle.text_records.specs.declared.flaw.Flaw.{Flaw}
 use Rattle.scenario_reader.specs.Change.{changed_at}
-use Rattle.scenario_reader.specs.Names.{known_in, new_name}
+use Rattle.text_records.specs.Names.{known_in, new_name}
 use Rattle.scenario_reader.specs.Sketch.{flight_names, table_names}
 use Rattle.scenario_reader.specs.declared.begun.Begun.{Begun}
 use Rattle.scenario_reader.specs.declared.tables.Pricing.{Pricing}

@@ -1,7 +1,7 @@
 //! Flights whose legs are being read.
 ghost use Rattle.std.specs.Prelude.{◌≡◌, ◌<◌, ◌≤◌, ◌++◌, ◌∷◌, [], None, IfOk, OnOk, length};
 ghost use Rattle.scenario_reader.specs.Legs.{adds_node, is_among, is_back, is_joined, with_leg, with_leg_at};
-ghost use Rattle.scenario_reader.specs.Names.{position_of};
+ghost use Rattle.text_records.specs.Names.{position_of};
 ghost use Rattle.scenario_reader.specs.Sketch.{flight_names};
 ghost use Rattle.scenario_reader.specs.Tables.{with_cost_at};
 

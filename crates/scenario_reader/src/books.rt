@@ -1,12 +1,12 @@
 //! Items in the order in which they came, found by their names.
 ghost use Rattle.std.specs.Prelude.{◌≡◌, ◌<◌, ◌-◌, ◌^◌, ◌++◌, ◌∷◌, [], ℕ, List, None, IfOk, length, map};
-ghost use Rattle.scenario_reader.specs.Names.{position_of};
+ghost use Rattle.text_records.specs.Names.{position_of};
 
 use crate::begun::Begun;
-use crate::names::NameIndex;
 use flow_types::{CostTable, OutOfMemory, Place, Sequence};
 use std::alloc::Global;
 use std::marker::Model;
+use text_records::NameIndex;
 
 /// An item that has a name.
 pub trait Named: Drop {

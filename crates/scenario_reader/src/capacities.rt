@@ -7,11 +7,10 @@ ghost use Rattle.scenario_reader.specs.Capacities.{cap_change_of, cap_kind_at, c
 ghost use Rattle.scenario_reader.specs.Validity.{IsCapChange};
 
 use crate::books::Book;
-use crate::names::known_in;
 use crate::places::{is_airport, is_sector};
 use csv::ByteRecord;
 use flow_types::{CapKind, Cause, Place};
-use text_records::{Flaw, end_after, field_at, number_at};
+use text_records::{Flaw, end_after, field_at, known_in, number_at};
 
 /// A capacity of a place, which is named by its position, from one period to another.
 #[derive(Clone, Copy, Debug, PartialEq, Eq)]

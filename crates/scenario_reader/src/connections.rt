@@ -7,10 +7,9 @@ ghost use Rattle.scenario_reader.specs.Validity.{IsMeeting};
 
 use crate::begun::Begun;
 use crate::books::Book;
-use crate::names::known_in;
 use csv::ByteRecord;
 use flow_types::{Cause, Connection};
-use text_records::{Flaw, end_after, number_at};
+use text_records::{Flaw, end_after, known_in, number_at};
 
 // The flight that brings the aircraft.
 #[tactic(auto, unfolding(crate::specs::Connections::first_in))]

@@ -26,7 +26,7 @@ impl Draft {
     ghost use Rattle.std.specs.Prelude.{◌≡◌, ◌<◌, ◌≤◌, ◌+◌, [], None, Some, IfOk, false, length, slice_get};
     ghost use Rattle.flow_types.specs.Valid.{IsDay, IsPlace, IsTable};
     ghost use Rattle.scenario_reader.specs.Connections.{are_connected};
-    ghost use Rattle.scenario_reader.specs.Names.{position_of};
+    ghost use Rattle.text_records.specs.Names.{position_of};
     ghost use Rattle.scenario_reader.specs.Reading.{with_cap_change, with_connection, with_flight, with_flight_leg, with_place, with_pricing, with_table};
     ghost use Rattle.scenario_reader.specs.Seen.{sketch_of};
     ghost use Rattle.scenario_reader.specs.Sketch.{flight_names, place_names, table_names};

@@ -7,16 +7,15 @@ ghost use Rattle.flow_types.specs.Words.{is_name};
 ghost use Rattle.flow_types.specs.declared.flight.CostTable.{CostTable};
 ghost use Rattle.text_records.specs.Flaws.{Finds};
 ghost use Rattle.scenario_reader.specs.Flights.{airport_at, arrival_in, cost_in, destination_in, flight_name_of, hours_in, origin_in, other_airport_at};
-ghost use Rattle.scenario_reader.specs.Names.{position_of};
+ghost use Rattle.text_records.specs.Names.{position_of};
 ghost use Rattle.scenario_reader.specs.Validity.{IsHours};
 
 use crate::begun::Hours;
 use crate::books::Book;
-use crate::names::{NameIndex, new_name};
 use crate::places::is_airport;
 use csv::ByteRecord;
 use flow_types::{Cause, Cost, Place};
-use text_records::{Flaw, end_after, name_at, number_at};
+use text_records::{Flaw, NameIndex, end_after, name_at, new_name, number_at};
 
 /// The name of a new flight, where there is room for its two nodes.
 #[tactic(auto, unfolding(crate::specs::Flights::flight_name_of))]

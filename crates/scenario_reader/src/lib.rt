@@ -33,7 +33,6 @@ mod finish;
 mod flights;
 mod kind;
 mod legs;
-mod names;
 mod places;
 mod reading;
 mod records;

@@ -6,7 +6,7 @@ ghost use Rattle.flow_types.specs.Valid.{IsDay, IsPlace};
 ghost use Rattle.text_records.specs.Flaws.{Finds, Gives};
 ghost use Rattle.scenario_reader.specs.Capacities.{Reaches, with_change};
 ghost use Rattle.scenario_reader.specs.Change.{changed_at};
-ghost use Rattle.scenario_reader.specs.Names.{position_of};
+ghost use Rattle.text_records.specs.Names.{position_of};
 ghost use Rattle.scenario_reader.specs.Places.{airport_of, day_of, sector_of};
 ghost use Rattle.scenario_reader.specs.Sketch.{place_names};
 ghost use Rattle.flow_types.specs.declared.place.Place.{Place};
@@ -14,11 +14,10 @@ ghost use Rattle.flow_types.specs.declared.place.Place.{Place};
 use crate::books::Book;
 use crate::capacities::CapChange;
 use crate::date::moment_of;
-use crate::names::{NameIndex, new_name};
 use csv::ByteRecord;
 use flow_types::{CapKind, Caps, Day, Place, PlaceKind, Sequence};
 use std::alloc::{AllocError, Global};
-use text_records::{Flaw, Trouble, end_after, field_at, number_at};
+use text_records::{Flaw, NameIndex, Trouble, end_after, field_at, new_name, number_at};
 
 impl Book<Place> {
     /// The book with a change of a place's capacities. It takes no memory.

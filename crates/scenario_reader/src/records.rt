@@ -4,7 +4,7 @@ ghost use Rattle.csv.specs.Records.{fields_of};
 ghost use Rattle.text_records.specs.Flaws.{Finds, Gives};
 ghost use Rattle.scenario_reader.specs.Flights.{flight_of};
 ghost use Rattle.scenario_reader.specs.Legs.{leg_in};
-ghost use Rattle.scenario_reader.specs.Names.{position_of};
+ghost use Rattle.text_records.specs.Names.{position_of};
 ghost use Rattle.scenario_reader.specs.Reading.{airport_step, cap_step, connect_step, cost_step, day_by_kind, first_step, flight_step, leg_step, record_step, sector_step, step_of, table_step};
 ghost use Rattle.scenario_reader.specs.Seen.{sketch_of};
 ghost use Rattle.scenario_reader.specs.Sketch.{flight_names};

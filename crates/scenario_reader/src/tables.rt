@@ -3,18 +3,17 @@ ghost use Rattle.std.specs.Prelude.{◌≡◌, ◌≤◌, ◌<◌, ◌+◌, None
 ghost use Rattle.csv.specs.Records.{fields_of};
 ghost use Rattle.flow_types.specs.Valid.{IsTable, IsValue, value_count};
 ghost use Rattle.text_records.specs.Flaws.{Finds, Gives};
-ghost use Rattle.scenario_reader.specs.Names.{position_of};
+ghost use Rattle.text_records.specs.Names.{position_of};
 ghost use Rattle.scenario_reader.specs.Sketch.{table_names};
 ghost use Rattle.scenario_reader.specs.Tables.{has_tables, pricing_of, signed, table_in, table_of, untabled_at, untabled_in, value_at, value_in, value_of, values_from};
 ghost use Rattle.scenario_reader.specs.Validity.{IsPricing};
 
 use crate::begun::Begun;
 use crate::books::Book;
-use crate::names::{NameIndex, known_in, new_name};
 use csv::ByteRecord;
 use flow_types::{Cause, Cost, CostTable, Sequence, Values, parse_number};
 use std::alloc::Global;
-use text_records::{Flaw, Trouble, end_after, field_at};
+use text_records::{Flaw, NameIndex, Trouble, end_after, field_at, known_in, new_name};
 
 /// The tables of a flight. It and they are named by their positions.
 #[derive(Clone, Copy, Debug, PartialEq, Eq)]

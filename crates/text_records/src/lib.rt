@@ -15,11 +15,13 @@
 
 pub mod fields;
 pub mod flaw;
+pub mod names;
 pub mod rows;
 mod scan;
 
 pub use fields::{end_after, field_at, name_at, number_at};
 pub use flaw::{Flaw, ReadError, Trouble, in_record};
+pub use names::{NameIndex, known_at, known_in, new_name};
 pub use rows::Rows;
 
 #[cfg(test)]

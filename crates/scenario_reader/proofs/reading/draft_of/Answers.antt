@@ -18,8 +18,7 @@ records-smaller c =
 
 pub records-preserved : goal.records-preserved
 records-preserved c =
-    let found : PassesNotes c.records.from c.records.rows c.in-Some.at (fields_of c.next_record.new.row) c.next_record.new.rows = rw c.in-Some.is at c.in_ok-at.ensures in
-    (
+    let found : PassesNotes c.records.from c.records.rows c.in-Some.at (fields_of c.next_record.new.row) c.next_record.new.rows = rw c.in-Some.is at c.in_ok-at.ensures in (
       next_record c.in-Some.at (sketch_of c.records.draft) (sketch_of c.in-Ok.next) _ _ _ _ refl c.in-Ok.ensures (sym (found.same (sketch_of c.records.draft)) ∙ c.records.invariant.0),
       omega (arith, found.within, c.records.invariant.1),
     )

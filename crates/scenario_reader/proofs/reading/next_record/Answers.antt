@@ -20,8 +20,7 @@ pub notes-preserved : goal.notes-preserved
 notes-preserved c =
     let here : c.notes.rows ≡ fields_of c.next_row.new.row ∷ c.next_row.new.self = rw c.if-branch.true at c.in_ok-next_row.ensures.takes in
     let longer = ap length here in
-    let note : is_note (fields_of c.next_row.new.row) ≡ true = sym c.is_note.ensures ∙ c.if-not-is_note.false in
-    (
+    let note : is_note (fields_of c.next_row.new.row) ≡ true = sym c.is_note.ensures ∙ c.if-not-is_note.false in (
       λ sketch. c.notes.invariant.0 sketch ∙ passed c.notes.at sketch c.notes.rows c.next_row.new.self (fields_of c.next_row.new.row) here note,
       omega (arith, c.notes.invariant.1),
       omega (arith, c.notes.invariant.2, longer),

@@ -1,16 +1,17 @@
-//! Names by their positions.
+//! Names by their positions, and fields that name what is known or what is new.
 ghost use Rattle.std.specs.Prelude.{◌≡◌, ◌<◌, ◌≤◌, ◌-◌, ◌^◌, ◌++◌, ◌∷◌, [], None, IfOk, IfSome, OnOk, OnErr, IsTrue, length};
 ghost use Rattle.csv.specs.Records.{fields_of};
 ghost use Rattle.flow_types.specs.Words.{is_name};
 ghost use Rattle.text_records.specs.Flaws.{Finds};
-ghost use Rattle.scenario_reader.specs.Names.{known_at, known_in, new_name, position_of};
+ghost use Rattle.text_records.specs.Names.{known_at, known_in, new_name, position_of};
 
+use crate::fields::name_at;
+use crate::flaw::Flaw;
 use csv::ByteRecord;
 use flow_types::{Cause, OutOfMemory};
 use indexmap::IndexSet;
 use std::alloc::Global;
 use std::marker::Model;
-use text_records::{Flaw, name_at};
 
 /// Names in the order in which they came, found by their bytes. Contracts see it as the list.
 #[derive(Drop)]
@@ -69,8 +70,8 @@ impl NameIndex {
     }
 }
 
-// The position, of a name that is there.
-fn known_at(number: u32, position: Option<u32>) -> Result<u32, Flaw>
+/// The position, where there is one, of what the field of this number names.
+pub fn known_at(number: u32, position: Option<u32>) -> Result<u32, Flaw>
     ensures { Finds (λ k. k) result (known_at number position) }
 {
     position.ok_or(Flaw {

@@ -2,8 +2,8 @@ use Rattle.std.proofs.Common.{◌≡◌, ◌++◌, ◌∷◌, [], ◌∙◌, sym
 use Rattle.std.specs.List.{list_any}
 use Rattle.std.specs.Str.{bytes_eq}
 use Rattle.std.proofs.lemmas.List.{map-append}
-use Rattle.scenario_reader.proofs.NameFacts.{position-map, position-none}
-use Rattle.scenario_reader.proofs.names.NameIndex.add.Goals as goal
+use Rattle.text_records.proofs.NameFacts.{position-map, position-none}
+use Rattle.text_records.proofs.names.NameIndex.add.Goals as goal
 
 pub returns-clause-ok : goal.returns-clause-ok
 returns-clause-ok c =

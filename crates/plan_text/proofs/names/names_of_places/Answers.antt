@@ -1,7 +1,7 @@
 use Rattle.std.proofs.Common.{arith}
 use Rattle.flow_types.specs.declared.place.Place.{Place}
 use Rattle.plan_text.proofs.NameFacts.{fresh}
-use Rattle.plan_text.proofs.names.NameIndex.of_places.Goals as goal
+use Rattle.plan_text.proofs.names.names_of_places.Goals as goal
 
 pub add-requires-clause-fresh : goal.add-requires-clause-fresh
 add-requires-clause-fresh c =
