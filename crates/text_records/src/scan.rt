@@ -2,11 +2,12 @@
 //!
 //! `csv`'s own reader holds a record whole, at 8 bytes a field, in a block that doubles; here no more is
 //! held of a record than what tells whether it may stand (`clipped` in `specs/Rows.antt`).
-ghost use Rattle.std.specs.Prelude.{◌≡◌, [], IfOk, OnOk, length, option_map};
+ghost use Rattle.std.specs.Prelude.{◌≡◌, ◌≤◌, [], IfOk, IsTrue, OnOk, length, option_map};
 ghost use Rattle.csv.specs.Machine.{ends_at_end, is_end};
 ghost use Rattle.csv.specs.Records.{fields_of, partial_of};
 ghost use Rattle.csv.specs.declared.parser.Action.TheVariants as act;
 ghost use Rattle.csv.specs.declared.parser.State.TheVariants as st;
+ghost use Rattle.text_records.specs.Rows.{Fields};
 ghost use Rattle.text_records.specs.Scan.{Follows, action_of, kept_field, kept_fields, kept_record, state_of, with_field};
 ghost use Rattle.text_records.specs.declared.scan.Context.TheVariants as context;
 
@@ -145,6 +146,38 @@ fn end_field(row: &mut ByteRecord, field: &mut Vec<u8>) -> Result<(), OutOfMemor
     Ok(())
 }
 
+// Whether the byte is one of the field at hand, and the next one may be too.
+fn is_of_field(context: Context, byte: u8) -> bool
+    ensures { IsTrue result → Follows context byte context Effect.Copy }
+{
+    match context {
+        Context::InField => byte != b',' && byte != b'\r' && byte != b'\n',
+        Context::InQuotes => byte != b'"',
+        _ => false,
+    }
+}
+
+// Takes the bytes of the field at hand from the front of a text, and answers what is left: what `step`
+// does byte by byte, in a loop that has less to ask.
+fn copy_run<'a>(
+    context: Context,
+    text: &'a [u8],
+    field: &mut Vec<u8>,
+) -> Result<&'a [u8], OutOfMemory>
+    ensures same { IfOk result (λ rest. (fields : Fields) → kept_record (state_of context) fields field.new.items rest.now ≡ kept_record (state_of context) fields field.old.items text.now) }
+    ensures shorter { IfOk result (λ rest. length rest.now ≤ length text.now) }
+{
+    let mut rest = text;
+    'run: while let Some((byte, after)) = rest.split_first() {
+        if !is_of_field(context, *byte) {
+            return Ok(rest);
+        }
+        copy_byte(*byte, field)?;
+        rest = after;
+    }
+    Ok(rest)
+}
+
 // Whether the end of the text ends a record.
 fn ends_record(context: Context) -> bool
     ensures { result ≡ ends_at_end (state_of context) }
@@ -174,11 +207,11 @@ pub fn take_record<'a>(
     'bytes: while let Some((byte, after)) = rest.split_first() {
         let (next, effect) = step(context, *byte);
         take_byte(effect, *byte, row, field)?;
-        rest = after;
         if is_end(effect) {
-            return Ok(Some(rest));
+            return Ok(Some(after));
         }
         context = next;
+        rest = copy_run(context, after, field)?;
     }
     if !ends_record(context) {
         return Ok(None);

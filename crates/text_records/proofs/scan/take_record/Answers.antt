@@ -1,4 +1,5 @@
 use Rattle.std.proofs.Common.{◌≡◌, ◌∷◌, sym, ◌∙◌}
+use Rattle.csv.specs.Records.{fields_of}
 use Rattle.text_records.proofs.ScanFacts.{empty, ended, goes_on, last, no_last}
 use Rattle.text_records.proofs.scan.take_record.Goals as goal
 
@@ -11,7 +12,8 @@ returns-then-is_end c =
 pub bytes-preserved : goal.bytes-preserved
 bytes-preserved c =
     let is : c.bytes.rest.now ≡ c.in-Some.byte.now ∷ c.in-Some.after.now = c.in-Some.ensures.cases.0 in (
-      rw (c.in_ok-take_byte.ensures.fields, c.in_ok-take_byte.ensures.field)
+      c.in_ok-rest.ensures.same (fields_of c.take_byte.new.row)
+      ∙ rw (c.in_ok-take_byte.ensures.fields, c.in_ok-take_byte.ensures.field)
           (goes_on _ _ _ _ _ _ _ _ _ c.step-next.ensures is (sym c.is_end.ensures ∙ c.if-is_end.false) c.bytes.invariant.0),
       c.in_ok-take_byte.ensures.whole,
     )
