@@ -1,5 +1,5 @@
 -- What is answered to a plan is what is answered to the words, where the day was read before.
-use Rattle.std.proofs.Common.{◌≡◌, ◌⊎◌, ℕ, ◌≤◌, ◌<◌, List, Option, Result, Ok, Err, sym, subst, inl, inr, arith}
+use Rattle.std.proofs.Common.{◌≡◌, ℕ, ◌≤◌, List, Option, Result, Ok, Err, subst, inl, inr, arith}
 use Rattle.flow_outside.specs.Counts.{Rose}
 use Rattle.flow_outside.specs.Held.{Held}
 use Rattle.flow_types.specs.declared.parts.Parts.{Parts}
@@ -9,7 +9,7 @@ use Rattle.flow_cli.specs.declared.answer.Halt.TheVariants.{Answered, OutOfMemor
 use Rattle.flow_cli.specs.declared.status.Status.{Status}
 use Rattle.flow_cli.specs.Answers.{IfAnswered}
 use Rattle.flow_cli.specs.Judging.{IsOfJudge, IsOfPlanOf}
-use Rattle.flow_cli.specs.Reading.{IsDayOf, IsFailed, IsUnread}
+use Rattle.flow_cli.specs.Reading.{IsDayOf, IsFailed}
 
 -- a count that rose since some later moment rose since before it
 rose_since : (before mid now : ℕ) → before ≤ mid → Rose mid now → Rose before now

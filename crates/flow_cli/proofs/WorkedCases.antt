@@ -1,6 +1,6 @@
 -- What is printed of worked days, byte by byte, what words ask for, and how days are planned.
 use Rattle.std.specs.Prelude.{codes}
-use Rattle.std.proofs.Common.{◌≡◌, ℕ, ◌+◌, ◌≤◌, ◌++◌, List, [], ◌∷◌, Some, None, IsTrue, All, pos, negsuc, refl, sym, arith}
+use Rattle.std.proofs.Common.{◌≡◌, ℕ, ◌≤◌, List, [], ◌∷◌, Some, None, IsTrue, All, pos, negsuc, refl, sym, arith}
 use Rattle.std.specs.List.{Any, AllZip}
 use Rattle.std.proofs.lemmas.Int.{ints}
 use Rattle.std.proofs.lemmas.List.Elements.{All-cons, All-nil}

@@ -1,7 +1,7 @@
 -- Whole runs, from the words and the files to the bytes that are written, of any texts that say what is
 -- said of them here.
 use Rattle.std.specs.Prelude.{codes}
-use Rattle.std.proofs.Common.{◌≡◌, ℕ, ◌+◌, ◌≤◌, List, [], ◌∷◌, length, Some, None, Ok, Err, IsSome, pos, refl, sym, subst, ◌∙◌, inl, inr}
+use Rattle.std.proofs.Common.{◌≡◌, ℕ, ◌+◌, ◌≤◌, List, [], ◌∷◌, length, Some, Ok, Err, IsSome, refl, sym, subst, ◌∙◌, inl, inr}
 use Rattle.std.specs.Cmp.Lexicographic.{nat_list_cmp_total}
 use Rattle.std.specs.FinMap.{from_entries, get, get-from_entries}
 use Rattle.std.specs.Fmt.{digits}
@@ -18,7 +18,7 @@ use Rattle.flow_cli.specs.declared.status.Status.TheVariants.{BadPlan, BadScenar
 use Rattle.flow_cli.specs.Answer.{Ends}
 use Rattle.flow_cli.specs.Faults.{fault_text, too_long_text}
 use Rattle.flow_cli.specs.Judging.{IsVerdict}
-use Rattle.flow_cli.specs.Reading.{IsDayOf, IsTextOf, most_bytes}
+use Rattle.flow_cli.specs.Reading.{IsTextOf, most_bytes}
 use Rattle.flow_cli.specs.Words.{usage_text}
 use Rattle.flow_cli.proofs.WorkedCases.{is_day_of_chains, keeps, on_time, optimal_day, optimal_text, two_flights}
 

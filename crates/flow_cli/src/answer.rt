@@ -1,6 +1,5 @@
 //! What a run answers, and how a piece of its work ends early.
 ghost use Rattle.std.specs.Prelude.{◌≡◌, IfOk};
-ghost use Rattle.flow_cli.specs.Answers.{IfAnswered, IfHalted};
 
 use crate::status::Status;
 use flow_types::OutOfMemory;

@@ -1,5 +1,5 @@
 //! The command `judge`.
-ghost use Rattle.std.specs.Prelude.{◌≡◌, ◌⊎◌, ◌≤◌, IfOk};
+ghost use Rattle.std.specs.Prelude.{◌≡◌, ◌≤◌, IfOk};
 ghost use Rattle.flow_types.specs.Scenario.{parts_of};
 ghost use Rattle.flow_cli.specs.Answers.{IfAnswered};
 ghost use Rattle.flow_cli.specs.Judging.{IsOfJudge, IsOfPlanOf, IsVerdict};

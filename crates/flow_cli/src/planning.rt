@@ -1,5 +1,5 @@
 //! The command `plan`.
-ghost use Rattle.std.specs.Prelude.{◌≡◌, ◌⊎◌, ◌≤◌, IfOk};
+ghost use Rattle.std.specs.Prelude.{◌≡◌, ◌≤◌, IfOk};
 ghost use Rattle.chain_plan.specs.Chains.{IsDayOfChains};
 ghost use Rattle.flow_types.specs.Scenario.{parts_of};
 ghost use Rattle.flow_cli.specs.Answers.{IfAnswered};

@@ -1,5 +1,5 @@
 //! What is read under a name: a text, or the scenario of a text.
-ghost use Rattle.std.specs.Prelude.{◌≡◌, ◌⊎◌, ◌≤◌, IfOk, length};
+ghost use Rattle.std.specs.Prelude.{◌≡◌, ◌≤◌, IfOk};
 ghost use Rattle.flow_types.specs.Scenario.{parts_of};
 ghost use Rattle.flow_cli.specs.Answers.{IfHalted};
 ghost use Rattle.flow_cli.specs.Reading.{IsDayOf, IsTextOf, IsUnread, IsWithoutDay};

@@ -1,6 +1,6 @@
 //! What is printed of a day that was planned.
 ghost use Rattle.std.specs.Prelude.{◌≡◌, ◌++◌, Option, None, Some, IfOk, IfSome, OnOk, codes, option_map};
-ghost use Rattle.std.specs.Fmt.{decimal, signed_decimal};
+ghost use Rattle.std.specs.Fmt.{decimal};
 ghost use Rattle.chain_plan.specs.Outcome.{IsCosted, plan_of};
 ghost use Rattle.chain_plan.specs.declared.outcome.Costed.{Costed};
 ghost use Rattle.flow_types.specs.Scenario.{parts_of};

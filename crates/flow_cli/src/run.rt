@@ -1,5 +1,5 @@
 //! A run of the program, from its words to its status.
-ghost use Rattle.std.specs.Prelude.{◌≡◌, ◌⊎◌, ◌≤◌, IfOk, length, map, string_bytes};
+ghost use Rattle.std.specs.Prelude.{◌≡◌, ◌≤◌, IfOk, map, string_bytes};
 ghost use Rattle.flow_outside.specs.Counts.{Rose};
 ghost use Rattle.flow_cli.specs.Answer.{Ends, IsAnswer};
 ghost use Rattle.flow_cli.specs.Answers.{IfAnswered};

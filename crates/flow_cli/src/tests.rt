@@ -232,67 +232,68 @@ trip,F1,ORIG,0,S,0,DEST,2\ntrip,F2,ORIG,1,S,1,DEST,3\n";
     expect_of_judge(&rt, alloc, (ROUND_TRIP, kept), b"keeps,3\n", Status::Done)
 }
 
+// The trips of the three flights of the round trip, none where there is no stop, and what is printed.
+const BROKEN: [(&str, &str, &str, &[u8]); 9] = [
+    (
+        "ORIG,0,S,0,DEST,2",
+        "",
+        "DEST,4,S,4,ORIG,6",
+        b"broken,start,F2\n",
+    ),
+    (
+        "ORIG,5,S,5,DEST,7",
+        "ORIG,2,S,2,DEST,4",
+        "DEST,4,S,4,ORIG,6",
+        b"broken,window,F1,ORIG,5\n",
+    ),
+    (
+        "ORIG,0,DEST,2",
+        "ORIG,2,S,2,DEST,4",
+        "DEST,4,S,4,ORIG,6",
+        b"broken,noleg,F1,ORIG,DEST\n",
+    ),
+    (
+        "ORIG,0,S,1,DEST,2",
+        "ORIG,2,S,2,DEST,4",
+        "DEST,4,S,4,ORIG,6",
+        b"broken,least,F1,S,1,DEST,2,2\n",
+    ),
+    (
+        "ORIG,0,S,0",
+        "ORIG,2,S,2,DEST,4",
+        "DEST,4,S,4,ORIG,6",
+        b"broken,ending,F1\n",
+    ),
+    (
+        "ORIG,0,S,0,DEST,2",
+        "ORIG,2,S,2,DEST,4",
+        "DEST,3,S,4,ORIG,6",
+        b"broken,turn,F1,G1,2,3,2\n",
+    ),
+    (
+        "ORIG,0,S,0,DEST,2",
+        "ORIG,0,S,2,DEST,4",
+        "DEST,4,S,4,ORIG,6",
+        b"broken,departures,ORIG,0,2,1\n",
+    ),
+    (
+        "ORIG,0,S,0,DEST,4",
+        "ORIG,2,S,2,DEST,4",
+        "DEST,6,S,6,ORIG,8",
+        b"broken,arrivals,DEST,4,2,1\n",
+    ),
+    (
+        "ORIG,0,S,0,DEST,2",
+        "ORIG,1,S,1,DEST,3",
+        "DEST,4,S,4,ORIG,6",
+        b"broken,sectors,S,1,2,1\n",
+    ),
+];
+
 #[test]
 fn the_first_broken_rule_of_a_plan_is_printed(rt: HostRuntime) -> Result<(), Fail> {
     let alloc = rt.alloc();
-    // The trips of the three flights, and what is printed.
-    let rows: [(&str, &str, &str, &[u8]); 9] = [
-        (
-            "ORIG,0,S,0,DEST,2",
-            "",
-            "DEST,4,S,4,ORIG,6",
-            b"broken,start,F2\n",
-        ),
-        (
-            "ORIG,5,S,5,DEST,7",
-            "ORIG,2,S,2,DEST,4",
-            "DEST,4,S,4,ORIG,6",
-            b"broken,window,F1,ORIG,5\n",
-        ),
-        (
-            "ORIG,0,DEST,2",
-            "ORIG,2,S,2,DEST,4",
-            "DEST,4,S,4,ORIG,6",
-            b"broken,noleg,F1,ORIG,DEST\n",
-        ),
-        (
-            "ORIG,0,S,1,DEST,2",
-            "ORIG,2,S,2,DEST,4",
-            "DEST,4,S,4,ORIG,6",
-            b"broken,least,F1,S,1,DEST,2,2\n",
-        ),
-        (
-            "ORIG,0,S,0",
-            "ORIG,2,S,2,DEST,4",
-            "DEST,4,S,4,ORIG,6",
-            b"broken,ending,F1\n",
-        ),
-        (
-            "ORIG,0,S,0,DEST,2",
-            "ORIG,2,S,2,DEST,4",
-            "DEST,3,S,4,ORIG,6",
-            b"broken,turn,F1,G1,2,3,2\n",
-        ),
-        (
-            "ORIG,0,S,0,DEST,2",
-            "ORIG,0,S,2,DEST,4",
-            "DEST,4,S,4,ORIG,6",
-            b"broken,departures,ORIG,0,2,1\n",
-        ),
-        (
-            "ORIG,0,S,0,DEST,4",
-            "ORIG,2,S,2,DEST,4",
-            "DEST,6,S,6,ORIG,8",
-            b"broken,arrivals,DEST,4,2,1\n",
-        ),
-        (
-            "ORIG,0,S,0,DEST,2",
-            "ORIG,1,S,1,DEST,3",
-            "DEST,4,S,4,ORIG,6",
-            b"broken,sectors,S,1,2,1\n",
-        ),
-    ];
-    for (first, second, third, printed) in rows {
+    for (first, second, third, printed) in BROKEN {
         let mut plan = String::new(alloc);
         for (flight, trip) in [("F1", first), ("F2", second), ("G1", third)] {
             if !trip.is_empty() {

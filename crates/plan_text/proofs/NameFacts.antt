@@ -1,5 +1,5 @@
 -- A name that differs from those before it isn't among them.
-use Rattle.std.proofs.Common.{◌≡◌, ◌≢◌, ℕ, ◌<◌, ◌≤◌, Bool, true, false, List, length, get_or, take, None, map, refl, ap, sym, ◌∙◌, arith, position, AllPairs}
+use Rattle.std.proofs.Common.{◌≡◌, ◌≢◌, ℕ, ◌<◌, Bool, true, false, List, length, get_or, take, None, map, refl, ap, sym, ◌∙◌, arith, position, AllPairs}
 use Rattle.std.proofs.lemmas.Bool.{le-ltb}
 use Rattle.std.proofs.lemmas.List.{get_or-take, length-take-le}
 use Rattle.std.proofs.lemmas.List.Sums.{position_or_len_is}

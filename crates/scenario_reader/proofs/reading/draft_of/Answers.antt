@@ -1,6 +1,6 @@
-use Rattle.std.proofs.Common.{◌≡◌, ◌∷◌, ◌+◌, length, refl, sym, ◌∙◌, arith}
+use Rattle.std.proofs.Common.{refl, sym, ◌∙◌, arith}
 use Rattle.csv.specs.Records.{fields_of}
-use Rattle.scenario_reader.specs.Notes.{FindsRecord, PassesNotes}
+use Rattle.scenario_reader.specs.Notes.{PassesNotes}
 use Rattle.scenario_reader.specs.Seen.{sketch_of}
 use Rattle.scenario_reader.proofs.ReadingFacts.{next_record, refused_record}
 use Rattle.scenario_reader.proofs.reading.draft_of.Goals as goal

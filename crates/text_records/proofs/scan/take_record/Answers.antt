@@ -13,7 +13,7 @@ pub bytes-preserved : goal.bytes-preserved
 bytes-preserved c =
     let is : c.bytes.rest.now ≡ c.in-Some.byte.now ∷ c.in-Some.after.now = c.in-Some.ensures.cases.0 in (
       c.in_ok-rest.ensures.same (fields_of c.take_byte.new.row)
-      ∙ rw (c.in_ok-take_byte.ensures.fields, c.in_ok-take_byte.ensures.field)
+          ∙ rw (c.in_ok-take_byte.ensures.fields, c.in_ok-take_byte.ensures.field)
           (goes_on _ _ _ _ _ _ _ _ _ c.step-next.ensures is (sym c.is_end.ensures ∙ c.if-is_end.false) c.bytes.invariant.0),
       c.in_ok-take_byte.ensures.whole,
     )
