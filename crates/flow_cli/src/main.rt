@@ -31,7 +31,7 @@ fn main(rt: HostRuntime) -> ExitCode {
         Ok(words) => run(rt.alloc(), &words, &mut files, &mut out),
         Err(OutOfMemory) => Status::OutOfMemory,
     };
-    ExitCode::from(status as u8)
+    ExitCode::from(status.number())
 }
 
 // The words behind the program's name. Words that aren't UTF-8 are those of no command.

@@ -8,11 +8,11 @@ ghost use Rattle.flow_cli.specs.Lines.{line_text};
 ghost use Rattle.flow_cli.specs.Status.{status_of};
 ghost use Rattle.flow_cli.specs.Texts.{bound_word, claim_text, cost_word, report_text, status_word, trips_text};
 
-use crate::lines::put_line;
+use crate::lines::{put, put_line};
 use crate::status::Status;
 use chain_plan::Outcome;
-use flow_types::{Bound, Flight, OutOfMemory, Place, Plan, Scenario, Trip};
-use plan_text::put_trip;
+use flow_types::{Bound, OutOfMemory, Plan, Scenario, Trip};
+use plan_text::trip_line;
 use std::alloc::Global;
 
 /// The status of a plan's cost, if there is one, beside the bound.
@@ -99,14 +99,13 @@ fn put_claim(
 fn put_trips(
     alloc: Global,
     out: &mut Vec<u8>,
-    places: &[Place],
-    flights: &[Flight],
+    s: &Scenario,
     trips: &[Trip],
 ) -> Result<(), OutOfMemory>
-    ensures { OnOk result (out.new.items ≡ out.old.items ++ trips_text places.now flights.now trips.now) }
+    ensures { OnOk result (out.new.items ≡ out.old.items ++ trips_text (parts_of s.now).places (parts_of s.now).flights trips.now) }
 {
-    for at in 0..flights.len().min(trips.len()) {
-        put_trip(alloc, out, places, &flights[at], trips[at].items())?;
+    for at in 0..s.flights().len().min(trips.len()) {
+        put(out, &trip_line(alloc, s, at as u32, trips[at].items())?)?;
     }
     Ok(())
 }
@@ -137,7 +136,7 @@ pub fn plan_report(
         None => put_claim(alloc, &mut out, None, outcome.bound, nodes)?,
         Some(kept) => {
             put_claim(alloc, &mut out, Some(kept.cost), outcome.bound, nodes)?;
-            put_trips(alloc, &mut out, s.places(), s.flights(), kept.plan.items())?;
+            put_trips(alloc, &mut out, s, kept.plan.items())?;
         }
     }
     Ok(out)

@@ -1,4 +1,6 @@
 //! How a run of the program ends.
+ghost use Rattle.std.specs.Prelude.{◌≡◌};
+ghost use Rattle.flow_cli.specs.Status.{number_of};
 
 /// The answer of a run. The program ends with its number.
 #[derive(Clone, Copy, Debug, PartialEq, Eq)]
@@ -27,4 +29,13 @@ pub enum Status {
     Broken = 10,
     /// The plan's text is refused.
     BadPlan = 11,
+}
+
+impl Status {
+    /// The number that the program ends with.
+    pub fn number(self) -> u8
+        ensures { result ≡ number_of self }
+    {
+        self as u8
+    }
 }

@@ -428,23 +428,41 @@ fn an_output_that_fails_has_the_front_of_the_answer(rt: HostRuntime) -> Result<(
     Ok(())
 }
 
-// Each call of the files fails in turn: the size and the read of each text.
-fn expect_failing(rt: &impl Abort, alloc: Global, words: &[&str], calls: u64) -> Result<(), Fail> {
-    let words = strings(alloc, words)?;
-    for call in 1..=calls {
-        let mut files = MemoryFiles::new(alloc);
-        files.add("day.csv", two_flights(alloc, &[], "")?.as_bytes())?;
-        files.add("plan.csv", b"trip,F1\n")?;
-        files.fail(call)?;
-        let mut out = MemorySink::new(alloc, 1_000, 16)?;
-        assert_eq!(rt; run(alloc, &words, &mut files, &mut out), Status::ReadFault);
-        assert_eq!(rt; out.bytes(), b"fault,read\n".as_slice());
-    }
+// How the run ends where this call of the files fails, and what is printed.
+fn expect_failing(
+    rt: &impl Abort,
+    alloc: Global,
+    words: &[&str],
+    call: u64,
+    printed: &[u8],
+    status: Status,
+) -> Result<(), Fail> {
+    let mut files = MemoryFiles::new(alloc);
+    files.add("day.csv", two_flights(alloc, &[], "")?.as_bytes())?;
+    files.add("plan.csv", b"trip,F1,ORIG,0\n")?;
+    files.fail(call)?;
+    let mut out = MemorySink::new(alloc, 1_000, 16)?;
+    assert_eq!(rt;
+        run(alloc, &strings(alloc, words)?, &mut files, &mut out),
+        status
+    );
+    assert_eq!(rt; out.bytes(), printed);
     Ok(())
 }
 
+// Each text is asked for its size once and read once.
 #[test]
 fn a_call_on_the_files_that_fails_is_a_read_fault(rt: HostRuntime) -> Result<(), Fail> {
-    expect_failing(&rt, rt.alloc(), &["plan", "day.csv"], 2)?;
-    expect_failing(&rt, rt.alloc(), &["judge", "day.csv", "plan.csv"], 4)
+    let alloc = rt.alloc();
+    let plan = ["plan", "day.csv"];
+    let judge = ["judge", "day.csv", "plan.csv"];
+    let fault = b"fault,read\n";
+    for call in 1..=2 {
+        expect_failing(&rt, alloc, &plan, call, fault, Status::ReadFault)?;
+    }
+    expect_failing(&rt, alloc, &plan, 3, NO_PLAN_FOUND, Status::OpenGap)?;
+    for call in 1..=4 {
+        expect_failing(&rt, alloc, &judge, call, fault, Status::ReadFault)?;
+    }
+    expect_failing(&rt, alloc, &judge, 5, b"broken,ending,F1\n", Status::Broken)
 }

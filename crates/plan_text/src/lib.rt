@@ -28,7 +28,7 @@ mod trips;
 
 use crate::reading::read_exactly;
 use flow_types::{Fault, Plan, Scenario};
-pub use lines::{put_trip, trip_line};
+pub use lines::trip_line;
 use std::alloc::Global;
 use text_records::ReadError;
 

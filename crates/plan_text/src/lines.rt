@@ -1,5 +1,5 @@
 //! The line of a trip.
-ghost use Rattle.std.specs.Prelude.{◌≡◌, ◌<◌, ◌++◌, All, IfOk, IfSome, OnOk, length, slice_get};
+ghost use Rattle.std.specs.Prelude.{◌≡◌, ◌<◌, ◌++◌, IfOk, IfSome, OnOk, length, slice_get};
 ghost use Rattle.flow_types.specs.Scenario.{flight_at, parts_of};
 ghost use Rattle.flow_types.specs.Trips.{place_at};
 ghost use Rattle.plan_text.specs.Lines.{name_at, stop_text, stops_text, trip_text};
@@ -63,10 +63,8 @@ fn put_stops(
     Ok(())
 }
 
-/// Adds the line of a flight's trip at the end of a text, where `places` are those of the scenario. A
-/// stop at a node that the flight hasn't is written without a name. After `OutOfMemory` a front of the
-/// line stands.
-pub fn put_trip(
+// Adds the line for the trip of the flight.
+fn put_trip(
     alloc: Global,
     out: &mut Vec<u8>,
     places: &[Place],
@@ -82,16 +80,15 @@ pub fn put_trip(
 }
 
 /// The line of a flight's trip, with its line feed: `trip,<flight>,<place>,<period>,..`. The flight is
-/// one of the scenario's by its position, and the stops are at nodes of it, in any order. It takes
-/// memory for the line.
+/// one of the scenario's by its position. The stops may be in any order, and one at a node that the flight
+/// hasn't is written without a name. It takes memory for the line.
 pub fn trip_line(
     alloc: Global,
     s: &Scenario,
     flight: u32,
     stops: &[Stop],
 ) -> Result<Vec<u8>, OutOfMemory>
-    requires flight { flight < length (parts_of s.now).flights }
-    requires nodes { IfSome (flight_at s.now flight) (λ of. All (λ stop. stop.node < length of.nodes) stops.now) }
+    requires { flight < length (parts_of s.now).flights }
     ensures { IfSome (flight_at s.now flight) (λ of. IfOk result (λ line. line.items ≡ trip_text (parts_of s.now).places of stops.now)) }
 {
     let mut line = Vec::new(alloc);

@@ -103,25 +103,15 @@ fn fault_of(alloc: Global, s: &Scenario, text: &[u8]) -> Result<Option<Fault>, F
     }
 }
 
-// Whether the stops are at one of so many nodes.
-fn are_within(stops: &[Stop], nodes: usize) -> bool
-    ensures { IsTrue result ↔ All (λ stop. stop.node < nodes) stops.now }
-{
-    stops.iter().all(|stop| (stop.node as usize) < nodes)
-}
-
 // The line of the trip at a position of a plan, if there is one.
 fn line_of(alloc: Global, s: &Scenario, plan: &Plan, at: u32) -> Result<Vec<u8>, Fail> {
-    let Some(flight) = s.flights().get(at as usize) else {
-        return Ok(Vec::new(alloc));
-    };
-    let Some(trip) = plan.items().get(at as usize) else {
-        return Ok(Vec::new(alloc));
-    };
-    if !are_within(trip.items(), flight.nodes.items().len()) {
+    if s.flights().len() <= at as usize {
         return Ok(Vec::new(alloc));
     }
-    Ok(trip_line(alloc, s, at, trip.items())?)
+    match plan.items().get(at as usize) {
+        None => Ok(Vec::new(alloc)),
+        Some(trip) => Ok(trip_line(alloc, s, at, trip.items())?),
+    }
 }
 
 // The lines of the trips of a text that is a plan.

@@ -1,8 +1,21 @@
-use Rattle.std.proofs.Common.{rules, arith}
-use Rattle.flow_cli.proofs.TextFacts.{none_left}
+use Rattle.std.proofs.Common.{◌≡◌, ◌++◌, ◌∙◌, ◌<◌, ◌≤◌, length, min, ap, rules, arith}
+use Rattle.flow_types.specs.Scenario.{parts_of}
+use Rattle.flow_cli.proofs.TextFacts.{none_left, one_more}
 use Rattle.flow_cli.proofs.report.put_trips.Goals as goal
+
+pub loop-at-preserved : goal.loop-at-preserved
+loop-at-preserved c =
+    let parts = parts_of c.args.s.now in
+    let less : c.loop-at.at < min (length parts.flights) (length c.args.trips.now) = rw (c.min-at-end.ensures, c.flights.ensures) at c.loop-at-test.true in
+    let put : c.put.new.out.items ≡ c.loop-at.out.items ++ c.in_ok-trip_line.field-0.items =
+    c.in_ok-put.ensures ∙ ap (λ bytes. c.loop-at.out.items ++ bytes) c.deref.ensures.value in
+    one_more parts.places parts.flights c.args.trips.now c.loop-at.at c.index-trips-at.result c.loop-at.out.items c.in_ok-trip_line.field-0.items c.put.new.out.items
+    less c.index-trips-at.is (rw c.items.ensures at c.in_ok-trip_line.ensures) put
+    ∙ c.loop-at.invariant
 
 pub returns : goal.returns
 returns c =
-    let end = none_left c.args.places.now c.args.flights.now c.args.trips.now c.loop-at.at (omega arith) in
+    let parts = parts_of c.args.s.now in
+    let past : min (length parts.flights) (length c.args.trips.now) ≤ c.loop-at.at = rw (c.min-at-end.ensures, c.flights.ensures) at c.loop-at-test.false in
+    let end = none_left parts.places parts.flights c.args.trips.now c.loop-at.at past in
     search (rules, end)
