@@ -1,7 +1,5 @@
 //! What no clause says: that plans are read and written with ample memory. The faults come from an
 //! independent reader.
-ghost use Rattle.std.specs.Prelude.{◌↔◌, ◌<◌, All, IsTrue};
-
 use super::*;
 use flow_types::{
     Cause, Connections, Cost, Day, Flight, Flights, Leg, OutOfMemory, Parts, Place, PlaceKind,

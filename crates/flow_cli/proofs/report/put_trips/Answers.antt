@@ -1,4 +1,4 @@
-use Rattle.std.proofs.Common.{◌≡◌, ◌++◌, ◌∙◌, ◌<◌, ◌≤◌, length, min, ap, rules, arith}
+use Rattle.std.proofs.Common.{◌≡◌, ◌++◌, ◌∙◌, ◌<◌, ◌≤◌, length, min, ap, rules}
 use Rattle.flow_types.specs.Scenario.{parts_of}
 use Rattle.flow_cli.proofs.TextFacts.{none_left, one_more}
 use Rattle.flow_cli.proofs.report.put_trips.Goals as goal
