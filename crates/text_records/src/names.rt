@@ -57,7 +57,7 @@ impl NameIndex {
         }
     }
 
-    /// Adds a name at the end.
+    /// Adds a name, which isn't among them yet, at the end. It takes memory for a copy of it.
     pub fn add(&mut self, alloc: Global, name: &[u8]) -> Result<(), OutOfMemory>
         requires fresh { position_of name.now self.old ≡ None }
         requires room { length self.old < 2 ^ 32 - 1 }
