@@ -1,5 +1,8 @@
 use crate::flaw::ReadError;
-use crate::{Flaw, Rows, Trouble, end_after, field_at, in_record, name_at, number_at};
+use crate::{
+    Flaw, NameIndex, Rows, Trouble, end_after, field_at, in_record, known_in, name_at, new_name,
+    number_at,
+};
 use csv::ByteRecord;
 use flow_types::{Cause, Fault};
 use std::alloc::Global;
@@ -100,4 +103,47 @@ fn a_flaw_in_its_record(rt: HostRuntime) {
     };
     assert_eq!(rt; in_record(7, Trouble::Flaw(flaw)), ReadError::Fault(fault));
     assert_eq!(rt; in_record(7, Trouble::OutOfMemory), ReadError::OutOfMemory);
+}
+
+// The names of a record's fields, as far as they differ.
+fn names_of(alloc: Global, row: &ByteRecord) -> Result<NameIndex, Fail> {
+    let mut names = NameIndex::empty(alloc);
+    for number in 1..=3 {
+        let name = name_at(row, number)?;
+        if names.find(name).is_none() && names.len() < 3 {
+            names.add(alloc, name)?;
+        }
+    }
+    Ok(names)
+}
+
+#[test]
+fn names_by_their_positions(rt: HostRuntime) -> Result<(), Fail> {
+    let mut rows = Rows::of_text(rt.alloc(), b"ORIG,DEST,ORIG\nleg,DEST,S\nsector,S\n");
+    let mut row = ByteRecord::new(rt.alloc());
+    assert!(rt; rows.next_row(&mut row)?);
+    let names = names_of(rt.alloc(), &row)?;
+    assert_eq!(rt; names.len(), 2);
+    assert_eq!(rt; names.find(b"DEST"), Some(1));
+    assert_eq!(rt; names.find(b"S"), None);
+    assert!(rt; rows.next_row(&mut row)?);
+    assert_eq!(rt; known_in(2, &names, &row)?, 1);
+    let unknown = Flaw {
+        field: 3,
+        cause: Cause::UnknownName,
+    };
+    assert_eq!(rt; known_in(3, &names, &row).err(), Some(unknown));
+    let repeated = Flaw {
+        field: 2,
+        cause: Cause::Repeated,
+    };
+    assert_eq!(rt; new_name(9, &names, &row).err(), Some(repeated));
+    assert!(rt; rows.next_row(&mut row)?);
+    assert_eq!(rt; new_name(3, &names, &row)?, b"S".as_slice());
+    let limit = Flaw {
+        field: 2,
+        cause: Cause::Limit,
+    };
+    assert_eq!(rt; new_name(2, &names, &row).err(), Some(limit));
+    Ok(())
 }
