@@ -5,6 +5,7 @@ use Rattle.flow_types.specs.declared.flight.Leg.{Leg}
 use Rattle.flow_types.specs.declared.place.Place.{Place}
 use Rattle.flow_types.specs.declared.place.PlaceKind.{PlaceKind}
 use Rattle.flow_types.specs.declared.place.PlaceKind.TheVariants.{Airport, Sector}
+use Rattle.flow_types.specs.Limits.{most_delay, most_legs, most_nodes}
 
 abbrev pub is_airport_kind : PlaceKind → Bool
 is_airport_kind Airport = true
@@ -33,11 +34,11 @@ abbrev pub starts_in_order : ℕ → List Leg → Bool
 starts_in_order next [] = true
 starts_in_order next (leg ∷ legs) = nat_le leg.from next && starts_in_order (max next (leg.from + 1)) legs
 
--- the leg is between nodes, upward, and takes at most 511 periods
+-- the leg is between nodes, upward, and takes no longer than it may
 pub record IsLeg (nodes : ℕ) (leg : Leg) : Type 0 where
   pub upward : leg.from < leg.to
   pub within : leg.to < nodes
-  pub least : leg.least ≤ 511
+  pub least : leg.least ≤ most_delay
 
 -- the two legs join different pairs of nodes
 abbrev pub IsOtherLeg : Leg → Leg → Type 0
@@ -47,8 +48,8 @@ IsOtherLeg a b = a.from ≡ b.from → a.to ≢ b.to
 -- every node but the origin is entered, and every node but the destination is left.
 pub record IsRoute (places : List Place) (origin destination : ℕ) (nodes : List ℕ) (legs : List Leg) : Type 0 where
   pub nodes_from : 2 ≤ length nodes
-  pub nodes_to : length nodes ≤ 32
-  pub legs_to_limit : length legs ≤ 64
+  pub nodes_to : length nodes ≤ most_nodes
+  pub legs_to_limit : length legs ≤ most_legs
   pub first : slice_index nodes 0 ≡ origin
   pub last : slice_index nodes (length nodes - 1) ≡ destination
   pub sectors : (k : ℕ) → 0 < k → k + 1 < length nodes → IsTrue (is_sector (slice_get places (slice_index nodes k)))

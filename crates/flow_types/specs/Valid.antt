@@ -11,42 +11,43 @@ use Rattle.flow_types.specs.declared.place.Place.{Place}
 use Rattle.flow_types.specs.declared.place.PlaceKind.{PlaceKind}
 use Rattle.flow_types.specs.declared.place.PlaceKind.TheVariants.{Airport, Sector}
 use Rattle.flow_types.specs.Calendar.{IsDate}
+use Rattle.flow_types.specs.Limits as limits
 use Rattle.flow_types.specs.Routes.{is_airport, IsRoute}
 use Rattle.flow_types.specs.Words.{is_name}
 
--- a date and time of the calendar, and 1 to 512 periods of 1 to 120 minutes
+-- a date and time of the calendar, and periods within their limits
 pub record IsDay (day : Day) : Type 0 where
   pub year_from : 1 ≤ day.year
-  pub year_to : day.year ≤ 9998
+  pub year_to : day.year ≤ limits.last_year
   pub date : IsDate day.year day.month day.day
   pub hour : day.hour ≤ 23
   pub minute : day.minute ≤ 59
   pub minutes_from : 1 ≤ day.minutes
-  pub minutes_to : day.minutes ≤ 120
+  pub minutes_to : day.minutes ≤ limits.most_minutes
   pub periods_from : 1 ≤ day.periods
-  pub periods_to : day.periods ≤ 512
+  pub periods_to : day.periods ≤ limits.most_periods
 
 -- how many arrival capacities a place has: an airport one for each period
 abbrev pub arrival_count : PlaceKind → ℕ → ℕ
 arrival_count Airport periods = periods
 arrival_count Sector periods = 0
 
--- a name, and capacities of at most 1,000,000 for every period
+-- a name, and capacities within their limit for every period
 pub record IsPlace (periods : ℕ) (place : Place) : Type 0 where
   pub name : IsTrue (is_name place.name)
   pub first_count : length place.first ≡ periods
   pub second_count : length place.second ≡ arrival_count place.kind periods
-  pub first : All (λ c. c ≤ 1000000) place.first
-  pub second : All (λ c. c ≤ 1000000) place.second
+  pub first : All (λ c. c ≤ limits.most_capacity) place.first
+  pub second : All (λ c. c ≤ limits.most_capacity) place.second
 
 -- how many values a table has, 0 where there is no table
 abbrev pub value_count : Option CostTable → ℕ
 value_count None = 0
 value_count (Some table) = length table.values
 
--- factors of at most 1,000,000, or tables that reach to the greatest delays
+-- factors within their limit, or tables that reach to the greatest delays
 abbrev pub is_cost : List CostTable → ℕ → ℕ → Cost → Bool
-is_cost tables mg md (Linear on_ground airborne) = nat_le on_ground 1000000 && nat_le airborne 1000000
+is_cost tables mg md (Linear on_ground airborne) = nat_le on_ground limits.most_period_cost && nat_le airborne limits.most_period_cost
 is_cost tables mg md (Tables total credit) =
     nat_le (md + 1) (value_count (slice_get tables total)) && nat_le (mg + 1) (value_count (slice_get tables credit))
 
@@ -55,23 +56,23 @@ pub record IsFlight (periods : ℕ) (places : List Place) (tables : List CostTab
   pub name : IsTrue (is_name flight.name)
   pub forward : flight.sd ≤ flight.sa
   pub within : flight.sa < periods
-  pub ground_delay : flight.mg ≤ 511
-  pub arrival_delay : flight.md ≤ 511
+  pub ground_delay : flight.mg ≤ limits.most_delay
+  pub arrival_delay : flight.md ≤ limits.most_delay
   pub origin : IsTrue (is_airport (slice_get places flight.from))
   pub destination : IsTrue (is_airport (slice_get places flight.to))
   pub apart : flight.from ≢ flight.to
   pub route : IsRoute places flight.from flight.to flight.nodes flight.legs
   pub cost : IsTrue (is_cost tables flight.mg flight.md flight.cost)
 
--- within 1,000,000,000 either way
+-- no further from zero than a value may be
 pub record IsValue (v : ℤ) : Type 0 where
-  pub low : neg_ℤ (pos 1000000000) ≤ℤ v
-  pub high : v ≤ℤ pos 1000000000
+  pub low : neg_ℤ (pos limits.most_value) ≤ℤ v
+  pub high : v ≤ℤ pos limits.most_value
 
 pub record IsTable (table : CostTable) : Type 0 where
   pub name : IsTrue (is_name table.name)
   pub some : 1 ≤ length table.values
-  pub few : length table.values ≤ 512
+  pub few : length table.values ≤ limits.most_values
   pub values : All IsValue table.values
 
 -- where a flight begins and ends
@@ -88,7 +89,7 @@ pub record IsConnection (flights : List Flight) (connection : Connection) : Type
   pub first : connection.first < length flights
   pub second : connection.second < length flights
   pub together : origin_of (slice_get flights connection.second) ≡ destination_of (slice_get flights connection.first)
-  pub turnaround : connection.turnaround ≤ 511
+  pub turnaround : connection.turnaround ≤ limits.most_delay
 
 -- the two join different pairs of flights
 abbrev pub IsOtherConnection : Connection → Connection → Type 0
@@ -97,16 +98,16 @@ IsOtherConnection a b = a.first ≡ b.first → a.second ≢ b.second
 -- names differ, every part is as above, and nothing passes its limit
 pub record IsScenario (parts : Parts) : Type 0 where
   pub day : IsDay parts.day
-  pub places_few : length parts.places ≤ 1000
+  pub places_few : length parts.places ≤ limits.most_places
   pub places : All (IsPlace parts.day.periods) parts.places
   pub place_names : AllPairs (λ a b. a.name ≢ b.name) parts.places
-  pub flights_few : length parts.flights ≤ 2000
+  pub flights_few : length parts.flights ≤ limits.most_flights
   pub flights : All (IsFlight parts.day.periods parts.places parts.tables) parts.flights
   pub flight_names : AllPairs (λ a b. a.name ≢ b.name) parts.flights
-  pub nodes_few : sum_by (λ flight. length flight.nodes) parts.flights ≤ 20000
-  pub tables_few : length parts.tables ≤ 1000
+  pub nodes_few : sum_by (λ flight. length flight.nodes) parts.flights ≤ limits.most_nodes_in_all
+  pub tables_few : length parts.tables ≤ limits.most_tables
   pub tables : All IsTable parts.tables
   pub table_names : AllPairs (λ a b. a.name ≢ b.name) parts.tables
-  pub connections_few : length parts.connections ≤ 4000
+  pub connections_few : length parts.connections ≤ limits.most_connections
   pub connections : All (IsConnection parts.flights) parts.connections
   pub connected_once : AllPairs IsOtherConnection parts.connections

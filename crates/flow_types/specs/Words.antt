@@ -4,18 +4,19 @@ use Rattle.std.specs.Char.{is_ascii_alphanumeric}
 use Rattle.std.specs.List.{list_all}
 use Rattle.std.specs.Str.{all_ascii_digits}
 use Rattle.std.specs.Str.Parse.{digits_value}
+use Rattle.flow_types.specs.Limits.{most_digits, most_name_bytes}
 
 -- an ASCII letter or digit, `-` or `_`
 abbrev pub is_name_byte : ℕ → Bool
 is_name_byte b = is_ascii_alphanumeric b || b == 45 || b == 95
 
--- 1 to 32 such bytes
+-- some such bytes, no more than a name may have
 abbrev pub is_name : List ℕ → Bool
-is_name bytes = nat_le 1 (length bytes) && nat_le (length bytes) 32 && list_all is_name_byte bytes
+is_name bytes = nat_le 1 (length bytes) && nat_le (length bytes) most_name_bytes && list_all is_name_byte bytes
 
--- 1 to 18 ASCII digits
+-- some ASCII digits, no more than a number may have
 abbrev pub is_number : List ℕ → Bool
-is_number bytes = nat_le 1 (length bytes) && nat_le (length bytes) 18 && all_ascii_digits bytes
+is_number bytes = nat_le 1 (length bytes) && nat_le (length bytes) most_digits && all_ascii_digits bytes
 
 -- the number that the bytes spell
 abbrev pub number_of : List ℕ → Option ℕ

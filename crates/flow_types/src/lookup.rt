@@ -1,11 +1,62 @@
-//! What the parts of a scenario say: capacities, costs by delay, plain nodes.
+//! What the parts of a scenario say of a place, a flight or a table. Each look-up is told by a
+//! position or a node, and has an answer where nothing stands there. None takes memory.
 ghost use Rattle.std.specs.Prelude.{◌≡◌, ◌↔◌, Some, ℕ, ◌==◌, count_by, slice_get, slice_index, slice_index_or, IsTrue, pos};
-ghost use Rattle.flow_types.specs.Capacities.{capacity_of};
+ghost use Rattle.flow_types.specs.Capacities.{capacity_of, has_kind};
 ghost use Rattle.flow_types.specs.Costs.{credit_of, total_of, value_at};
-ghost use Rattle.flow_types.specs.Routes.{IsPlain, next_of};
+ghost use Rattle.flow_types.specs.Routes.{IsPlain, is_airport, is_sector, next_of};
+ghost use Rattle.flow_types.specs.Trips.{place_at};
+ghost use Rattle.flow_types.specs.Valid.{value_count};
 
 use crate::flight::{Cost, CostTable, Flight, Leg};
-use crate::place::{CapKind, Place};
+use crate::place::{CapKind, Place, PlaceKind};
+
+/// Whether an airport stands at the position in the list of places.
+pub fn is_airport(places: &[Place], place: u32) -> bool
+    ensures { result ≡ is_airport (slice_get places.now place) }
+{
+    match places.get(place as usize) {
+        None => false,
+        Some(place) => place.kind == PlaceKind::Airport,
+    }
+}
+
+/// Whether a sector stands at the position in the list of places.
+pub fn is_sector(places: &[Place], place: u32) -> bool
+    ensures { result ≡ is_sector (slice_get places.now place) }
+{
+    match places.get(place as usize) {
+        None => false,
+        Some(place) => place.kind == PlaceKind::Sector,
+    }
+}
+
+/// Whether a place stands at the position that has capacities of this kind: an airport those of
+/// departures and arrivals, a sector those of flights inside it.
+pub fn has_kind(kind: CapKind, places: &[Place], place: u32) -> bool
+    ensures { result ≡ has_kind kind (slice_get places.now place) }
+{
+    match kind {
+        CapKind::Dep | CapKind::Arr => is_airport(places, place),
+        CapKind::Sector => is_sector(places, place),
+    }
+}
+
+/// The place of the flight's node, as a position in the list of places; 0 where it has no such node.
+pub fn place_at(flight: &Flight, node: u16) -> u32
+    ensures { result ≡ place_at flight.now node }
+{
+    number_at(flight.nodes.items(), node)
+}
+
+/// How many values the table at the position has, 0 where there is none.
+pub fn value_count(tables: &[CostTable], table: u32) -> usize
+    ensures { result ≡ value_count (slice_get tables.now table) }
+{
+    match tables.get(table as usize) {
+        None => 0,
+        Some(table) => table.values.items().len(),
+    }
+}
 
 /// The capacity of the place in the period, 0 where there is none of this kind.
 pub fn capacity_at(places: &[Place], kind: CapKind, place: u32, period: u16) -> u32

@@ -1,45 +1,13 @@
 //! The tests of a flight's route network. Each answers true exactly where its definition holds.
 ghost use Rattle.std.specs.Prelude.{◌≡◌, ◌≢◌, ◌<◌, ◌≤◌, ◌+◌, ◌-◌, ◌↔◌, ℕ, length, slice_get, slice_index, IsTrue, All, AllPairs};
-ghost use Rattle.flow_types.specs.Routes.{IsLeg, IsOtherLeg, IsRoute, is_airport, is_entered, is_left, is_sector, starts_in_order};
+ghost use Rattle.flow_types.specs.Limits.{most_legs, most_nodes};
+ghost use Rattle.flow_types.specs.Routes.{IsLeg, IsOtherLeg, IsRoute, is_entered, is_left, is_sector, starts_in_order};
 
 use crate::differ::all_differ;
 use crate::flight::Leg;
-use crate::place::{Place, PlaceKind};
-
-/// The most nodes of a flight, both airports among them.
-pub const MOST_NODES: usize = 32;
-
-/// The most legs of a flight.
-pub const MOST_LEGS: usize = 64;
-
-/// The greatest least time, turnaround and delay, in periods.
-pub const MOST_PERIODS: u16 = 511;
-
-/// Whether an airport stands at the position.
-pub fn is_airport(places: &[Place], position: u32) -> bool
-    ensures { result ≡ is_airport (slice_get places.now position) }
-{
-    match places.get(position as usize) {
-        None => false,
-        Some(place) => match place.kind {
-            PlaceKind::Airport => true,
-            PlaceKind::Sector => false,
-        },
-    }
-}
-
-/// Whether a sector stands at the position.
-pub fn is_sector(places: &[Place], position: u32) -> bool
-    ensures { result ≡ is_sector (slice_get places.now position) }
-{
-    match places.get(position as usize) {
-        None => false,
-        Some(place) => match place.kind {
-            PlaceKind::Airport => false,
-            PlaceKind::Sector => true,
-        },
-    }
-}
+use crate::limits::{MOST_DELAY, MOST_LEGS, MOST_NODES};
+use crate::lookup::is_sector;
+use crate::place::Place;
 
 /// Whether the nodes and legs are a route from the origin to the destination.
 pub fn is_route(
@@ -59,7 +27,7 @@ pub fn is_route(
 
 // Whether the nodes are the origin, different sectors, and the destination.
 fn are_nodes(places: &[Place], origin: u32, destination: u32, nodes: &[u32]) -> bool
-    ensures { IsTrue result ↔ (2 ≤ length nodes.now) × (length nodes.now ≤ 32)
+    ensures { IsTrue result ↔ (2 ≤ length nodes.now) × (length nodes.now ≤ most_nodes)
         × (slice_index nodes.now 0 ≡ origin) × (slice_index nodes.now (length nodes.now - 1) ≡ destination)
         × ((k : ℕ) → 0 < k → k + 1 < length nodes.now → IsTrue (is_sector (slice_get places.now (slice_index nodes.now k))))
         × AllPairs (λ a b. a ≢ b) nodes.now }
@@ -87,7 +55,7 @@ fn are_sectors_between(places: &[Place], nodes: &[u32]) -> bool
 
 // Whether the legs are different ones between the nodes, in the order of their starts.
 fn are_legs(nodes: usize, legs: &[Leg]) -> bool
-    ensures { IsTrue result ↔ (length legs.now ≤ 64) × All (IsLeg nodes) legs.now × AllPairs IsOtherLeg legs.now × IsTrue (starts_in_order 1 legs.now) }
+    ensures { IsTrue result ↔ (length legs.now ≤ most_legs) × All (IsLeg nodes) legs.now × AllPairs IsOtherLeg legs.now × IsTrue (starts_in_order 1 legs.now) }
 {
     legs.len() <= MOST_LEGS
         && legs.iter().all(|leg| is_leg(nodes, *leg))
@@ -99,7 +67,7 @@ fn are_legs(nodes: usize, legs: &[Leg]) -> bool
 fn is_leg(nodes: usize, leg: Leg) -> bool
     ensures { IsTrue result ↔ IsLeg nodes leg }
 {
-    leg.from < leg.to && (leg.to as usize) < nodes && leg.least <= MOST_PERIODS
+    leg.from < leg.to && (leg.to as usize) < nodes && leg.least <= MOST_DELAY
 }
 
 // Whether each leg starts at the origin, at an earlier leg's start, or at the next sector.

@@ -1,9 +1,8 @@
 //! What no clause says: that calls succeed with ample memory, and what a day of two flights is.
 use super::*;
 use crate::differ::all_differ;
-use crate::lookup::{capacity_at, credit_at, is_plain, total_at};
-use crate::route::{is_airport, is_route, is_sector};
-use crate::valid::{is_date, is_day, is_scenario};
+use crate::route::is_route;
+use crate::valid::{is_day, is_scenario};
 use std::alloc::Global;
 use std::test::Fail;
 

@@ -3,41 +3,24 @@
 //! Time: names, connections and legs are compared pair by pair, so a scenario at its limits takes
 //! some twenty million short comparisons. No test takes memory.
 ghost use Rattle.std.specs.Prelude.{◌≡◌, ◌≢◌, ◌<◌, ◌≤◌, ◌+◌, ◌↔◌, pos, neg_ℤ, ◌≤ℤ◌, length, slice_get, sum_by, IsTrue, All, AllPairs};
-ghost use Rattle.flow_types.specs.Calendar.{IsDate, days_in_month, is_leap_year};
+ghost use Rattle.flow_types.specs.Limits as limits;
 ghost use Rattle.flow_types.specs.Routes.{is_airport};
-ghost use Rattle.flow_types.specs.Valid.{IsConnection, IsDay, IsFlight, IsOtherConnection, IsPlace, IsScenario, IsTable, IsValue, arrival_count, is_cost, value_count};
+ghost use Rattle.flow_types.specs.Valid.{IsConnection, IsDay, IsFlight, IsOtherConnection, IsPlace, IsScenario, IsTable, IsValue, arrival_count, is_cost};
 
+use crate::calendar::is_date;
 use crate::day::Day;
 use crate::differ::all_differ;
 use crate::flight::{Connection, Cost, CostTable, Flight};
+use crate::limits::{
+    LAST_YEAR, MOST_CAPACITY, MOST_CONNECTIONS, MOST_DELAY, MOST_FLIGHTS, MOST_MINUTES,
+    MOST_NODES_IN_ALL, MOST_PERIOD_COST, MOST_PERIODS, MOST_PLACES, MOST_TABLES, MOST_VALUE,
+    MOST_VALUES,
+};
+use crate::lookup::{is_airport, value_count};
 use crate::parts::Parts;
 use crate::place::{Place, PlaceKind};
-use crate::route::{MOST_PERIODS, is_airport, is_route};
+use crate::route::is_route;
 use crate::words::is_name;
-
-/// The most places.
-pub const MOST_PLACES: usize = 1000;
-
-/// The most flights.
-pub const MOST_FLIGHTS: usize = 2000;
-
-/// The most nodes of all flights.
-pub const MOST_NODES_IN_ALL: usize = 20_000;
-
-/// The most tables.
-pub const MOST_TABLES: usize = 1000;
-
-/// The most values of a table.
-pub const MOST_VALUES: usize = 512;
-
-/// The most connections.
-pub const MOST_CONNECTIONS: usize = 4000;
-
-/// The greatest capacity, and the greatest cost of a period of delay.
-pub const MOST_CAPACITY: u32 = 1_000_000;
-
-/// The greatest value of a table, either way.
-pub const MOST_VALUE: i64 = 1_000_000_000;
 
 /// Whether the parts are a valid scenario.
 pub fn is_scenario(parts: &Parts) -> bool
@@ -51,39 +34,12 @@ pub fn is_scenario(parts: &Parts) -> bool
         && are_connections(parts.connections.items(), parts.flights.items())
 }
 
-// Whether the year has a 29th of February.
-fn is_leap_year(year: u16) -> bool
-    ensures { result ≡ is_leap_year year }
-{
-    year % 4 == 0 && (year % 100 != 0 || year % 400 == 0)
-}
-
-/// How many days the month has.
-fn days_in_month(year: u16, month: u8) -> u8
-    ensures { result ≡ days_in_month year month }
-{
-    if month == 2 {
-        if is_leap_year(year) { 29 } else { 28 }
-    } else if month == 4 || month == 6 || month == 9 || month == 11 {
-        30
-    } else {
-        31
-    }
-}
-
-/// Whether the numbers are a date of the Gregorian calendar.
-pub fn is_date(year: u16, month: u8, day: u8) -> bool
-    ensures { IsTrue result ↔ IsDate year month day }
-{
-    1 <= month && month <= 12 && 1 <= day && day <= days_in_month(year, month)
-}
-
 /// Whether the day can be planned.
 pub fn is_day(day: &Day) -> bool
     ensures { IsTrue result ↔ IsDay day.now }
 {
     1 <= day.year
-        && day.year <= 9998
+        && day.year <= LAST_YEAR
         && is_date(day.year, day.month, day.day)
         && is_time(day)
         && are_periods(day)
@@ -98,14 +54,17 @@ fn is_time(day: &Day) -> bool
 
 // Whether the day's periods are within their limits.
 fn are_periods(day: &Day) -> bool
-    ensures { IsTrue result ↔ (1 ≤ day.now.minutes) × (day.now.minutes ≤ 120) × (1 ≤ day.now.periods) × (day.now.periods ≤ 512) }
+    ensures { IsTrue result ↔ (1 ≤ day.now.minutes) × (day.now.minutes ≤ limits.most_minutes) × (1 ≤ day.now.periods) × (day.now.periods ≤ limits.most_periods) }
 {
-    1 <= day.minutes && day.minutes <= 120 && 1 <= day.periods && day.periods <= 512
+    1 <= day.minutes
+        && day.minutes <= MOST_MINUTES
+        && 1 <= day.periods
+        && day.periods <= MOST_PERIODS
 }
 
 // Whether each capacity is within its limit.
 fn are_capacities(caps: &[u32]) -> bool
-    ensures { IsTrue result ↔ All (λ c. c ≤ 1000000) caps.now }
+    ensures { IsTrue result ↔ All (λ c. c ≤ limits.most_capacity) caps.now }
 {
     caps.iter().all(|c| *c <= MOST_CAPACITY)
 }
@@ -133,7 +92,7 @@ fn is_place(place: &Place, periods: u16) -> bool
 
 // Whether they are places of different names, and not too many.
 fn are_places(places: &[Place], periods: u16) -> bool
-    ensures { IsTrue result ↔ (length places.now ≤ 1000) × All (IsPlace periods) places.now × AllPairs (λ a b. a.name ≢ b.name) places.now }
+    ensures { IsTrue result ↔ (length places.now ≤ limits.most_places) × All (IsPlace periods) places.now × AllPairs (λ a b. a.name ≢ b.name) places.now }
 {
     places.len() <= MOST_PLACES
         && places.iter().all(|place| is_place(place, periods))
@@ -142,7 +101,7 @@ fn are_places(places: &[Place], periods: u16) -> bool
 
 // Whether they are flights of different names, and not too many.
 fn are_flights(flights: &[Flight], parts: &Parts) -> bool
-    ensures { IsTrue result ↔ (length flights.now ≤ 2000)
+    ensures { IsTrue result ↔ (length flights.now ≤ limits.most_flights)
         × All (IsFlight parts.now.day.periods parts.now.places parts.now.tables) flights.now
         × AllPairs (λ a b. a.name ≢ b.name) flights.now }
 {
@@ -153,7 +112,7 @@ fn are_flights(flights: &[Flight], parts: &Parts) -> bool
 
 // Whether the nodes of all flights are not too many.
 fn have_few_nodes(flights: &[Flight]) -> bool
-    ensures { IsTrue result ↔ (sum_by (λ flight. length flight.nodes) flights.now ≤ 20000) }
+    ensures { IsTrue result ↔ (sum_by (λ flight. length flight.nodes) flights.now ≤ limits.most_nodes_in_all) }
 {
     let mut left = MOST_NODES_IN_ALL;
     for flight in flights {
@@ -186,12 +145,12 @@ fn is_flight(parts: &Parts, flight: &Flight) -> bool
 
 // Whether the flight's times are within the day, and its delays within their limits.
 fn are_times(flight: &Flight, periods: u16) -> bool
-    ensures { IsTrue result ↔ (flight.now.sd ≤ flight.now.sa) × (flight.now.sa < periods) × (flight.now.mg ≤ 511) × (flight.now.md ≤ 511) }
+    ensures { IsTrue result ↔ (flight.now.sd ≤ flight.now.sa) × (flight.now.sa < periods) × (flight.now.mg ≤ limits.most_delay) × (flight.now.md ≤ limits.most_delay) }
 {
     flight.sd <= flight.sa
         && flight.sa < periods
-        && flight.mg <= MOST_PERIODS
-        && flight.md <= MOST_PERIODS
+        && flight.mg <= MOST_DELAY
+        && flight.md <= MOST_DELAY
 }
 
 // Whether the flight goes from one airport to another.
@@ -207,7 +166,8 @@ fn is_cost(tables: &[CostTable], mg: u16, md: u16, cost: Cost) -> bool
     ensures { result ≡ is_cost tables.now mg md cost }
 {
     match cost {
-        Cost::Linear { ground, airborne } => ground <= MOST_CAPACITY && airborne <= MOST_CAPACITY,
+        Cost::Linear { ground, airborne } => ground <= MOST_PERIOD_COST
+            && airborne <= MOST_PERIOD_COST,
         Cost::Tables { total, credit } => {
             (md as usize) < value_count(tables, total)
                 && (mg as usize) < value_count(tables, credit)
@@ -215,24 +175,14 @@ fn is_cost(tables: &[CostTable], mg: u16, md: u16, cost: Cost) -> bool
     }
 }
 
-// How many values the table has, 0 where there is none.
-fn value_count(tables: &[CostTable], position: u32) -> usize
-    ensures { result ≡ value_count (slice_get tables.now position) }
-{
-    match tables.get(position as usize) {
-        None => 0,
-        Some(table) => table.values.items().len(),
-    }
-}
-
 // Whether they are tables of different names, and not too many.
 fn are_tables(tables: &[CostTable]) -> bool
-    ensures { IsTrue result ↔ (length tables.now ≤ 1000) × All IsTable tables.now × AllPairs (λ a b. a.name ≢ b.name) tables.now }
+    ensures { IsTrue result ↔ (length tables.now ≤ limits.most_tables) × All IsTable tables.now × AllPairs (λ a b. a.name ≢ b.name) tables.now }
 {
     tables.len() <= MOST_TABLES && tables.iter().all(|table| is_table(table)) && all_differ(tables)
 }
 
-// Whether the table has a name, and 1 to 512 values within their limits.
+// Whether the table has a name, and values within their limits, one at the least.
 fn is_table(table: &CostTable) -> bool
     ensures { IsTrue result ↔ IsTable table.now }
 {
@@ -252,7 +202,7 @@ fn is_value(v: i64) -> bool
 
 // Whether they connect different pairs of flights, and are not too many.
 fn are_connections(connections: &[Connection], flights: &[Flight]) -> bool
-    ensures { IsTrue result ↔ (length connections.now ≤ 4000) × All (IsConnection flights.now) connections.now × AllPairs IsOtherConnection connections.now }
+    ensures { IsTrue result ↔ (length connections.now ≤ limits.most_connections) × All (IsConnection flights.now) connections.now × AllPairs IsOtherConnection connections.now }
 {
     connections.len() <= MOST_CONNECTIONS
         && connections
@@ -269,5 +219,5 @@ fn is_connection(flights: &[Flight], connection: &Connection) -> bool
     first < flights.len()
         && second < flights.len()
         && flights[second].from == flights[first].to
-        && connection.turnaround <= MOST_PERIODS
+        && connection.turnaround <= MOST_DELAY
 }

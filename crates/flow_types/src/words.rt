@@ -1,8 +1,11 @@
 //! Numbers and names as texts spell them.
 ghost use Rattle.std.specs.Prelude.{◌≡◌, IsTrue};
+ghost use Rattle.std.specs.List.{list_all};
 ghost use Rattle.std.specs.Str.{all_ascii_digits};
 ghost use Rattle.std.specs.Str.Parse.{digits_value};
 ghost use Rattle.flow_types.specs.Words.{is_name, is_name_byte, is_number, number_of};
+
+use crate::limits::{MOST_DIGITS, MOST_NAME_BYTES};
 
 /// The number that 1 to 18 ASCII digits spell, leading zeros allowed; nothing for any other bytes.
 pub fn parse_number(bytes: &[u8]) -> Option<u64>
@@ -19,14 +22,21 @@ pub fn parse_number(bytes: &[u8]) -> Option<u64>
 pub fn is_name(bytes: &[u8]) -> bool
     ensures { result ≡ is_name bytes.now }
 {
-    !bytes.is_empty() && bytes.len() <= 32 && bytes.iter().all(|byte| is_name_byte(*byte))
+    !bytes.is_empty() && bytes.len() <= MOST_NAME_BYTES && are_name_bytes(bytes)
+}
+
+// Whether each byte may stand in a name.
+fn are_name_bytes(bytes: &[u8]) -> bool
+    ensures { result ≡ list_all is_name_byte bytes.now }
+{
+    bytes.iter().all(|byte| is_name_byte(*byte))
 }
 
 // Whether the bytes are 1 to 18 digits.
 fn is_number(bytes: &[u8]) -> bool
     ensures { result ≡ is_number bytes.now }
 {
-    !bytes.is_empty() && bytes.len() <= 18 && are_digits(bytes)
+    !bytes.is_empty() && bytes.len() <= MOST_DIGITS && are_digits(bytes)
 }
 
 // Whether the bytes are all digits.
