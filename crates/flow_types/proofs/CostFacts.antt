@@ -5,7 +5,7 @@ use Rattle.std.proofs.lemmas.Bool.{cases_lt}
 use Rattle.std.proofs.lemmas.Bool.Decides.{nat_tests}
 use Rattle.std.proofs.lemmas.Int.{ints}
 use Rattle.std.proofs.lemmas.List.{get_or_past}
-use Rattle.std.proofs.lemmas.Option.{slice_get_cases, get_or_from_slice_get}
+use Rattle.exact_sums.proofs.ItemFacts.{All-item}
 use Rattle.flow_types.specs.declared.flight.Cost.{Cost}
 use Rattle.flow_types.specs.declared.flight.Cost.TheVariants.{Linear, Tables}
 use Rattle.flow_types.specs.declared.flight.CostTable.{CostTable}
@@ -19,15 +19,6 @@ pub record IsWithin (limit : ℕ) (v : ℤ) : Type 0 where
   pub low : neg_ℤ (pos limit) ≤ℤ v
   pub high : v ≤ℤ pos limit
 
-at_some_by : {X : Type 0} (P : X → Type 0) (xs : List X) (n : ℕ) (x : X) → All P xs → slice_get xs n ≡ Some x
-    → ((y : X) × (n < length xs) × (slice_get xs n ≡ Some y) × (get_or xs n y ≡ y)) ⊎ ((length xs ≤ n) × (slice_get xs n ≡ None)) → P x
-at_some_by P xs n x all here (inl found) = subst P (get_or_from_slice_get xs n x x here) (all n x found.1)
-at_some_by P xs n x all here (inr past) = cc
-
--- an item of a list in which each has P
-at_some : {X : Type 0} (P : X → Type 0) (xs : List X) (n : ℕ) (x : X) → All P xs → slice_get xs n ≡ Some x → P x
-at_some P xs n x all here = at_some_by P xs n x all here (slice_get_cases xs n).1
-
 -- a value of a table, wherever it is read
 value_within : (values : List ℤ) (d : ℕ) → All IsValue values → (d < length values) ⊎ (length values ≤ d) → IsValue (get_or values d (pos 0))
 value_within values d all (inl within) = all d (pos 0) within
@@ -37,7 +28,7 @@ value_within values d all (inr past) =
 table_within : (tables : List CostTable) (n d : ℕ) (table : Option CostTable) → All IsTable tables → slice_get tables n ≡ table → IsValue (value_at table d)
 table_within tables n d None all here = record { low = omega (arith, ints); high = omega (arith, ints) }
 table_within tables n d (Some table) all here =
-    value_within table.values d (at_some IsTable tables n table all here).values (cases_lt d (length table.values))
+    value_within table.values d (All-item IsTable tables n table all here).values (cases_lt d (length table.values))
 
 -- a cost of so much delay
 product_within : (a d : ℕ) → a ≤ 1000000 → d < 65536 → a * d ≤ 100000000000
@@ -67,9 +58,9 @@ credit_within tables mg md d (Tables total credit) all is few =
 pub total_at-within : (parts : Parts) (n d : ℕ) (flight : Option Flight) → IsScenario parts → slice_get parts.flights n ≡ flight → d < 65536 → IsWithin 100000000000 (total_at parts.tables flight d)
 total_at-within parts n d None valid here few = record { low = omega (arith, ints); high = omega (arith, ints) }
 total_at-within parts n d (Some flight) valid here few =
-    total_within parts.tables flight.mg flight.md d flight.cost valid.tables (at_some (IsFlight parts.day.periods parts.places parts.tables) parts.flights n flight valid.flights here).cost few
+    total_within parts.tables flight.mg flight.md d flight.cost valid.tables (All-item (IsFlight parts.day.periods parts.places parts.tables) parts.flights n flight valid.flights here).cost few
 
 pub credit_at-within : (parts : Parts) (n d : ℕ) (flight : Option Flight) → IsScenario parts → slice_get parts.flights n ≡ flight → d < 65536 → IsWithin 100000000000 (credit_at parts.tables flight d)
 credit_at-within parts n d None valid here few = record { low = omega (arith, ints); high = omega (arith, ints) }
 credit_at-within parts n d (Some flight) valid here few =
-    credit_within parts.tables flight.mg flight.md d flight.cost valid.tables (at_some (IsFlight parts.day.periods parts.places parts.tables) parts.flights n flight valid.flights here).cost few
+    credit_within parts.tables flight.mg flight.md d flight.cost valid.tables (All-item (IsFlight parts.day.periods parts.places parts.tables) parts.flights n flight valid.flights here).cost few

@@ -48,6 +48,3 @@ pub use plan::{Plan, Stop, Trip};
 pub use scenario::Scenario;
 pub use sequence::Sequence;
 pub use words::{is_name, parse_number};
-
-#[cfg(test)]
-mod tests;

@@ -1,0 +1,2 @@
+pub mod WorkedCases
+pub mod WorkedDay
