@@ -12,7 +12,7 @@ use crate::verdicts::{broken_line, keeps_line};
 use flow_outside::Files;
 use flow_types::{OutOfMemory, Plan, Scenario};
 use plan_rules::{Loads, Verdict, first_broken_rules_are_first, judge};
-use plan_text::{PlanRefusal, read_plan};
+use plan_text::{Refusal, read_plan};
 use std::alloc::Global;
 
 /// The answer where the plan of the second name is to be judged by the day of the first, which is read
@@ -47,11 +47,11 @@ fn judge_of<F: Files>(
     let text = text_of(alloc, files, name)?;
     match read_plan(alloc, s, &text) {
         Ok(plan) => Ok(judge_plan(alloc, s, &plan)?),
-        Err(PlanRefusal::Text(fault)) => Ok(Answer {
+        Err(Refusal::Text(fault)) => Ok(Answer {
             text: fault_line(alloc, fault)?,
             status: Status::BadPlan,
         }),
-        Err(PlanRefusal::OutOfMemory) => Err(Halt::OutOfMemory),
+        Err(Refusal::OutOfMemory) => Err(Halt::OutOfMemory),
     }
 }
 

@@ -1,5 +1,4 @@
 pub mod NameFacts
 pub mod TripFacts
 pub mod ReadingFacts
-pub mod ClippedFacts
 mod Worked

@@ -4,21 +4,21 @@ use Rattle.std.proofs.lemmas.Bool.{le-ltb, lt-ltb}
 use Rattle.std.proofs.lemmas.List.{append-nil}
 use Rattle.flow_types.specs.declared.parts.Parts.{Parts}
 use Rattle.flow_types.specs.declared.plan.Stop.{Stop}
-use Rattle.text_records.specs.Flaws.{◌>>=◌}
+use Rattle.text_records.specs.Errors.{◌>>=◌}
 use Rattle.text_records.specs.Rows.{Fields}
-use Rattle.text_records.specs.declared.flaw.Flaw.{Flaw}
+use Rattle.text_records.specs.declared.error.FieldFault.{FieldFault}
 use Rattle.plan_text.specs.Trips.{stop_in, stops_from}
 
 -- the stops so far, and then the others
-abbrev pub with_stops : List Stop → Result (List Stop) Flaw → Result (List Stop) Flaw
+abbrev pub with_stops : List Stop → Result (List Stop) FieldFault → Result (List Stop) FieldFault
 with_stops front read = read >>= λ stops. Ok (front ++ stops)
 
-regroup : (front : List Stop) (stop : Stop) (read : Result (List Stop) Flaw)
+regroup : (front : List Stop) (stop : Stop) (read : Result (List Stop) FieldFault)
     → with_stops front (read >>= λ stops. Ok (stop ∷ stops)) ≡ with_stops (front ++ stop ∷ []) read
 regroup front stop (Ok stops) = ap (λ (all : List Stop). Ok all) (sym (append_assoc front (stop ∷ []) stops))
-regroup front stop (Err flaw) = refl
+regroup front stop (Err fault) = refl
 
-module _ (parts : Parts) (nodes : List ℕ) (fields : Fields) (front : List Stop) (number left : ℕ) (total : Result (List Stop) Flaw) where
+module _ (parts : Parts) (nodes : List ℕ) (fields : Fields) (front : List Stop) (number left : ℕ) (total : Result (List Stop) FieldFault) where
   pub one_more : (most : ℕ) (stop : Stop) → left ≡ suc most → number ≤ length fields → stop_in parts nodes fields number ≡ Ok stop
       → with_stops front (stops_from parts nodes fields left number) ≡ total
       → with_stops (front ++ stop ∷ []) (stops_from parts nodes fields most (number + 2)) ≡ total
@@ -29,16 +29,16 @@ module _ (parts : Parts) (nodes : List ℕ) (fields : Fields) (front : List Stop
       step : with_stops front (stops_from parts nodes fields left number) ≡ with_stops front (stops_from parts nodes fields most (number + 2) >>= λ stops. Ok (stop ∷ stops))
       step = rw (some, le-ltb (length fields) number within, is) refl
 
-  pub refused_at : (most : ℕ) (flaw : Flaw) → left ≡ suc most → number ≤ length fields → stop_in parts nodes fields number ≡ Err flaw
-      → with_stops front (stops_from parts nodes fields left number) ≡ total → total ≡ Err flaw
+  pub refused_at : (most : ℕ) (fault : FieldFault) → left ≡ suc most → number ≤ length fields → stop_in parts nodes fields number ≡ Err fault
+      → with_stops front (stops_from parts nodes fields left number) ≡ total → total ≡ Err fault
   unfolding stops_from
-  refused_at most flaw some within is so_far = sym so_far ∙ step
+  refused_at most fault some within is so_far = sym so_far ∙ step
     where
-      step : with_stops front (stops_from parts nodes fields left number) ≡ Err flaw
+      step : with_stops front (stops_from parts nodes fields left number) ≡ Err fault
       step = rw (some, le-ltb (length fields) number within, is) refl
 
 -- a pair past the fields, or past the last that may stand, is none
-pub all_done : (parts : Parts) (nodes : List ℕ) (fields : Fields) (front : List Stop) (number left : ℕ) (total : Result (List Stop) Flaw)
+pub all_done : (parts : Parts) (nodes : List ℕ) (fields : Fields) (front : List Stop) (number left : ℕ) (total : Result (List Stop) FieldFault)
     → min (length fields) 66 < number → number + 2 * left ≡ 67 → with_stops front (stops_from parts nodes fields left number) ≡ total → total ≡ Ok front
 unfolding stops_from
 all_done parts nodes fields front number zero total past room so_far = sym so_far ∙ ap (λ (all : List Stop). Ok all) (append-nil front)

@@ -8,7 +8,7 @@ use Rattle.flow_types.specs.declared.fault.Fault.{Fault}
 use Rattle.flow_types.specs.declared.plan.Stop.{Stop}
 use Rattle.flow_types.proofs.WorkedCases.{there, trip_at, two_flights}
 use Rattle.text_records.specs.Fields.{name_in, number_in}
-use Rattle.text_records.specs.Flaws.{fault_at}
+use Rattle.text_records.specs.Errors.{fault_at}
 use Rattle.plan_text.specs.Lines.{trip_text}
 use Rattle.plan_text.specs.Plans.{plan_from, plan_of, record_step, records_step, trip_step}
 use Rattle.plan_text.specs.Trips.{flight_in, stop_in, stops_from, trip_of}

@@ -1,6 +1,7 @@
 -- The names of flights and places, by their positions.
-use Rattle.std.specs.Prelude.{ℕ, ◌==◌, List, [], map, Option, Some, None, position, slice_get}
+use Rattle.std.specs.Prelude.{◌≡◌, ℕ, ◌==◌, List, [], map, Option, Some, None, position, slice_get}
 use Rattle.flow_types.specs.declared.flight.Flight.{Flight}
+use Rattle.flow_types.specs.declared.parts.Parts.{Parts}
 use Rattle.flow_types.specs.declared.place.Place.{Place}
 use Rattle.text_records.specs.Names.{position_of}
 
@@ -9,6 +10,11 @@ flight_names flights = map (λ flight. flight.name) flights
 
 abbrev pub place_names : List Place → List (List ℕ)
 place_names places = map (λ place. place.name) places
+
+-- the names of a scenario's flights and places, in their order
+pub record AreNames (parts : Parts) (flights places : List (List ℕ)) : Type 0 where
+  pub of_flights : flights ≡ flight_names parts.flights
+  pub of_places : places ≡ place_names parts.places
 
 -- the places of a flight's nodes
 abbrev pub nodes_of : Option Flight → List ℕ

@@ -1,34 +1,39 @@
 -- The record `trip`: a flight that has no trip yet, and pairs of place and period.
-use Rattle.std.specs.Prelude.{ℕ, zero, suc, ◌+◌, ◌-◌, List, [], ◌∷◌, length, nat_lt, Option, Some, None, Result, Ok, Err, slice_get, if◌then◌else◌}
+use Rattle.std.specs.Prelude.{ℕ, zero, suc, ◌+◌, ◌*◌, ◌-◌, List, [], ◌∷◌, length, nat_lt, Option, Some, None, Result, Ok, Err, slice_get, if◌then◌else◌}
 use Rattle.flow_types.specs.declared.fault.Cause.TheVariants.{Repeated, UnknownName}
 use Rattle.flow_types.specs.declared.parts.Parts.{Parts}
 use Rattle.flow_types.specs.declared.plan.Stop.{Stop}
 use Rattle.text_records.specs.Fields.{ends_after, name_in, number_in}
-use Rattle.text_records.specs.Flaws.{◌>>=◌, flaw_at}
+use Rattle.text_records.specs.Errors.{◌>>=◌, fault_in}
 use Rattle.text_records.specs.Rows.{Fields}
-use Rattle.text_records.specs.declared.flaw.Flaw.{Flaw}
+use Rattle.text_records.specs.declared.error.FieldFault.{FieldFault}
 use Rattle.text_records.specs.Names.{known_at, position_of}
 use Rattle.plan_text.specs.Names.{flight_names, node_named, nodes_at}
+use Rattle.flow_types.specs.Limits.{most_nodes}
+
+-- the most fields of a record: its kind, the flight, and a place and a period for each node
+abbrev pub most_fields : ℕ
+most_fields = 2 + 2 * most_nodes
 
 -- what was read so far: for each flight its trip, if a record told it
-abbrev pub Told : Type 0
-Told = List (Option (List Stop))
+abbrev pub TripsRead : Type 0
+TripsRead = List (Option (List Stop))
 
--- a flight by its position, where no record has told its trip
-abbrev pub untold_at : ℕ → Option (Option (List Stop)) → Result ℕ Flaw
-untold_at k None = Err (flaw_at 2 UnknownName)
-untold_at k (Some None) = Ok k
-untold_at k (Some (Some stops)) = Err (flaw_at 2 Repeated)
+-- a flight by its position, whose trip no record has told yet
+abbrev pub unread_at : ℕ → Option (Option (List Stop)) → Result ℕ FieldFault
+unread_at k None = Err (fault_in 2 UnknownName)
+unread_at k (Some None) = Ok k
+unread_at k (Some (Some stops)) = Err (fault_in 2 Repeated)
 
-unfoldable pub flight_in : Parts → Told → Fields → Result ℕ Flaw
-flight_in parts told fields = do
+unfoldable pub flight_in : Parts → TripsRead → Fields → Result ℕ FieldFault
+flight_in parts trips fields = do
   name ← name_in fields 2
   k ← known_at 2 (position_of name (flight_names parts.flights))
-  untold_at k (slice_get told k)
+  unread_at k (slice_get trips k)
 
 -- the stop that the fields of this number and the next tell: a place of one of the nodes, and a
 -- period of the day
-unfoldable pub stop_in : Parts → List ℕ → Fields → ℕ → Result Stop Flaw
+unfoldable pub stop_in : Parts → List ℕ → Fields → ℕ → Result Stop FieldFault
 stop_in parts nodes fields number = do
   name ← name_in fields number
   node ← known_at number (node_named parts.places nodes name)
@@ -36,7 +41,7 @@ stop_in parts nodes fields number = do
   Ok (record { node = node; time = time })
 
 -- the stops of at most so many pairs, from the field of this number on
-unfoldable pub stops_from : Parts → List ℕ → Fields → ℕ → ℕ → Result (List Stop) Flaw
+unfoldable pub stops_from : Parts → List ℕ → Fields → ℕ → ℕ → Result (List Stop) FieldFault
 stops_from parts nodes fields zero number = Ok []
 stops_from parts nodes fields (suc most) number =
     if nat_lt (length fields) number then Ok [] else do
@@ -45,9 +50,9 @@ stops_from parts nodes fields (suc most) number =
       Ok (stop ∷ stops)
 
 -- the flight by its position, and its stops, of which there are at most 32
-unfoldable pub trip_of : Parts → Told → Fields → Result (ℕ × List Stop) Flaw
-trip_of parts told fields = do
-  k ← flight_in parts told fields
-  stops ← stops_from parts (nodes_at parts.flights k) fields 32 3
-  ended ← ends_after fields 66
+unfoldable pub trip_of : Parts → TripsRead → Fields → Result (ℕ × List Stop) FieldFault
+trip_of parts trips fields = do
+  k ← flight_in parts trips fields
+  stops ← stops_from parts (nodes_at parts.flights k) fields most_nodes 3
+  ended ← ends_after fields most_fields
   Ok (k, stops)

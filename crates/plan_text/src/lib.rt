@@ -17,46 +17,33 @@ ghost use Rattle.std.specs.Prelude.{◌≡◌, ◌≤◌, Ok, Err, IfOk, length}
 ghost use Rattle.flow_types.specs.Scenario.{parts_of};
 ghost use Rattle.flow_types.specs.declared.fault.Fault.{Fault as TheFault};
 ghost use Rattle.plan_text.specs.Plans.{plan_of};
+ghost use Rattle.flow_types.specs.Limits.{most_text_bytes};
 
 mod kind;
-mod known;
 mod lines;
+mod named_scenario;
 mod names;
 mod reading;
-mod told;
 mod trips;
+mod trips_read;
 
-use crate::reading::read_exactly;
-use flow_types::{Fault, Plan, Scenario};
+use crate::reading::plan_of;
+use flow_types::{Plan, Scenario};
 pub use lines::trip_line;
 use std::alloc::Global;
-use text_records::ReadError;
-
-/// Why a plan isn't read.
-#[derive(Clone, Copy, Debug, PartialEq, Eq)]
-pub enum PlanRefusal {
-    /// The text has this fault, and none before it.
-    Text(Fault),
-    OutOfMemory,
-}
+pub use text_records::Refusal;
 
 /// The plan of a text of at most 64 MiB for a scenario: one trip a flight, in the order of the flights,
 /// empty where the text doesn't name the flight. That the trips keep the rules isn't asked. It takes
-/// memory for the plan and for the names of the scenario.
-pub fn read_plan(alloc: Global, s: &Scenario, text: &[u8]) -> Result<Plan, PlanRefusal>
-    requires { length text.now ≤ 67108864 }
+/// memory for the plan, for the longest record and for the names of the scenario.
+pub fn read_plan(alloc: Global, s: &Scenario, text: &[u8]) -> Result<Plan, Refusal>
+    requires { length text.now ≤ most_text_bytes }
     // What is read is the plan of the text.
     ensures plan { IfOk result (λ plan. plan_of (parts_of s.now) text.now ≡ Ok plan) }
     ensures trips { IfOk result (λ plan. length plan ≡ length (parts_of s.now).flights) }
     // A fault that is told is the text's first.
-    ensures fault { (fault : TheFault) → result ≡ Err (PlanRefusal.Text fault) → plan_of (parts_of s.now) text.now ≡ Err fault }
+    ensures fault { (fault : TheFault) → result ≡ Err (Refusal.Text fault) → plan_of (parts_of s.now) text.now ≡ Err fault }
 {
-    match read_exactly(alloc, s, text) {
-        Ok(plan) => Ok(plan),
-        Err(ReadError::Fault(fault)) => Err(PlanRefusal::Text(fault)),
-        Err(ReadError::OutOfMemory) => Err(PlanRefusal::OutOfMemory),
-    }
+    let plan = plan_of(alloc, s, text)?;
+    Ok(plan)
 }
-
-#[cfg(test)]
-mod tests;

@@ -4,7 +4,7 @@ ghost use Rattle.flow_types.specs.Scenario.{flight_at, parts_of};
 ghost use Rattle.flow_types.specs.Trips.{place_at};
 ghost use Rattle.plan_text.specs.Lines.{name_at, stop_text, stops_text, trip_text};
 
-use flow_types::{Flight, OutOfMemory, Place, Scenario, Stop};
+use flow_types::{Flight, OutOfMemory, Place, Scenario, Stop, place_at};
 use std::alloc::Global;
 
 // Adds bytes at the end.
@@ -19,13 +19,7 @@ fn put(out: &mut Vec<u8>, bytes: &[u8]) -> Result<(), OutOfMemory>
 fn name_at<'a>(places: &'a [Place], flight: &Flight, node: u16) -> &'a [u8]
     ensures { result.now ≡ name_at (slice_get places.now (place_at flight.now node)) }
 {
-    let place = flight
-        .nodes
-        .items()
-        .get(node as usize)
-        .copied()
-        .unwrap_or(0);
-    match places.get(place as usize) {
+    match places.get(place_at(flight, node) as usize) {
         None => b"",
         Some(place) => place.name.items(),
     }

@@ -1,4 +1,4 @@
--- The flights that a list of begun ones becomes.
+-- The flights that a list of valid ones becomes.
 use Rattle.std.proofs.Common.{◌≡◌, ℕ, zero, suc, ◌+◌, ◌<◌, ◌≤◌, Bool, true, false, cond, ltb, ◌==◌, List, [], ◌∷◌, ◌++◌, length, get_or, drop, map, Option, Some, None, Result, Ok, Err, refl, sym, ap, subst, arith, ◌∙◌, All, append_assoc, length-append, position}
 use Rattle.std.specs.Prelude.{slice_get, sum_by}
 use Rattle.std.proofs.lemmas.Bool.{eqb-true}
@@ -12,14 +12,14 @@ use Rattle.flow_types.specs.declared.flight.Flight.{Flight}
 use Rattle.flow_types.specs.declared.flight.CostTable.{CostTable}
 use Rattle.flow_types.specs.declared.flight.Connection.{Connection}
 use Rattle.flow_types.specs.declared.place.Place.{Place}
-use Rattle.text_records.specs.Flaws.{◌>>=◌, Refuses}
-use Rattle.text_records.specs.declared.flaw.ReadError.{ReadError}
-use Rattle.text_records.specs.declared.flaw.ReadError.TheVariants as error
+use Rattle.text_records.specs.Errors.{◌>>=◌, Refuses}
+use Rattle.text_records.specs.declared.error.Refusal.{Refusal}
+use Rattle.text_records.specs.declared.error.Refusal.TheVariants as refusal
 use Rattle.scenario_reader.specs.Connections.{is_same_place}
 use Rattle.scenario_reader.specs.Finish.{finished_flight, finished_flights, flight_with, has_route, leads_on, node_of, nodes_of}
-use Rattle.scenario_reader.specs.Sketch.{destinations, node_count, node_total, origins, Sketch}
-use Rattle.scenario_reader.specs.Validity.{IsBegun, IsMeeting, IsSketch}
-use Rattle.scenario_reader.specs.declared.begun.Begun.{Begun}
+use Rattle.scenario_reader.specs.DraftParts.{destinations, node_count, node_total, origins, DraftParts}
+use Rattle.scenario_reader.specs.Validity.{IsFlightDraft, IsMeeting, IsValidDraft}
+use Rattle.scenario_reader.specs.declared.flight_draft.FlightDraft.{FlightDraft}
 use Rattle.text_records.proofs.NameFacts.{position-none}
 use Rattle.scenario_reader.proofs.PlaceFacts.{node_outside}
 use Rattle.scenario_reader.proofs.RouteFacts.{flight_is, passed_few}
@@ -50,12 +50,12 @@ regroup : (front : List Flight) (flight : Flight) (read : Result (List Flight) F
 regroup front flight (Ok others) = ap (λ (fs : List Flight). Ok fs) (sym (append_assoc front (flight ∷ []) others))
 regroup front flight (Err fault) = refl
 
-rest_at : (flights : List Begun) (i : ℕ) (flight : Begun) → i < length flights → flight ≡ get_or flights i flight → drop i flights ≡ flight ∷ drop (i + 1) flights
+rest_at : (flights : List FlightDraft) (i : ℕ) (flight : FlightDraft) → i < length flights → flight ≡ get_or flights i flight → drop i flights ≡ flight ∷ drop (i + 1) flights
 rest_at flights i flight within here =
     let one : i + 1 ≡ suc i = omega arith in
-    rw one (drop-cons flights i flight within ∙ ap (λ (f : Begun). f ∷ drop (suc i) flights) (sym here))
+    rw one (drop-cons flights i flight within ∙ ap (λ (f : FlightDraft). f ∷ drop (suc i) flights) (sym here))
 
-pub one_more : (front : List Flight) (flights : List Begun) (i : ℕ) (flight : Begun) (found : Flight) (total : Result (List Flight) Fault)
+pub one_more : (front : List Flight) (flights : List FlightDraft) (i : ℕ) (flight : FlightDraft) (found : Flight) (total : Result (List Flight) Fault)
     → i < length flights → flight ≡ get_or flights i flight → finished_flight flight ≡ Ok found
     → with_front front (finished_flights (drop i flights)) ≡ total
     → with_front (front ++ found ∷ []) (finished_flights (drop (i + 1) flights)) ≡ total
@@ -66,17 +66,17 @@ one_more front flights i flight found total within here is so_far =
     rw (rest, is) (regroup front found (finished_flights (drop (i + 1) flights))) in
     sym step ∙ so_far
 
-pub refused_at : (e : ReadError) (front : List Flight) (flights : List Begun) (i : ℕ) (flight : Begun) (total : Result (List Flight) Fault)
+pub refused_at : (e : Refusal) (front : List Flight) (flights : List FlightDraft) (i : ℕ) (flight : FlightDraft) (total : Result (List Flight) Fault)
     → i < length flights → flight ≡ get_or flights i flight → Refuses e (finished_flight flight)
     → with_front front (finished_flights (drop i flights)) ≡ total → Refuses e total
 unfolding finished_flights
-refused_at error.OutOfMemory front flights i flight total within here refuses so_far = tt
-refused_at (error.Fault fault) front flights i flight total within here refuses so_far =
+refused_at refusal.OutOfMemory front flights i flight total within here refuses so_far = tt
+refused_at (refusal.Text fault) front flights i flight total within here refuses so_far =
     let rest = rest_at flights i flight within here in
     let step : with_front front (finished_flights (drop i flights)) ≡ Err fault = rw (rest, refuses) refl in
     sym so_far ∙ step
 
-pub all_done : (front : List Flight) (flights : List Begun) (i : ℕ) (total : Result (List Flight) Fault) → length flights ≤ i
+pub all_done : (front : List Flight) (flights : List FlightDraft) (i : ℕ) (total : Result (List Flight) Fault) → length flights ≤ i
     → with_front front (finished_flights (drop i flights)) ≡ total → total ≡ Ok front
 unfolding finished_flights
 all_done front flights i total le so_far =
@@ -97,13 +97,13 @@ done x = Ok x
 ok_is : {A : Type 0} (x y : A) → done x ≡ done y → x ≡ y
 ok_is x y e = cc
 
--- a begun flight came to its end as this one
-pub record IsFinished (flight : Begun) (found : Flight) : Type 0 where
+-- a valid flight came to its end as this one
+pub record IsFinished (flight : FlightDraft) (found : Flight) : Type 0 where
   pub route : has_route flight ≡ true
   pub onward : leads_on flight ≡ true
   pub is : flight_with flight (nodes_of flight) ≡ found
 
-finished_is : (flight : Begun) (found : Flight) → finished_flight flight ≡ Ok found → IsFinished flight found
+finished_is : (flight : FlightDraft) (found : Flight) → finished_flight flight ≡ Ok found → IsFinished flight found
 unfolding finished_flight
 finished_is flight found e = by (has_route flight) refl e
   where
@@ -119,13 +119,13 @@ finished_is flight found e = by (has_route flight) refl e
     by false route e = absurd cc
 
 -- each of these became the one beside it
-abbrev Become : List Begun → List Flight → Type 0
+abbrev Become : List FlightDraft → List Flight → Type 0
 Become [] [] = Unit {0}
 Become [] (found ∷ founds) = ⊥
 Become (flight ∷ flights) [] = ⊥
 Become (flight ∷ flights) (found ∷ founds) = IsFinished flight found × Become flights founds
 
-become : (flights : List Begun) (founds : List Flight) → finished_flights flights ≡ Ok founds → Become flights founds
+become : (flights : List FlightDraft) (founds : List Flight) → finished_flights flights ≡ Ok founds → Become flights founds
 unfolding finished_flights
 become [] founds e = subst (λ (fs : List Flight). Become [] fs) (ok_is [] founds e) tt
 become (flight ∷ flights) founds e =
@@ -134,24 +134,24 @@ become (flight ∷ flights) founds e =
     subst (λ (fs : List Flight). Become (flight ∷ flights) fs) (ok_is (first.0 ∷ rest.0) founds rest.2)
     (finished_is flight first.0 first.1, become flights rest.0 rest.1)
 
-as_long : (flights : List Begun) (founds : List Flight) → Become flights founds → length founds ≡ length flights
+as_long : (flights : List FlightDraft) (founds : List Flight) → Become flights founds → length founds ≡ length flights
 as_long [] [] b = refl
 as_long [] (found ∷ founds) b = absurd b
 as_long (flight ∷ flights) [] b = absurd b
 as_long (flight ∷ flights) (found ∷ founds) b = ap suc (as_long flights founds b.1)
 
-are_flights : (periods : ℕ) (places : List Place) (tables : List CostTable) (flights : List Begun) (founds : List Flight) → All (IsBegun periods places tables) flights → Become flights founds
+are_flights : (periods : ℕ) (places : List Place) (tables : List CostTable) (flights : List FlightDraft) (founds : List Flight) → All (IsFlightDraft periods places tables) flights → Become flights founds
     → All (IsFlight periods places tables) founds
 are_flights periods places tables [] [] all b k d h = absurd (omega arith)
 are_flights periods places tables [] (found ∷ founds) all b k d h = absurd b
 are_flights periods places tables (flight ∷ flights) [] all b k d h = absurd b
 are_flights periods places tables (flight ∷ flights) (found ∷ founds) all b zero d h =
     subst (λ (f : Flight). IsFlight periods places tables f) b.0.is
-    (flight_is periods places tables flight (record { begun = all 0 flight (omega arith); route = b.0.route; onward = b.0.onward }))
+    (flight_is periods places tables flight (record { valid = all 0 flight (omega arith); route = b.0.route; onward = b.0.onward }))
 are_flights periods places tables (flight ∷ flights) (found ∷ founds) all b (suc k) d h =
     are_flights periods places tables flights founds (λ j e within. all (suc j) e (omega arith)) b.1 k d (omega arith)
 
-same_names : (flights : List Begun) (founds : List Flight) → Become flights founds → (k : ℕ) (d : Begun) (e : Flight) → k < length flights
+same_names : (flights : List FlightDraft) (founds : List Flight) → Become flights founds → (k : ℕ) (d : FlightDraft) (e : Flight) → k < length flights
     → (get_or founds k e).name ≡ (get_or flights k d).name
 same_names [] founds b k d e h = absurd (omega arith)
 same_names (flight ∷ flights) [] b k d e h = absurd b
@@ -159,7 +159,7 @@ same_names (flight ∷ flights) (found ∷ founds) b zero d e h = ap (λ (f : Fl
 same_names (flight ∷ flights) (found ∷ founds) b (suc k) d e h = same_names flights founds b.1 k d e (omega arith)
 
 -- the flights have no more nodes than were counted
-few_nodes : (periods : ℕ) (places : List Place) (tables : List CostTable) (flights : List Begun) (founds : List Flight) → All (IsBegun periods places tables) flights → Become flights founds
+few_nodes : (periods : ℕ) (places : List Place) (tables : List CostTable) (flights : List FlightDraft) (founds : List Flight) → All (IsFlightDraft periods places tables) flights → Become flights founds
     → sum_by (λ (f : Flight). length f.nodes) founds ≤ node_total flights
 few_nodes periods places tables [] [] all b = omega arith
 few_nodes periods places tables [] (found ∷ founds) all b = absurd b
@@ -173,7 +173,7 @@ few_nodes periods places tables (flight ∷ flights) (found ∷ founds) all b =
 
 -- ---- connections between finished flights
 
-same_origins : (flights : List Begun) (founds : List Flight) → Become flights founds → map (λ (f : Flight). f.from) founds ≡ origins flights
+same_origins : (flights : List FlightDraft) (founds : List Flight) → Become flights founds → map (λ (f : Flight). f.from) founds ≡ origins flights
 same_origins [] [] b = refl
 same_origins [] (found ∷ founds) b = absurd b
 same_origins (flight ∷ flights) [] b = absurd b
@@ -181,7 +181,7 @@ same_origins (flight ∷ flights) (found ∷ founds) b =
     let first : found.from ≡ flight.from = ap (λ (f : Flight). f.from) (sym b.0.is) in
     rw (first, same_origins flights founds b.1) refl
 
-same_destinations : (flights : List Begun) (founds : List Flight) → Become flights founds → map (λ (f : Flight). f.to) founds ≡ destinations flights
+same_destinations : (flights : List FlightDraft) (founds : List Flight) → Become flights founds → map (λ (f : Flight). f.to) founds ≡ destinations flights
 same_destinations [] [] b = refl
 same_destinations [] (found ∷ founds) b = absurd b
 same_destinations (flight ∷ flights) [] b = absurd b
@@ -214,7 +214,7 @@ within_list [] k some = absurd (some refl)
 within_list (x ∷ xs) zero some = omega arith
 within_list (x ∷ xs) (suc k) some = let less = within_list xs k some in omega arith
 
-connection_is : (flights : List Begun) (founds : List Flight) (connection : Connection) → Become flights founds → IsMeeting flights connection → IsConnection founds connection
+connection_is : (flights : List FlightDraft) (founds : List Flight) (connection : Connection) → Become flights founds → IsMeeting flights connection → IsConnection founds connection
 connection_is flights founds connection b meeting =
     let together : is_same_place (slice_get (map (λ (f : Flight). f.from) founds) connection.second) (slice_get (map (λ (f : Flight). f.to) founds) connection.first) ≡ true
     = rw (same_origins flights founds b, same_destinations flights founds b) meeting.together in
@@ -228,16 +228,16 @@ connection_is flights founds connection b meeting =
       turnaround = meeting.turnaround;
     }
 
-any_begun : (flights : List Begun) → 0 < length flights → Begun
-any_begun [] h = absurd (omega arith)
-any_begun (flight ∷ flights) h = flight
+any_flight : (flights : List FlightDraft) → 0 < length flights → FlightDraft
+any_flight [] h = absurd (omega arith)
+any_flight (flight ∷ flights) h = flight
 
-pub scenario_is : (sketch : Sketch) (founds : List Flight) → IsSketch sketch → finished_flights sketch.flights ≡ Ok founds
-    → IsScenario (record { day = sketch.day; places = sketch.places; flights = founds; tables = sketch.tables; connections = sketch.connections })
-scenario_is sketch founds valid e =
-    let b = become sketch.flights founds e in
-    let long = as_long sketch.flights founds b in
-    let few = few_nodes sketch.day.periods sketch.places sketch.tables sketch.flights founds valid.flights b in
+pub scenario_is : (draft : DraftParts) (founds : List Flight) → IsValidDraft draft → finished_flights draft.flights ≡ Ok founds
+    → IsScenario (record { day = draft.day; places = draft.places; flights = founds; tables = draft.tables; connections = draft.connections })
+scenario_is draft founds valid e =
+    let b = become draft.flights founds e in
+    let long = as_long draft.flights founds b in
+    let few = few_nodes draft.day.periods draft.places draft.tables draft.flights founds valid.flights b in
     let total = valid.nodes_few in
     record {
       day = valid.day;
@@ -245,24 +245,24 @@ scenario_is sketch founds valid e =
       places = valid.places;
       place_names = valid.place_names;
       flights_few = rw long valid.flights_few;
-      flights = are_flights sketch.day.periods sketch.places sketch.tables sketch.flights founds valid.flights b;
+      flights = are_flights draft.day.periods draft.places draft.tables draft.flights founds valid.flights b;
       flight_names = λ i j d before within same.
-          let within_flights : j < length sketch.flights = omega arith in
-          let begun : Begun = any_begun sketch.flights (omega arith) in
-          valid.flight_names i j begun before within_flights
-          (sym (same_names sketch.flights founds b i begun d (omega arith)) ∙ same ∙ same_names sketch.flights founds b j begun d within_flights);
+          let within_flights : j < length draft.flights = omega arith in
+          let some : FlightDraft = any_flight draft.flights (omega arith) in
+          valid.flight_names i j some before within_flights
+          (sym (same_names draft.flights founds b i some d (omega arith)) ∙ same ∙ same_names draft.flights founds b j some d within_flights);
       nodes_few = omega arith;
       tables_few = valid.tables_few;
       tables = valid.tables;
       table_names = valid.table_names;
       connections_few = valid.connections_few;
-      connections = λ k d h. connection_is sketch.flights founds (get_or sketch.connections k d) b (valid.connections k d h);
+      connections = λ k d h. connection_is draft.flights founds (get_or draft.connections k d) b (valid.connections k d h);
       connected_once = valid.connected_once;
     }
 
-pub passed_within : (sketch : Sketch) → IsSketch sketch → All (λ flight. length flight.passed ≤ 30) sketch.flights
-passed_within sketch valid k d h =
+pub passed_within : (draft : DraftParts) → IsValidDraft draft → All (λ flight. length flight.passed ≤ 30) draft.flights
+passed_within draft valid k d h =
     let network = (valid.flights k d h).network in
-    let few = passed_few sketch.places (get_or sketch.flights k d) network in
+    let few = passed_few draft.places (get_or draft.flights k d) network in
     let most = network.reached_few in
     omega arith

@@ -10,10 +10,10 @@ use Rattle.std.proofs.lemmas.List.{map-append}
 use Rattle.flow_types.specs.Routes.{is_sector}
 use Rattle.flow_types.specs.declared.place.Place.{Place}
 use Rattle.scenario_reader.specs.Finish.{node_of}
-use Rattle.scenario_reader.specs.Legs.{adds_node, is_among, is_joined, with_leg, with_new}
-use Rattle.scenario_reader.specs.Validity.{ends_leg, in_order, next_start, starts_leg, starts_of, visited, IsHop, IsNetwork, IsNewLeg, IsOtherHop}
-use Rattle.scenario_reader.specs.declared.begun.Begun.{Begun}
-use Rattle.scenario_reader.specs.declared.begun.Hop.{Hop}
+use Rattle.scenario_reader.specs.Legs.{adds_node, is_among, is_joined, with_leg, with_new, passes_new}
+use Rattle.scenario_reader.specs.Validity.{ends_leg, in_order, next_start, starts_leg, starts_of, visited, IsPlaceLeg, IsNetwork, IsNewLeg, IsOtherPlaceLeg}
+use Rattle.scenario_reader.specs.declared.flight_draft.FlightDraft.{FlightDraft}
+use Rattle.scenario_reader.specs.declared.flight_draft.PlaceLeg.{PlaceLeg}
 use Rattle.scenario_reader.proofs.PlaceFacts.{All-new, among_added, among_new, apart_new, holds_among, length_new, node_new, node_not_before, node_outside, node_within, not_among_new}
 
 -- ---- tests joined
@@ -64,26 +64,26 @@ cons_new true first places new = refl
 cons_new false first places new = refl
 
 -- a leg stays one when places are added
-hop_stays : (b c : Bool) (visits reached : List ℕ) (start end to : ℕ) (leg : Hop) → IsHop visits to reached leg
-    → IsHop (with_new b visits start) to (with_new c reached end) leg
-hop_stays b c visits reached start end to leg hop = record {
-  start = among_new b visits start leg.from hop.start;
-  end = elim (either (eqb leg.to to) (is_among reached leg.to) hop.end) [
+leg_stays : (b c : Bool) (visits reached : List ℕ) (start end to : ℕ) (leg : PlaceLeg) → IsPlaceLeg visits to reached leg
+    → IsPlaceLeg (with_new b visits start) to (with_new c reached end) leg
+leg_stays b c visits reached start end to leg joins = record {
+  start = among_new b visits start leg.from joins.start;
+  end = elim (either (eqb leg.to to) (is_among reached leg.to) joins.end) [
     | inl e ↦ left_or _ _ e
     | inr e ↦ right_or _ _ (among_new c reached end leg.to e)
   ];
   upward =
-      let stays = node_new b visits start leg.from hop.start in
-      let before = hop.upward in
+      let stays = node_new b visits start leg.from joins.start in
+      let before = joins.upward in
       elim (cases_Bool (is_among visits leg.to)) [
         | inl e ↦ let also = node_new b visits start leg.to e in omega arith
         | inr e ↦ let last = node_outside visits leg.to e in let after = node_not_before b visits start leg.to e in omega arith
       ];
-  least = hop.least;
+  least = joins.least;
 }
 
 -- the starts of legs stay where they are
-pub starts_stay : (b : Bool) (visits reached : List ℕ) (start to : ℕ) (legs : List Hop) → All (IsHop visits to reached) legs
+pub starts_stay : (b : Bool) (visits reached : List ℕ) (start to : ℕ) (legs : List PlaceLeg) → All (IsPlaceLeg visits to reached) legs
     → starts_of (with_new b visits start) legs ≡ starts_of visits legs
 starts_stay b visits reached start to [] all = refl
 starts_stay b visits reached start to (leg ∷ legs) all =
@@ -111,18 +111,18 @@ next_start-push next (first ∷ starts) start = next_start-push (max next (first
 
 -- ---- a leg more
 
-any_front : (p : Hop → Bool) (legs : List Hop) (leg : Hop) → list_any p legs ≡ true → list_any p (legs ++ leg ∷ []) ≡ true
+any_front : (p : PlaceLeg → Bool) (legs : List PlaceLeg) (leg : PlaceLeg) → list_any p legs ≡ true → list_any p (legs ++ leg ∷ []) ≡ true
 any_front p legs leg h = list_any-append p legs (leg ∷ []) ∙ left_or _ _ h
 
-any_last : (p : Hop → Bool) (legs : List Hop) (leg : Hop) → p leg ≡ true → list_any p (legs ++ leg ∷ []) ≡ true
+any_last : (p : PlaceLeg → Bool) (legs : List PlaceLeg) (leg : PlaceLeg) → p leg ≡ true → list_any p (legs ++ leg ∷ []) ≡ true
 any_last p legs leg h = list_any-append p legs (leg ∷ []) ∙ right_or _ _ (left_or _ _ h)
 
-pub any_some : (p : Hop → Bool) (legs : List Hop) → list_any p legs ≡ true → 0 < length legs
+pub any_some : (p : PlaceLeg → Bool) (legs : List PlaceLeg) → list_any p legs ≡ true → 0 < length legs
 any_some p [] h = absurd cc
 any_some p (leg ∷ legs) h = omega arith
 
 -- no leg joins the two places
-apart_at : (legs : List Hop) (from to : ℕ) (k : ℕ) (d : Hop) → is_joined legs from to ≡ false → k < length legs
+apart_at : (legs : List PlaceLeg) (from to : ℕ) (k : ℕ) (d : PlaceLeg) → is_joined legs from to ≡ false → k < length legs
     → (get_or legs k d).from ≡ from → (get_or legs k d).to ≢ to
 apart_at [] from to k d none h = absurd (omega arith)
 apart_at (leg ∷ legs) from to zero d none h = λ f t. first (eq-eqb leg.from from f) (eq-eqb leg.to to t) (neither _ _ none).0
@@ -132,11 +132,11 @@ apart_at (leg ∷ legs) from to zero d none h = λ f t. first (eq-eqb leg.from f
 apart_at (leg ∷ legs) from to (suc k) d none h = apart_at legs from to k d (neither _ _ none).1 (omega arith)
 
 -- whether a leg starts from a place that wasn't visited
-abbrev pub adds_visit : Begun → Hop → Bool
-adds_visit flight leg = not (eqb leg.from flight.from) && not (is_among flight.passed leg.from)
+abbrev pub adds_visit : FlightDraft → PlaceLeg → Bool
+adds_visit flight leg = passes_new flight leg.from
 
 -- what is known of the places of a new leg
-pub record IsLegKnown (places : List Place) (flight : Begun) (leg : Hop) : Type 0 where
+pub record IsLegKnown (places : List Place) (flight : FlightDraft) (leg : PlaceLeg) : Type 0 where
   pub visited_from : adds_visit flight leg ≡ false → is_among (visited flight) leg.from ≡ true
   pub new_from : adds_visit flight leg ≡ true → is_among flight.passed leg.from ≡ false
   pub reached_from : adds_visit flight leg ≡ true → is_among flight.reached leg.from ≡ true
@@ -149,7 +149,7 @@ pub record IsLegKnown (places : List Place) (flight : Begun) (leg : Hop) : Type 
 room_left : (n total : ℕ) → (nat_le 32 (n + 2) || nat_le 20000 total) ≡ false → n < 30
 room_left n total h = let few = leb-false 32 (n + 2) (neither _ _ h).0 in omega arith
 
-pub leg_known : (places : List Place) (total : ℕ) (flight : Begun) (leg : Hop) → IsNewLeg places total flight leg → IsLegKnown places flight leg
+pub leg_known : (places : List Place) (total : ℕ) (flight : FlightDraft) (leg : PlaceLeg) → IsNewLeg places total flight leg → IsLegKnown places flight leg
 leg_known places total flight leg new =
     let back = neither (eqb leg.to flight.from || eqb leg.to leg.from) (is_among flight.passed leg.to) new.onward in
     let ends = neither (eqb leg.to flight.from) (eqb leg.to leg.from) back.0 in
@@ -177,11 +177,11 @@ leg_known places total flight leg new =
     }
 
 -- where a leg starts from a place, there is a leg
-has_leg : (places : List Place) (flight : Begun) → IsNetwork places flight → (place : ℕ) → is_among flight.reached place ≡ true → 0 < length flight.legs
+has_leg : (places : List Place) (flight : FlightDraft) → IsNetwork places flight → (place : ℕ) → is_among flight.reached place ≡ true → 0 < length flight.legs
 has_leg places flight network place h =
     any_some (λ leg. eqb leg.to place) flight.legs (holds_among (λ p. IsTrue (ends_leg flight.legs p)) flight.reached place network.entered h)
 
-begins_more : (places : List Place) (total : ℕ) (flight : Begun) (leg : Hop) → IsNetwork places flight → IsNewLeg places total flight leg
+begins_more : (places : List Place) (total : ℕ) (flight : FlightDraft) (leg : PlaceLeg) → IsNetwork places flight → IsNewLeg places total flight leg
     → IsTrue (starts_leg (flight.legs ++ leg ∷ []) flight.from)
 begins_more places total flight leg network new =
     elim (either _ _ new.start) [
@@ -190,10 +190,10 @@ begins_more places total flight leg network new =
     ]
 
 -- the new leg is one
-hop_new : (places : List Place) (flight : Begun) (leg : Hop) (b c : Bool) → adds_visit flight leg ≡ b → adds_node flight leg.to ≡ c
+leg_new : (places : List Place) (flight : FlightDraft) (leg : PlaceLeg) (b c : Bool) → adds_visit flight leg ≡ b → adds_node flight leg.to ≡ c
     → leg.least ≤ 511 → IsLegKnown places flight leg
-    → IsHop (with_new b (visited flight) leg.from) flight.to (with_new c flight.reached leg.to) leg
-hop_new places flight leg b c be ce least known =
+    → IsPlaceLeg (with_new b (visited flight) leg.from) flight.to (with_new c flight.reached leg.to) leg
+leg_new places flight leg b c be ce least known =
     let starts = among_added b (visited flight) leg.from (λ e. known.visited_from (be ∙ e)) in
     record {
       start = starts;
@@ -218,14 +218,14 @@ last_start : (next start visits passed : ℕ) → visits ≡ suc passed + 1 → 
 last_start next start visits passed long within is last = omega arith
 
 -- the starts with that of the new leg
-order_new : (places : List Place) (flight : Begun) (leg : Hop) (b : Bool) → adds_visit flight leg ≡ b → IsNetwork places flight → IsLegKnown places flight leg
+order_new : (places : List Place) (flight : FlightDraft) (leg : PlaceLeg) (b : Bool) → adds_visit flight leg ≡ b → IsNetwork places flight → IsLegKnown places flight leg
     → IsTrue (in_order 1 (starts_of (with_new b (visited flight) leg.from) (flight.legs ++ leg ∷ [])))
     × (next_start 1 (starts_of (with_new b (visited flight) leg.from) (flight.legs ++ leg ∷ [])) ≡ length (with_new b (visited flight) leg.from))
 order_new places flight leg b be network known =
     let visits : List ℕ = with_new b (visited flight) leg.from in
     let start : ℕ = node_of visits leg.from in
     let same : starts_of visits (flight.legs ++ leg ∷ []) ≡ starts_of (visited flight) flight.legs ++ start ∷ [] =
-    map-append (λ (l : Hop). node_of visits l.from) flight.legs (leg ∷ [])
+    map-append (λ (l : PlaceLeg). node_of visits l.from) flight.legs (leg ∷ [])
     ∙ ap (λ (s : List ℕ). s ++ start ∷ []) (starts_stay b (visited flight) flight.reached leg.from flight.to flight.legs network.legs) in
     let added = among_added b (visited flight) leg.from (λ e. known.visited_from (be ∙ e)) in
     let within : start < length visits = node_within visits leg.from added in
@@ -254,7 +254,7 @@ order_new places flight leg b be network known =
     at_end false be long within next = omega arith
 
 -- every rule of a network holds with the new leg
-pub network_grows : (places : List Place) (total : ℕ) (flight : Begun) (leg : Hop) → IsNetwork places flight → IsNewLeg places total flight leg
+pub network_grows : (places : List Place) (total : ℕ) (flight : FlightDraft) (leg : PlaceLeg) → IsNetwork places flight → IsNewLeg places total flight leg
     → IsNetwork places (with_leg flight leg)
 network_grows places total flight leg network new =
     let known = leg_known places total flight leg new in
@@ -262,9 +262,9 @@ network_grows places total flight leg network new =
     let c : Bool = adds_node flight leg.to in
     let visits = cons_new b flight.from flight.passed leg.from in
     let order = order_new places flight leg b refl network known in
-    let hop = hop_new places flight leg b c refl refl new.least known in
-    let legs = All-push (IsHop (with_new b (visited flight) leg.from) flight.to (with_new c flight.reached leg.to)) flight.legs leg
-    (λ k d h. hop_stays b c (visited flight) flight.reached leg.from leg.to flight.to (get_or flight.legs k d) (network.legs k d h)) hop in
+    let joins = leg_new places flight leg b c refl refl new.least known in
+    let legs = All-push (IsPlaceLeg (with_new b (visited flight) leg.from) flight.to (with_new c flight.reached leg.to)) flight.legs leg
+    (λ k d h. leg_stays b c (visited flight) flight.reached leg.from leg.to flight.to (get_or flight.legs k d) (network.legs k d h)) joins in
     record {
       legs_few = let room = new.room in let one = length-append flight.legs (leg ∷ []) in omega arith;
       reached_few = reached_few c refl known;
@@ -280,8 +280,8 @@ network_grows places total flight leg network new =
           (λ k d h. any_front (λ l. eqb l.from (get_or flight.passed k d)) flight.legs leg (network.left k d h))
           (λ e. any_last (λ l. eqb l.from leg.from) flight.legs leg (eq-eqb leg.from leg.from refl));
       begins = λ some. begins_more places total flight leg network new;
-      legs = subst (λ (v : List ℕ). All (IsHop v flight.to (with_new c flight.reached leg.to)) (flight.legs ++ leg ∷ [])) visits legs;
-      once = all_pairs_push IsOtherHop flight.legs leg network.once (λ k d h. apart_at flight.legs leg.from leg.to k d new.once h);
+      legs = subst (λ (v : List ℕ). All (IsPlaceLeg v flight.to (with_new c flight.reached leg.to)) (flight.legs ++ leg ∷ [])) visits legs;
+      once = all_pairs_push IsOtherPlaceLeg flight.legs leg network.once (λ k d h. apart_at flight.legs leg.from leg.to k d new.once h);
       order = subst (λ (v : List ℕ). IsTrue (in_order 1 (starts_of v (flight.legs ++ leg ∷ [])))) visits order.0;
       next = subst (λ (v : List ℕ). next_start 1 (starts_of v (flight.legs ++ leg ∷ [])) ≡ length v) visits order.1 ∙ plus_one (length (with_new b flight.passed leg.from));
     }

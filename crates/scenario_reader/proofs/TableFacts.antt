@@ -2,20 +2,20 @@
 use Rattle.std.proofs.Common.{◌≡◌, ℕ, zero, suc, ◌+◌, ◌-◌, ◌≤◌, List, [], ◌∷◌, ◌++◌, length, drop, min, Option, Some, None, Result, Ok, Err, ℤ, refl, sym, ap, ◌∙◌, arith, append_assoc}
 use Rattle.std.specs.Prelude.{slice_get}
 use Rattle.std.proofs.lemmas.List.{append-nil, drop_all}
-use Rattle.text_records.specs.Flaws.{◌>>=◌}
+use Rattle.text_records.specs.Errors.{◌>>=◌}
 use Rattle.text_records.specs.Fields.{field_in, present_at}
 use Rattle.text_records.specs.Rows.{Fields}
-use Rattle.text_records.specs.declared.flaw.Flaw.{Flaw}
+use Rattle.text_records.specs.declared.error.FieldFault.{FieldFault}
 use Rattle.scenario_reader.specs.Tables.{value_in, values_from}
 
 -- the values so far, and then the others
-abbrev pub with_values : List ℤ → Result (List ℤ) Flaw → Result (List ℤ) Flaw
+abbrev pub with_values : List ℤ → Result (List ℤ) FieldFault → Result (List ℤ) FieldFault
 with_values front read = read >>= λ values. Ok (front ++ values)
 
-regroup : (front : List ℤ) (value : ℤ) (read : Result (List ℤ) Flaw)
+regroup : (front : List ℤ) (value : ℤ) (read : Result (List ℤ) FieldFault)
     → with_values front (read >>= λ values. Ok (value ∷ values)) ≡ with_values (front ++ value ∷ []) read
 regroup front value (Ok values) = ap (λ (vs : List ℤ). Ok vs) (sym (append_assoc front (value ∷ []) values))
-regroup front value (Err flaw) = refl
+regroup front value (Err fault) = refl
 
 some_is : (x y : List ℕ) → Some x ≡ Some y → x ≡ y
 some_is x y e = cc
@@ -36,7 +36,7 @@ rest_at fields k bytes e =
     there (field ∷ fields) zero bytes e = ap (λ (b : List ℕ). b ∷ fields) (some_is field bytes e)
     there (field ∷ fields) (suc k) bytes e = there fields k bytes e
 
-pub one_more : (front : List ℤ) (fields : Fields) (k : ℕ) (bytes : List ℕ) (value : ℤ) (total : Result (List ℤ) Flaw)
+pub one_more : (front : List ℤ) (fields : Fields) (k : ℕ) (bytes : List ℕ) (value : ℤ) (total : Result (List ℤ) FieldFault)
     → drop k fields ≡ bytes ∷ drop (k + 1) fields → value_in (k + 1) bytes ≡ Ok value
     → with_values front (values_from (k + 1) (drop k fields)) ≡ total
     → with_values (front ++ value ∷ []) (values_from (k + 1 + 1) (drop (k + 1) fields)) ≡ total
@@ -47,16 +47,16 @@ one_more front fields k bytes value total here is so_far =
     step : with_values front (values_from (k + 1) (drop k fields)) ≡ with_values front (values_from (k + 1 + 1) (drop (k + 1) fields) >>= λ values. Ok (value ∷ values))
     step = rw (here, is) refl
 
-pub refused_at : (front : List ℤ) (fields : Fields) (k : ℕ) (bytes : List ℕ) (flaw : Flaw) (total : Result (List ℤ) Flaw)
-    → drop k fields ≡ bytes ∷ drop (k + 1) fields → value_in (k + 1) bytes ≡ Err flaw
-    → with_values front (values_from (k + 1) (drop k fields)) ≡ total → total ≡ Err flaw
+pub refused_at : (front : List ℤ) (fields : Fields) (k : ℕ) (bytes : List ℕ) (fault : FieldFault) (total : Result (List ℤ) FieldFault)
+    → drop k fields ≡ bytes ∷ drop (k + 1) fields → value_in (k + 1) bytes ≡ Err fault
+    → with_values front (values_from (k + 1) (drop k fields)) ≡ total → total ≡ Err fault
 unfolding values_from
-refused_at front fields k bytes flaw total here is so_far = sym so_far ∙ step
+refused_at front fields k bytes fault total here is so_far = sym so_far ∙ step
   where
-    step : with_values front (values_from (k + 1) (drop k fields)) ≡ Err flaw
+    step : with_values front (values_from (k + 1) (drop k fields)) ≡ Err fault
     step = rw (here, is) refl
 
-pub all_done : (front : List ℤ) (fields : Fields) (k : ℕ) (total : Result (List ℤ) Flaw) → length fields ≤ k
+pub all_done : (front : List ℤ) (fields : Fields) (k : ℕ) (total : Result (List ℤ) FieldFault) → length fields ≤ k
     → with_values front (values_from (k + 1) (drop k fields)) ≡ total → total ≡ Ok front
 unfolding values_from
 all_done front fields k total past so_far = sym so_far ∙ step

@@ -5,7 +5,7 @@ use Rattle.csv.proofs.OnLiterals.{csv_on_literals}
 use Rattle.flow_types.specs.declared.fault.Cause.TheVariants as cause
 use Rattle.flow_types.specs.declared.flight.Cost.TheVariants.{Linear, Tables}
 use Rattle.flow_types.specs.declared.place.PlaceKind.TheVariants.{Airport, Sector}
-use Rattle.text_records.specs.Flaws.{fault_at}
+use Rattle.text_records.specs.Errors.{fault_at}
 use Rattle.text_records.specs.Fields.{name_in, number_in}
 use Rattle.text_records.specs.Names.{new_name}
 use Rattle.scenario_reader.specs.Dates.{moment_of}

@@ -8,12 +8,13 @@ use Rattle.flow_types.specs.declared.place.CapKind.{CapKind}
 use Rattle.flow_types.specs.declared.place.CapKind.TheVariants as cap
 use Rattle.flow_types.specs.declared.place.Place.{Place}
 use Rattle.text_records.specs.Fields.{ends_after, field_in, number_in}
-use Rattle.text_records.specs.Flaws.{◌>>=◌, flaw_at}
+use Rattle.text_records.specs.Errors.{◌>>=◌, fault_in}
 use Rattle.text_records.specs.Rows.{Fields}
-use Rattle.text_records.specs.declared.flaw.Flaw.{Flaw}
+use Rattle.text_records.specs.declared.error.FieldFault.{FieldFault}
 use Rattle.text_records.specs.Names.{known_in}
-use Rattle.scenario_reader.specs.Sketch.{place_names}
+use Rattle.scenario_reader.specs.DraftParts.{place_names}
 use Rattle.scenario_reader.specs.declared.capacities.CapChange.{CapChange}
+use Rattle.flow_types.specs.Limits.{most_capacity}
 
 -- the kind of capacity that the word names
 abbrev pub cap_kind_of : List ℕ → Option CapKind
@@ -23,30 +24,30 @@ cap_kind_of word =
     else if bytes_eq word (codes "sector") then Some cap.Sector
     else None
 
-abbrev pub cap_kind_at : Option CapKind → Result CapKind Flaw
-cap_kind_at None = Err (flaw_at 2 UnknownKind)
+abbrev pub cap_kind_at : Option CapKind → Result CapKind FieldFault
+cap_kind_at None = Err (fault_in 2 UnknownKind)
 cap_kind_at (Some kind) = Ok kind
 
 -- a place that has capacities of this kind
-unfoldable pub place_in : CapKind → List Place → Fields → Result ℕ Flaw
+unfoldable pub place_in : CapKind → List Place → Fields → Result ℕ FieldFault
 place_in kind places fields = do
   k ← known_in 3 (place_names places) fields
-  if has_kind kind (slice_get places k) then Ok k else Err (flaw_at 3 UnknownName)
+  if has_kind kind (slice_get places k) then Ok k else Err (fault_in 3 UnknownName)
 
 -- the last period, no earlier than the first
-unfoldable pub last_in : ℕ → ℕ → Fields → Result ℕ Flaw
+unfoldable pub last_in : ℕ → ℕ → Fields → Result ℕ FieldFault
 last_in periods first fields = do
   last ← number_in fields 5 0 (periods - 1)
-  if nat_lt last first then Err (flaw_at 5 BackInTime) else Ok last
+  if nat_lt last first then Err (fault_in 5 BackInTime) else Ok last
 
-unfoldable pub cap_change_of : ℕ → List Place → Fields → Result CapChange Flaw
+unfoldable pub cap_change_of : ℕ → List Place → Fields → Result CapChange FieldFault
 cap_change_of periods places fields = do
   word ← field_in fields 2
   kind ← cap_kind_at (cap_kind_of word)
   place ← place_in kind places fields
   first ← number_in fields 4 0 (periods - 1)
   last ← last_in periods first fields
-  value ← number_in fields 6 0 1000000
+  value ← number_in fields 6 0 most_capacity
   ended ← ends_after fields 6
   Ok (record { kind = kind; place = place; first = first; last = last; value = value })
 

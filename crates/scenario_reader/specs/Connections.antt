@@ -4,18 +4,19 @@ use Rattle.std.specs.List.{list_any}
 use Rattle.flow_types.specs.declared.fault.Cause.TheVariants.{Apart, Limit, Repeated}
 use Rattle.flow_types.specs.declared.flight.Connection.{Connection}
 use Rattle.text_records.specs.Fields.{ends_after, number_in}
-use Rattle.text_records.specs.Flaws.{◌>>=◌, flaw_at}
+use Rattle.text_records.specs.Errors.{◌>>=◌, fault_in}
 use Rattle.text_records.specs.Rows.{Fields}
-use Rattle.text_records.specs.declared.flaw.Flaw.{Flaw}
+use Rattle.text_records.specs.declared.error.FieldFault.{FieldFault}
 use Rattle.text_records.specs.Names.{known_in}
-use Rattle.scenario_reader.specs.Sketch.{destinations, flight_names, origins}
-use Rattle.scenario_reader.specs.declared.begun.Begun.{Begun}
+use Rattle.scenario_reader.specs.DraftParts.{destinations, flight_names, origins}
+use Rattle.scenario_reader.specs.declared.flight_draft.FlightDraft.{FlightDraft}
+use Rattle.flow_types.specs.Limits.{most_connections, most_delay}
 
 -- the flight that brings the aircraft, where there is room for a connection
-unfoldable pub first_in : List Begun → List Connection → Fields → Result ℕ Flaw
+unfoldable pub first_in : List FlightDraft → List Connection → Fields → Result ℕ FieldFault
 first_in flights connections fields = do
   first ← known_in 2 (flight_names flights) fields
-  if nat_le 4000 (length connections) then Err (flaw_at 2 Limit) else Ok first
+  if nat_le most_connections (length connections) then Err (fault_in 2 Limit) else Ok first
 
 -- the two are connected already
 abbrev pub are_connected : List Connection → ℕ → ℕ → Bool
@@ -27,21 +28,21 @@ is_same_place (Some a) (Some b) = a == b
 is_same_place a b = false
 
 -- the second departs from where the first arrives
-abbrev pub meet : List Begun → ℕ → ℕ → Bool
+abbrev pub meet : List FlightDraft → ℕ → ℕ → Bool
 meet flights first second = is_same_place (slice_get (origins flights) second) (slice_get (destinations flights) first)
 
 -- the flight that leaves with it
-unfoldable pub second_in : List Begun → List Connection → ℕ → Fields → Result ℕ Flaw
+unfoldable pub second_in : List FlightDraft → List Connection → ℕ → Fields → Result ℕ FieldFault
 second_in flights connections first fields = do
   second ← known_in 3 (flight_names flights) fields
-  if are_connected connections first second then Err (flaw_at 3 Repeated)
+  if are_connected connections first second then Err (fault_in 3 Repeated)
       else if meet flights first second then Ok second
-      else Err (flaw_at 3 Apart)
+      else Err (fault_in 3 Apart)
 
-unfoldable pub connection_of : List Begun → List Connection → Fields → Result Connection Flaw
+unfoldable pub connection_of : List FlightDraft → List Connection → Fields → Result Connection FieldFault
 connection_of flights connections fields = do
   first ← first_in flights connections fields
   second ← second_in flights connections first fields
-  turnaround ← number_in fields 4 0 511
+  turnaround ← number_in fields 4 0 most_delay
   ended ← ends_after fields 4
   Ok (record { first = first; second = second; turnaround = turnaround })

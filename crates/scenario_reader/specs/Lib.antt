@@ -1,7 +1,8 @@
 pub mod Kinds
 pub mod Dates
 pub mod Moments
-pub mod Sketch
+pub mod Sectors
+pub mod DraftParts
 pub mod Change
 pub mod Places
 pub mod Flights
@@ -12,6 +13,4 @@ pub mod Capacities
 pub mod Finish
 pub mod Validity
 pub mod Reading
-pub mod Notes
 pub mod Drafts
-pub mod Seen

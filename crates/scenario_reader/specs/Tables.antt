@@ -7,36 +7,37 @@ use Rattle.flow_types.specs.declared.flight.CostTable.{CostTable}
 use Rattle.flow_types.specs.Valid.{value_count}
 use Rattle.flow_types.specs.Words.{number_of}
 use Rattle.text_records.specs.Fields.{ends_after, field_in}
-use Rattle.text_records.specs.Flaws.{◌>>=◌, flaw_at}
+use Rattle.text_records.specs.Errors.{◌>>=◌, fault_in}
 use Rattle.text_records.specs.Rows.{Fields}
-use Rattle.text_records.specs.declared.flaw.Flaw.{Flaw}
+use Rattle.text_records.specs.declared.error.FieldFault.{FieldFault}
 use Rattle.scenario_reader.specs.Change.{changed_at}
 use Rattle.text_records.specs.Names.{known_in, new_name}
-use Rattle.scenario_reader.specs.Sketch.{flight_names, table_names}
-use Rattle.scenario_reader.specs.declared.begun.Begun.{Begun}
+use Rattle.scenario_reader.specs.DraftParts.{flight_names, table_names}
+use Rattle.scenario_reader.specs.declared.flight_draft.FlightDraft.{FlightDraft}
 use Rattle.scenario_reader.specs.declared.tables.Pricing.{Pricing}
+use Rattle.flow_types.specs.Limits.{most_tables, most_value, most_values}
 
 -- a number within 1,000,000,000, with its sign
 abbrev pub signed : Bool → ℕ → ℤ
 signed true n = neg_ℤ (pos n)
 signed false n = pos n
 
-abbrev pub value_at : ℕ → Bool → Option ℕ → Result ℤ Flaw
-value_at number negative None = Err (flaw_at number BadNumber)
-value_at number negative (Some n) = if nat_le n 1000000000 then Ok (signed negative n) else Err (flaw_at number OutOfRange)
+abbrev pub value_at : ℕ → Bool → Option ℕ → Result ℤ FieldFault
+value_at number negative None = Err (fault_in number BadNumber)
+value_at number negative (Some n) = if nat_le n most_value then Ok (signed negative n) else Err (fault_in number OutOfRange)
 
 -- a number, which may have one `-` in front
-abbrev pub value_of : ℕ → List ℕ → Result ℤ Flaw
-value_of number [] = Err (flaw_at number BadNumber)
+abbrev pub value_of : ℕ → List ℕ → Result ℤ FieldFault
+value_of number [] = Err (fault_in number BadNumber)
 value_of number (byte ∷ bytes) =
     if byte == 45 then value_at number true (number_of bytes) else value_at number false (number_of (byte ∷ bytes))
 
 -- the value in the field of this number, of which the last may be the 514th
-abbrev pub value_in : ℕ → List ℕ → Result ℤ Flaw
-value_in number bytes = if nat_lt 514 number then Err (flaw_at number ExtraField) else value_of number bytes
+abbrev pub value_in : ℕ → List ℕ → Result ℤ FieldFault
+value_in number bytes = if nat_lt (most_values + 2) number then Err (fault_in number ExtraField) else value_of number bytes
 
 -- the values in the fields from the one of this number on
-unfoldable pub values_from : ℕ → List (List ℕ) → Result (List ℤ) Flaw
+unfoldable pub values_from : ℕ → List (List ℕ) → Result (List ℤ) FieldFault
 values_from number [] = Ok []
 values_from number (bytes ∷ rest) = do
   value ← value_in number bytes
@@ -44,9 +45,9 @@ values_from number (bytes ∷ rest) = do
   Ok (value ∷ values)
 
 -- a new name, and one value or more
-unfoldable pub table_of : List (List ℕ) → Fields → Result CostTable Flaw
+unfoldable pub table_of : List (List ℕ) → Fields → Result CostTable FieldFault
 table_of names fields = do
-  name ← new_name 1000 names fields
+  name ← new_name most_tables names fields
   first ← field_in fields 3
   values ← values_from 3 (drop 2 fields)
   Ok (record { name = name; values = values })
@@ -56,23 +57,23 @@ abbrev pub has_tables : Cost → Bool
 has_tables (Linear on_ground airborne) = false
 has_tables (Tables total credit) = true
 
-abbrev pub untabled_at : ℕ → Option Begun → Result (ℕ × Begun) Flaw
-untabled_at k None = Err (flaw_at 2 UnknownName)
-untabled_at k (Some flight) = if has_tables flight.cost then Err (flaw_at 2 Repeated) else Ok (k, flight)
+abbrev pub untabled_at : ℕ → Option FlightDraft → Result (ℕ × FlightDraft) FieldFault
+untabled_at k None = Err (fault_in 2 UnknownName)
+untabled_at k (Some flight) = if has_tables flight.cost then Err (fault_in 2 Repeated) else Ok (k, flight)
 
-unfoldable pub untabled_in : List Begun → Fields → Result (ℕ × Begun) Flaw
+unfoldable pub untabled_in : List FlightDraft → Fields → Result (ℕ × FlightDraft) FieldFault
 untabled_in flights fields = do
   k ← known_in 2 (flight_names flights) fields
   untabled_at k (slice_get flights k)
 
 -- a table with so many values at the least
-unfoldable pub table_in : ℕ → ℕ → List CostTable → Fields → Result ℕ Flaw
+unfoldable pub table_in : ℕ → ℕ → List CostTable → Fields → Result ℕ FieldFault
 table_in number least tables fields = do
   k ← known_in number (table_names tables) fields
-  if nat_le least (value_count (slice_get tables k)) then Ok k else Err (flaw_at number ShortTable)
+  if nat_le least (value_count (slice_get tables k)) then Ok k else Err (fault_in number ShortTable)
 
 -- the tables of a flight, which is named by its position
-unfoldable pub pricing_of : List Begun → List CostTable → Fields → Result Pricing Flaw
+unfoldable pub pricing_of : List FlightDraft → List CostTable → Fields → Result Pricing FieldFault
 pricing_of flights tables fields = do
   found ← untabled_in flights fields
   total ← table_in 3 (found.1.hours.md + 1) tables fields
@@ -81,8 +82,8 @@ pricing_of flights tables fields = do
   Ok (record { flight = found.0; total = total; credit = credit })
 
 -- the flights, the one at this position with its tables
-abbrev pub with_cost : Cost → Begun → Begun
+abbrev pub with_cost : Cost → FlightDraft → FlightDraft
 with_cost cost flight = record flight { cost = cost }
 
-abbrev pub with_cost_at : List Begun → ℕ → Cost → List Begun
+abbrev pub with_cost_at : List FlightDraft → ℕ → Cost → List FlightDraft
 with_cost_at flights k cost = changed_at (with_cost cost) flights k

@@ -12,40 +12,42 @@ use Rattle.flow_types.specs.declared.place.Place.{Place}
 use Rattle.scenario_reader.specs.Connections.{meet}
 use Rattle.scenario_reader.specs.Finish.{node_of}
 use Rattle.scenario_reader.specs.Legs.{adds_node, is_among, is_back, is_full, is_joined, is_own}
-use Rattle.scenario_reader.specs.Sketch.{node_total, Sketch}
-use Rattle.scenario_reader.specs.declared.begun.Begun.{Begun}
+use Rattle.scenario_reader.specs.Sectors.{most_sectors}
+use Rattle.scenario_reader.specs.DraftParts.{node_total, DraftParts}
+use Rattle.scenario_reader.specs.declared.flight_draft.FlightDraft.{FlightDraft}
 use Rattle.scenario_reader.specs.declared.capacities.CapChange.{CapChange}
 use Rattle.scenario_reader.specs.declared.tables.Pricing.{Pricing}
-use Rattle.scenario_reader.specs.declared.begun.Hop.{Hop}
-use Rattle.scenario_reader.specs.declared.begun.Hours.{Hours}
+use Rattle.scenario_reader.specs.declared.flight_draft.PlaceLeg.{PlaceLeg}
+use Rattle.scenario_reader.specs.declared.flight_draft.Hours.{Hours}
+use Rattle.flow_types.specs.Limits.{most_capacity, most_connections, most_delay, most_flights, most_legs, most_nodes_in_all, most_places, most_tables}
 
 -- within the day, and not back in time
 pub record IsHours (periods : ℕ) (hours : Hours) : Type 0 where
   pub forward : hours.sd ≤ hours.sa
   pub within : hours.sa < periods
-  pub ground_delay : hours.mg ≤ 511
-  pub arrival_delay : hours.md ≤ 511
+  pub ground_delay : hours.mg ≤ most_delay
+  pub arrival_delay : hours.md ≤ most_delay
 
 -- the places that a leg may start from so far: the origin, and the sectors passed
-abbrev pub visited : Begun → List ℕ
+abbrev pub visited : FlightDraft → List ℕ
 visited flight = flight.from ∷ flight.passed
 
 -- a leg from a visited place to the destination or a sector reached, upward in the order of visits
-pub record IsHop (visits : List ℕ) (to : ℕ) (reached : List ℕ) (leg : Hop) : Type 0 where
+pub record IsPlaceLeg (visits : List ℕ) (to : ℕ) (reached : List ℕ) (leg : PlaceLeg) : Type 0 where
   pub start : IsTrue (is_among visits leg.from)
   pub end : IsTrue (leg.to == to || is_among reached leg.to)
   pub upward : node_of visits leg.from < node_of visits leg.to
-  pub least : leg.least ≤ 511
+  pub least : leg.least ≤ most_delay
 
 -- the two legs join different pairs of places
-abbrev pub IsOtherHop : Hop → Hop → Type 0
-IsOtherHop a b = a.from ≡ b.from → a.to ≢ b.to
+abbrev pub IsOtherPlaceLeg : PlaceLeg → PlaceLeg → Type 0
+IsOtherPlaceLeg a b = a.from ≡ b.from → a.to ≢ b.to
 
 -- a leg starts from the place; a leg leads to it
-abbrev pub starts_leg : List Hop → ℕ → Bool
+abbrev pub starts_leg : List PlaceLeg → ℕ → Bool
 starts_leg legs place = list_any (λ leg. leg.from == place) legs
 
-abbrev pub ends_leg : List Hop → ℕ → Bool
+abbrev pub ends_leg : List PlaceLeg → ℕ → Bool
 ends_leg legs place = list_any (λ leg. leg.to == place) legs
 
 -- each start stands before `next`, or is `next`, which then goes up by one
@@ -59,26 +61,26 @@ next_start next [] = next
 next_start next (start ∷ starts) = next_start (max next (start + 1)) starts
 
 -- where the legs start, in the order of visits
-abbrev pub starts_of : List ℕ → List Hop → List ℕ
+abbrev pub starts_of : List ℕ → List PlaceLeg → List ℕ
 starts_of visits legs = map (λ leg. node_of visits leg.from) legs
 
 -- the legs lead on from the origin, each from where a leg has led
-pub record IsNetwork (places : List Place) (flight : Begun) : Type 0 where
-  pub legs_few : length flight.legs ≤ 64
-  pub reached_few : length flight.reached ≤ 30
+pub record IsNetwork (places : List Place) (flight : FlightDraft) : Type 0 where
+  pub legs_few : length flight.legs ≤ most_legs
+  pub reached_few : length flight.reached ≤ most_sectors
   pub sectors : All (λ place. IsTrue (is_sector (slice_get places place))) flight.reached
   pub passed_once : AllPairs (λ a b. a ≢ b) flight.passed
   pub passed_reached : All (λ place. IsTrue (is_among flight.reached place)) flight.passed
   pub entered : All (λ place. IsTrue (ends_leg flight.legs place)) flight.reached
   pub left : All (λ place. IsTrue (starts_leg flight.legs place)) flight.passed
   pub begins : 0 < length flight.legs → IsTrue (starts_leg flight.legs flight.from)
-  pub legs : All (IsHop (visited flight) flight.to flight.reached) flight.legs
-  pub once : AllPairs IsOtherHop flight.legs
+  pub legs : All (IsPlaceLeg (visited flight) flight.to flight.reached) flight.legs
+  pub once : AllPairs IsOtherPlaceLeg flight.legs
   pub order : IsTrue (in_order 1 (starts_of (visited flight) flight.legs))
   pub next : next_start 1 (starts_of (visited flight) flight.legs) ≡ length flight.passed + 1
 
 -- a flight that can become a valid one
-pub record IsBegun (periods : ℕ) (places : List Place) (tables : List CostTable) (flight : Begun) : Type 0 where
+pub record IsFlightDraft (periods : ℕ) (places : List Place) (tables : List CostTable) (flight : FlightDraft) : Type 0 where
   pub name : IsTrue (is_name flight.name)
   pub hours : IsHours periods flight.hours
   pub origin : IsTrue (is_airport (slice_get places flight.from))
@@ -88,46 +90,46 @@ pub record IsBegun (periods : ℕ) (places : List Place) (tables : List CostTabl
   pub network : IsNetwork places flight
 
 -- a leg that a flight may have next
-pub record IsNewLeg (places : List Place) (total : ℕ) (flight : Begun) (leg : Hop) : Type 0 where
-  pub room : length flight.legs < 64
+pub record IsNewLeg (places : List Place) (total : ℕ) (flight : FlightDraft) (leg : PlaceLeg) : Type 0 where
+  pub room : length flight.legs < most_legs
   pub start : IsTrue (leg.from == flight.from || is_among flight.reached leg.from)
   pub own : IsTrue (is_own places flight leg.to)
   pub once : is_joined flight.legs leg.from leg.to ≡ false
   pub onward : is_back flight leg.from leg.to ≡ false
   pub few : (adds_node flight leg.to && is_full total flight) ≡ false
-  pub least : leg.least ≤ 511
+  pub least : leg.least ≤ most_delay
 
 -- the second flight departs from where the first arrives
-pub record IsMeeting (flights : List Begun) (connection : Connection) : Type 0 where
+pub record IsMeeting (flights : List FlightDraft) (connection : Connection) : Type 0 where
   pub together : IsTrue (meet flights connection.first connection.second)
-  pub turnaround : connection.turnaround ≤ 511
+  pub turnaround : connection.turnaround ≤ most_delay
 
 -- a change that a place may have next
 pub record IsCapChange (periods : ℕ) (places : List Place) (change : CapChange) : Type 0 where
   pub place : IsTrue (has_kind change.kind (slice_get places change.place))
   pub forward : change.first ≤ change.last
   pub within : change.last < periods
-  pub few : change.value ≤ 1000000
+  pub few : change.value ≤ most_capacity
 
 -- tables that a flight may have
-pub record IsPricing (flights : List Begun) (tables : List CostTable) (pricing : Pricing) : Type 0 where
+pub record IsPricing (flights : List FlightDraft) (tables : List CostTable) (pricing : Pricing) : Type 0 where
   pub flight : pricing.flight < length flights
-  pub long : (flight : Begun) → slice_get flights pricing.flight ≡ Some flight
+  pub long : (flight : FlightDraft) → slice_get flights pricing.flight ≡ Some flight
       → IsTrue (is_cost tables flight.hours.mg flight.hours.md (Tables pricing.total pricing.credit))
 
 -- all that has been read keeps the rules
-pub record IsSketch (sketch : Sketch) : Type 0 where
-  pub day : IsDay sketch.day
-  pub places_few : length sketch.places ≤ 1000
-  pub places : All (IsPlace sketch.day.periods) sketch.places
-  pub place_names : AllPairs (λ a b. a.name ≢ b.name) sketch.places
-  pub flights_few : length sketch.flights ≤ 2000
-  pub flights : All (IsBegun sketch.day.periods sketch.places sketch.tables) sketch.flights
-  pub flight_names : AllPairs (λ a b. a.name ≢ b.name) sketch.flights
-  pub nodes_few : node_total sketch.flights ≤ 20000
-  pub tables_few : length sketch.tables ≤ 1000
-  pub tables : All IsTable sketch.tables
-  pub table_names : AllPairs (λ a b. a.name ≢ b.name) sketch.tables
-  pub connections_few : length sketch.connections ≤ 4000
-  pub connections : All (IsMeeting sketch.flights) sketch.connections
-  pub connected_once : AllPairs IsOtherConnection sketch.connections
+pub record IsValidDraft (draft : DraftParts) : Type 0 where
+  pub day : IsDay draft.day
+  pub places_few : length draft.places ≤ most_places
+  pub places : All (IsPlace draft.day.periods) draft.places
+  pub place_names : AllPairs (λ a b. a.name ≢ b.name) draft.places
+  pub flights_few : length draft.flights ≤ most_flights
+  pub flights : All (IsFlightDraft draft.day.periods draft.places draft.tables) draft.flights
+  pub flight_names : AllPairs (λ a b. a.name ≢ b.name) draft.flights
+  pub nodes_few : node_total draft.flights ≤ most_nodes_in_all
+  pub tables_few : length draft.tables ≤ most_tables
+  pub tables : All IsTable draft.tables
+  pub table_names : AllPairs (λ a b. a.name ≢ b.name) draft.tables
+  pub connections_few : length draft.connections ≤ most_connections
+  pub connections : All (IsMeeting draft.flights) draft.connections
+  pub connected_once : AllPairs IsOtherConnection draft.connections

@@ -2,15 +2,14 @@
 ghost use Rattle.std.specs.Prelude.{◌≡◌, ◌<◌, ◌≤◌, IfOk, IsTrue, slice_get};
 ghost use Rattle.csv.specs.Records.{fields_of};
 ghost use Rattle.flow_types.specs.Capacities.{has_kind};
-ghost use Rattle.text_records.specs.Flaws.{Finds};
+ghost use Rattle.text_records.specs.Errors.{Finds};
 ghost use Rattle.scenario_reader.specs.Capacities.{cap_change_of, cap_kind_at, cap_kind_of, last_in, place_in};
 ghost use Rattle.scenario_reader.specs.Validity.{IsCapChange};
 
-use crate::books::Book;
-use crate::places::{is_airport, is_sector};
+use crate::named_list::NamedList;
 use csv::ByteRecord;
-use flow_types::{CapKind, Cause, Place};
-use text_records::{Flaw, end_after, field_at, known_in, number_at};
+use flow_types::{CapKind, Cause, MOST_CAPACITY, Place, has_kind};
+use text_records::{FieldFault, ends_after, field_in, known_in, number_in};
 
 /// A capacity of a place, which is named by its position, from one period to another.
 #[derive(Clone, Copy, Debug, PartialEq, Eq)]
@@ -37,34 +36,24 @@ fn cap_kind_of(word: &[u8]) -> Option<CapKind>
     }
 }
 
-fn cap_kind_at(kind: Option<CapKind>) -> Result<CapKind, Flaw>
+fn cap_kind_at(kind: Option<CapKind>) -> Result<CapKind, FieldFault>
     ensures { Finds (λ kind. kind) result (cap_kind_at kind) }
 {
-    kind.ok_or(Flaw {
+    kind.ok_or(FieldFault {
         field: 2,
         cause: Cause::UnknownKind,
     })
 }
 
-// Whether there is such a place, with capacities of this kind.
-fn has_kind(kind: CapKind, places: &[Place], place: u32) -> bool
-    ensures { result ≡ has_kind kind (slice_get places.now place) }
-{
-    match kind {
-        CapKind::Dep | CapKind::Arr => is_airport(places, place),
-        CapKind::Sector => is_sector(places, place),
-    }
-}
-
 // The place, which has capacities of this kind.
 #[tactic(auto, unfolding(crate::specs::Capacities::place_in))]
-fn place_in(kind: CapKind, book: &Book<Place>, row: &ByteRecord) -> Result<u32, Flaw>
-    ensures found { Finds (λ place. place) result (place_in kind book.now (fields_of row.now)) }
-    ensures kind { IfOk result (λ place. IsTrue (has_kind kind (slice_get book.now place))) }
+fn place_in(kind: CapKind, places: &NamedList<Place>, row: &ByteRecord) -> Result<u32, FieldFault>
+    ensures found { Finds (λ place. place) result (place_in kind places.now (fields_of row.now)) }
+    ensures kind { IfOk result (λ place. IsTrue (has_kind kind (slice_get places.now place))) }
 {
-    let place = known_in(3, book.names(), row)?;
-    if !has_kind(kind, book.items(), place) {
-        return Err(Flaw {
+    let place = known_in(3, places.names(), row)?;
+    if !has_kind(kind, places.items(), place) {
+        return Err(FieldFault {
             field: 3,
             cause: Cause::UnknownName,
         });
@@ -74,15 +63,15 @@ fn place_in(kind: CapKind, book: &Book<Place>, row: &ByteRecord) -> Result<u32, 
 
 // The last period, no earlier than the first.
 #[tactic(auto, unfolding(crate::specs::Capacities::last_in))]
-fn last_in(periods: u16, first: u64, row: &ByteRecord) -> Result<u64, Flaw>
+fn last_in(periods: u16, first: u64, row: &ByteRecord) -> Result<u64, FieldFault>
     requires { 1 ≤ periods }
     ensures found { Finds (λ last. last) result (last_in periods first (fields_of row.now)) }
     ensures forward { IfOk result (λ last. first ≤ last) }
     ensures within { IfOk result (λ last. last < periods) }
 {
-    let last = number_at(row, 5, 0, u64::from(periods - 1))?;
+    let last = number_in(row, 5, 0, u64::from(periods - 1))?;
     if last < first {
-        return Err(Flaw {
+        return Err(FieldFault {
             field: 5,
             cause: Cause::BackInTime,
         });
@@ -92,17 +81,21 @@ fn last_in(periods: u16, first: u64, row: &ByteRecord) -> Result<u64, Flaw>
 
 /// The change of capacities that a `cap` record tells.
 #[tactic(auto, unfolding(crate::specs::Capacities::cap_change_of))]
-pub fn cap_change_of(periods: u16, book: &Book<Place>, row: &ByteRecord) -> Result<CapChange, Flaw>
+pub fn cap_change_of(
+    periods: u16,
+    places: &NamedList<Place>,
+    row: &ByteRecord,
+) -> Result<CapChange, FieldFault>
     requires { 1 ≤ periods }
-    ensures found { Finds (λ change. change) result (cap_change_of periods book.now (fields_of row.now)) }
-    ensures valid { IfOk result (IsCapChange periods book.now) }
+    ensures found { Finds (λ change. change) result (cap_change_of periods places.now (fields_of row.now)) }
+    ensures valid { IfOk result (IsCapChange periods places.now) }
 {
-    let kind = cap_kind_at(cap_kind_of(field_at(row, 2)?))?;
-    let place = place_in(kind, book, row)?;
-    let first = number_at(row, 4, 0, u64::from(periods - 1))?;
+    let kind = cap_kind_at(cap_kind_of(field_in(row, 2)?))?;
+    let place = place_in(kind, places, row)?;
+    let first = number_in(row, 4, 0, u64::from(periods - 1))?;
     let last = last_in(periods, first, row)?;
-    let value = number_at(row, 6, 0, 1_000_000)?;
-    end_after(row, 6)?;
+    let value = number_in(row, 6, 0, u64::from(MOST_CAPACITY))?;
+    ends_after(row, 6)?;
     Ok(CapChange {
         kind,
         place,

@@ -1,13 +1,14 @@
 //! A date and time in a text.
 ghost use Rattle.std.specs.Prelude.{◌≡◌, ◌≤◌, IfOk, OnOk, length};
 ghost use Rattle.flow_types.specs.Calendar.{days_in_month};
-ghost use Rattle.text_records.specs.Flaws.{Finds};
+ghost use Rattle.text_records.specs.Errors.{Finds};
 ghost use Rattle.scenario_reader.specs.Dates.{has_marks, marked, moment_of, of_calendar, part_of};
 ghost use Rattle.scenario_reader.specs.Moments.{IsMoment};
+ghost use Rattle.flow_types.specs.Limits.{last_year};
 
-use flow_types::{Cause, parse_number};
+use flow_types::{Cause, LAST_YEAR, parse_number};
 use jiff::civil::Date;
-use text_records::Flaw;
+use text_records::FieldFault;
 
 /// A date and time of the calendar.
 #[derive(Clone, Copy, Debug, PartialEq, Eq)]
@@ -21,12 +22,12 @@ pub struct Moment {
 
 /// The date and time that the bytes spell as `YYYY-MM-DDTHH:MM`.
 #[tactic(auto, unfolding(crate::specs::Dates::moment_of))]
-pub fn moment_of(text: &[u8]) -> Result<Moment, Flaw>
+pub fn moment_of(text: &[u8]) -> Result<Moment, FieldFault>
     ensures found { Finds (λ moment. moment) result (moment_of text.now) }
     ensures valid { IfOk result IsMoment }
 {
     has_form(text)?;
-    let year = part_of(text, 0, 4, 1, 9998)? as u16;
+    let year = part_of(text, 0, 4, 1, u64::from(LAST_YEAR))? as u16;
     let month = part_of(text, 5, 7, 1, 12)? as u8;
     let day = part_of(text, 8, 10, 1, 31)? as u8;
     let hour = part_of(text, 11, 13, 0, 23)? as u8;
@@ -42,7 +43,7 @@ pub fn moment_of(text: &[u8]) -> Result<Moment, Flaw>
 }
 
 // Whether the bytes are 16 with the marks of a date and time between them.
-fn has_form(text: &[u8]) -> Result<(), Flaw>
+fn has_form(text: &[u8]) -> Result<(), FieldFault>
     ensures { Finds (λ unit. unit) result (marked text.now) }
 {
     if has_marks(text) {
@@ -59,7 +60,7 @@ fn has_marks(text: &[u8]) -> bool
 }
 
 // The number that the bytes between two places spell, within its limits.
-fn part_of(text: &[u8], from: usize, to: usize, low: u64, high: u64) -> Result<u64, Flaw>
+fn part_of(text: &[u8], from: usize, to: usize, low: u64, high: u64) -> Result<u64, FieldFault>
     requires order { from ≤ to }
     requires within { to ≤ length text.now }
     ensures found { Finds (λ value. value) result (part_of text.now from to low high) }
@@ -73,8 +74,8 @@ fn part_of(text: &[u8], from: usize, to: usize, low: u64, high: u64) -> Result<u
 }
 
 // Whether the month has this day.
-fn is_real(year: u16, month: u8, day: u8) -> Result<(), Flaw>
-    requires year { year ≤ 9998 }
+fn is_real(year: u16, month: u8, day: u8) -> Result<(), FieldFault>
+    requires year { year ≤ last_year }
     requires month_from { 1 ≤ month }
     requires month_to { month ≤ 12 }
     requires day_from { 1 ≤ day }
@@ -88,10 +89,10 @@ fn is_real(year: u16, month: u8, day: u8) -> Result<(), Flaw>
     }
 }
 
-fn bad_date() -> Flaw
+fn bad_date() -> FieldFault
     ensures { result ≡ record { field = 2; cause = Cause.BadDate } }
 {
-    Flaw {
+    FieldFault {
         field: 2,
         cause: Cause::BadDate,
     }

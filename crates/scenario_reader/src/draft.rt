@@ -1,232 +1,195 @@
-//! What has been read so far, which keeps the rules of a scenario at every record.
-ghost use Rattle.std.specs.Prelude.{◌≡◌};
-ghost use Rattle.scenario_reader.specs.Drafts.{IsDraft};
-
-use crate::begun::{Begun, Hop};
-use crate::books::Book;
+//! The scenario as far as it is read, which keeps the rules of one at every record.
 use crate::capacities::CapChange;
+use crate::flight_draft::{FlightDraft, PlaceLeg};
+use crate::named_list::NamedList;
 use crate::tables::Pricing;
 use flow_types::{Connection, Connections, Cost, CostTable, Day, OutOfMemory, Place, Sequence};
 use std::alloc::Global;
+use std::marker::Model;
 
-/// What has been read so far.
+/// The scenario as far as it is read. Contracts see its parts.
 #[derive(Drop)]
 pub struct Draft {
-    pub day: Day,
-    pub places: Book<Place>,
-    pub flights: Book<Begun>,
-    pub tables: Book<CostTable>,
-    pub connections: Connections,
-    /// How many nodes the flights have in all.
-    pub nodes: u32,
-    pub ghost valid: { IsDraft day places flights tables connections nodes },
+    pub(crate) day: Day,
+    pub(crate) places: NamedList<Place>,
+    pub(crate) flights: NamedList<FlightDraft>,
+    pub(crate) tables: NamedList<CostTable>,
+    pub(crate) connections: Connections,
+    // How many nodes the flights have in all.
+    pub(crate) nodes: u32,
+}
+
+impl Model for Draft {
+    ghost use Rattle.scenario_reader.specs.DraftParts.{DraftParts};
+    ghost use Rattle.scenario_reader.specs.Drafts.{IsDraft};
+
+    ghost Value = { DraftParts };
+
+    ghost view = { λ d. record {
+      day = d.day;
+      places = d.places;
+      flights = d.flights;
+      tables = d.tables;
+      connections = d.connections;
+    } };
+
+    ghost invariant = { λ d. IsDraft d.day d.places d.flights d.tables d.connections d.nodes };
 }
 
 impl Draft {
-    ghost use Rattle.std.specs.Prelude.{◌≡◌, ◌<◌, ◌≤◌, ◌+◌, [], None, Some, IfOk, false, length, slice_get};
+    ghost use Rattle.std.specs.Prelude.{◌≡◌, ◌<◌, ◌≤◌, ◌+◌, [], None, Some, OnOk, OnErr, false, length, slice_get};
+    ghost use Rattle.flow_types.specs.Limits.{most_connections, most_flights, most_nodes_in_all, most_places, most_tables};
     ghost use Rattle.flow_types.specs.Valid.{IsDay, IsPlace, IsTable};
     ghost use Rattle.scenario_reader.specs.Connections.{are_connected};
+    ghost use Rattle.scenario_reader.specs.DraftParts.{flight_names, node_total, place_names, table_names};
+    ghost use Rattle.scenario_reader.specs.Reading.{no_parts, with_cap_change, with_connection, with_flight, with_flight_leg, with_place, with_pricing, with_table};
+    ghost use Rattle.scenario_reader.specs.Validity.{IsCapChange, IsFlightDraft, IsMeeting, IsNewLeg, IsPricing};
+    ghost use Rattle.scenario_reader.specs.declared.flight_draft.FlightDraft.{FlightDraft as TheFlightDraft};
     ghost use Rattle.text_records.specs.Names.{position_of};
-    ghost use Rattle.scenario_reader.specs.Reading.{with_cap_change, with_connection, with_flight, with_flight_leg, with_place, with_pricing, with_table};
-    ghost use Rattle.scenario_reader.specs.Seen.{sketch_of};
-    ghost use Rattle.scenario_reader.specs.Sketch.{flight_names, place_names, table_names};
-    ghost use Rattle.scenario_reader.specs.Validity.{IsBegun, IsCapChange, IsMeeting, IsNewLeg, IsPricing};
-    ghost use Rattle.scenario_reader.specs.declared.begun.Begun.{Begun};
 
     /// The draft of a day alone. It takes no memory.
     pub fn of_day(alloc: Global, day: Day) -> Self
         requires { IsDay day }
-        ensures { sketch_of result ≡ record { day = day; places = []; flights = []; tables = []; connections = [] } }
+        ensures { result ≡ no_parts day }
     {
         Draft {
             day,
-            places: Book::empty(alloc),
-            flights: Book::empty(alloc),
-            tables: Book::empty(alloc),
+            places: NamedList::empty(alloc),
+            flights: NamedList::empty(alloc),
+            tables: NamedList::empty(alloc),
             connections: Sequence::empty(alloc),
             nodes: 0,
         }
     }
 
-    /// The draft with one more place, of a new name.
-    pub fn with_place(self, alloc: Global, place: Place) -> Result<Self, OutOfMemory>
-        requires valid { IsPlace self.day.periods place }
-        requires fresh { position_of place.name (place_names self.places) ≡ None }
-        requires room { length self.places < 1000 }
-        ensures { IfOk result (λ draft. sketch_of draft ≡ with_place (sketch_of self) place) }
+    /// The day.
+    pub fn day(&self) -> Day
+        ensures day { result ≡ self.now.day }
+        ensures some { 1 ≤ result.periods }
     {
-        let Draft {
-            day,
-            places,
-            flights,
-            tables,
-            connections,
-            nodes,
-        } = self;
-        let places = places.with_item(alloc, place)?;
-        Ok(Draft {
-            day,
-            places,
-            flights,
-            tables,
-            connections,
-            nodes,
-        })
+        self.day
     }
 
-    /// The draft with one more flight, of a new name.
-    pub fn with_flight(self, alloc: Global, flight: Begun) -> Result<Self, OutOfMemory>
-        requires valid { IsBegun self.day.periods self.places self.tables flight }
-        requires fresh { position_of flight.name (flight_names self.flights) ≡ None }
+    /// The places.
+    pub fn places(&self) -> &NamedList<Place>
+        ensures { result.now ≡ self.now.places }
+    {
+        &self.places
+    }
+
+    /// The flights.
+    pub fn flights(&self) -> &NamedList<FlightDraft>
+        ensures { result.now ≡ self.now.flights }
+    {
+        &self.flights
+    }
+
+    /// The tables.
+    pub fn tables(&self) -> &NamedList<CostTable>
+        ensures { result.now ≡ self.now.tables }
+    {
+        &self.tables
+    }
+
+    /// The connections.
+    pub fn connections(&self) -> &[Connection]
+        ensures { result.now ≡ self.now.connections }
+    {
+        self.connections.items()
+    }
+
+    /// How many nodes the flights have in all.
+    pub fn node_total(&self) -> u32
+        ensures total { result ≡ node_total self.now.flights }
+        ensures few { result ≤ most_nodes_in_all }
+    {
+        self.nodes
+    }
+
+    /// Adds a place, of a new name.
+    pub fn add_place(&mut self, alloc: Global, place: Place) -> Result<(), OutOfMemory>
+        requires valid { IsPlace self.old.day.periods place }
+        requires fresh { position_of place.name (place_names self.old.places) ≡ None }
+        requires room { length self.old.places < most_places }
+        ensures ok { OnOk result (self.new ≡ with_place self.old place) }
+        ensures err { OnErr result (self.new ≡ self.old) }
+    {
+        self.places.add(alloc, place)?;
+        Ok(())
+    }
+
+    /// Adds a flight, of a new name and with no legs yet.
+    pub fn add_flight(&mut self, alloc: Global, flight: FlightDraft) -> Result<(), OutOfMemory>
+        requires valid { IsFlightDraft self.old.day.periods self.old.places self.old.tables flight }
+        requires fresh { position_of flight.name (flight_names self.old.flights) ≡ None }
         requires empty { flight.reached ≡ [] }
-        requires room { length self.flights < 2000 }
-        requires few { self.nodes + 2 ≤ 20000 }
-        ensures { IfOk result (λ draft. sketch_of draft ≡ with_flight (sketch_of self) flight) }
+        requires room { length self.old.flights < most_flights }
+        requires few { node_total self.old.flights + 2 ≤ most_nodes_in_all }
+        ensures ok { OnOk result (self.new ≡ with_flight self.old flight) }
+        ensures err { OnErr result (self.new ≡ self.old) }
     {
-        let Draft {
-            day,
-            places,
-            flights,
-            tables,
-            connections,
-            nodes,
-        } = self;
-        let flights = flights.with_item(alloc, flight)?;
-        Ok(Draft {
-            day,
-            places,
-            flights,
-            tables,
-            connections,
-            nodes: nodes + 2,
-        })
+        self.flights.add(alloc, flight)?;
+        self.nodes += 2;
+        Ok(())
     }
 
-    /// The draft with one more leg of a flight, which is named by its position.
-    pub fn with_leg(self, flight: u32, leg: Hop) -> Result<Self, OutOfMemory>
-        requires here { flight < length self.flights }
-        requires valid { (begun : Begun) → slice_get self.flights flight ≡ Some begun → IsNewLeg self.places self.nodes begun leg }
-        ensures { IfOk result (λ draft. sketch_of draft ≡ with_flight_leg (sketch_of self) (flight, leg)) }
+    /// Adds a leg of a flight, which is named by its position.
+    pub fn add_leg(&mut self, flight: u32, leg: PlaceLeg) -> Result<(), OutOfMemory>
+        requires here { flight < length self.old.flights }
+        requires valid { (draft : TheFlightDraft) → slice_get self.old.flights flight ≡ Some draft
+            → IsNewLeg self.old.places (node_total self.old.flights) draft leg }
+        ensures ok { OnOk result (self.new ≡ with_flight_leg self.old (flight, leg)) }
+        ensures err { OnErr result (self.new ≡ self.old) }
     {
-        let Draft {
-            day,
-            places,
-            flights,
-            tables,
-            connections,
-            nodes,
-        } = self;
-        let adds = flights.items()[flight as usize].adds_node(leg.to);
-        let flights = flights.with_leg(flight, leg)?;
-        Ok(Draft {
-            day,
-            places,
-            flights,
-            tables,
-            connections,
-            nodes: if adds { nodes + 1 } else { nodes },
-        })
+        let adds = self.flights.items()[flight as usize].adds_node(leg.to);
+        self.flights.add_leg(flight, leg)?;
+        if adds {
+            self.nodes += 1;
+        }
+        Ok(())
     }
 
-    /// The draft with one more table, of a new name.
-    pub fn with_table(self, alloc: Global, table: CostTable) -> Result<Self, OutOfMemory>
+    /// Adds a table, of a new name.
+    pub fn add_table(&mut self, alloc: Global, table: CostTable) -> Result<(), OutOfMemory>
         requires valid { IsTable table }
-        requires fresh { position_of table.name (table_names self.tables) ≡ None }
-        requires room { length self.tables < 1000 }
-        ensures { IfOk result (λ draft. sketch_of draft ≡ with_table (sketch_of self) table) }
+        requires fresh { position_of table.name (table_names self.old.tables) ≡ None }
+        requires room { length self.old.tables < most_tables }
+        ensures ok { OnOk result (self.new ≡ with_table self.old table) }
+        ensures err { OnErr result (self.new ≡ self.old) }
     {
-        let Draft {
-            day,
-            places,
-            flights,
-            tables,
-            connections,
-            nodes,
-        } = self;
-        let tables = tables.with_item(alloc, table)?;
-        Ok(Draft {
-            day,
-            places,
-            flights,
-            tables,
-            connections,
-            nodes,
-        })
+        self.tables.add(alloc, table)?;
+        Ok(())
     }
 
-    /// The draft with one more connection, of a new pair of flights.
-    pub fn with_connection(self, connection: Connection) -> Result<Self, OutOfMemory>
-        requires valid { IsMeeting self.flights connection }
-        requires once { are_connected self.connections connection.first connection.second ≡ false }
-        requires room { length self.connections < 4000 }
-        ensures { IfOk result (λ draft. sketch_of draft ≡ with_connection (sketch_of self) connection) }
+    /// Adds a connection, of a new pair of flights.
+    pub fn add_connection(&mut self, connection: Connection) -> Result<(), OutOfMemory>
+        requires valid { IsMeeting self.old.flights connection }
+        requires once { are_connected self.old.connections connection.first connection.second ≡ false }
+        requires room { length self.old.connections < most_connections }
+        ensures ok { OnOk result (self.new ≡ with_connection self.old connection) }
+        ensures err { OnErr result (self.new ≡ self.old) }
     {
-        let Draft {
-            day,
-            places,
-            flights,
-            tables,
-            mut connections,
-            nodes,
-        } = self;
-        connections.add(connection)?;
-        Ok(Draft {
-            day,
-            places,
-            flights,
-            tables,
-            connections,
-            nodes,
-        })
+        self.connections.add(connection)?;
+        Ok(())
     }
 
-    /// The draft with the tables of a flight. It takes no memory.
-    pub fn with_pricing(self, pricing: Pricing) -> Self
-        requires { IsPricing self.flights self.tables pricing }
-        ensures { sketch_of result ≡ with_pricing (sketch_of self) pricing }
+    /// Puts the tables of a flight. It takes no memory.
+    pub fn set_pricing(&mut self, pricing: Pricing)
+        requires { IsPricing self.old.flights self.old.tables pricing }
+        ensures { self.new ≡ with_pricing self.old pricing }
     {
-        let Draft {
-            day,
-            places,
-            flights,
-            tables,
-            connections,
-            nodes,
-        } = self;
         let cost = Cost::Tables {
             total: pricing.total,
             credit: pricing.credit,
         };
-        Draft {
-            day,
-            places,
-            flights: flights.with_cost(pricing.flight, cost),
-            tables,
-            connections,
-            nodes,
-        }
+        self.flights.set_cost(pricing.flight, cost);
     }
 
-    /// The draft with a change of a place's capacities. It takes no memory.
-    pub fn with_cap_change(self, change: CapChange) -> Self
-        requires { IsCapChange self.day.periods self.places change }
-        ensures { sketch_of result ≡ with_cap_change (sketch_of self) change }
+    /// Changes a place's capacities. It takes no memory.
+    pub fn change_capacities(&mut self, change: CapChange)
+        requires { IsCapChange self.old.day.periods self.old.places change }
+        ensures { self.new ≡ with_cap_change self.old change }
     {
-        let Draft {
-            day,
-            places,
-            flights,
-            tables,
-            connections,
-            nodes,
-        } = self;
-        Draft {
-            day,
-            places: places.with_change(change),
-            flights,
-            tables,
-            connections,
-            nodes,
-        }
+        self.places.change(change);
     }
 }

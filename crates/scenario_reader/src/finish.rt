@@ -1,27 +1,27 @@
 //! What the flights come to when all records have passed.
 ghost use Rattle.std.specs.Prelude.{◌≡◌, ◌≤◌, All, IfOk, length, map};
 ghost use Rattle.flow_types.specs.Scenario.{parts_of};
-ghost use Rattle.text_records.specs.Flaws.{Reads};
+ghost use Rattle.scenario_reader.specs.Sectors.{most_sectors};
+ghost use Rattle.text_records.specs.Errors.{Reads};
 ghost use Rattle.scenario_reader.specs.Finish.{finished, finished_flight, finished_flights, flight_with, has_route, leads_on, leg_between, node_of, nodes_of};
-ghost use Rattle.scenario_reader.specs.Seen.{sketch_of};
 
-use crate::begun::{Begun, Hop, is_among};
 use crate::draft::Draft;
+use crate::flight_draft::{FlightDraft, PlaceLeg, is_among};
 use flow_types::{
     Cause, Fault, Flight, Flights, Leg, Legs, Nodes, OutOfMemory, Parts, Scenario, Sequence,
 };
 use std::alloc::Global;
-use text_records::ReadError;
+use text_records::Refusal;
 
 // Whether a leg leads to the destination.
-fn has_route(flight: &Begun) -> bool
+fn has_route(flight: &FlightDraft) -> bool
     ensures { result ≡ has_route flight.now }
 {
     flight.legs.items().iter().any(|leg| leg.to == flight.to)
 }
 
 // Whether a leg starts from each sector that a leg leads to.
-fn leads_on(flight: &Begun) -> bool
+fn leads_on(flight: &FlightDraft) -> bool
     ensures { result ≡ leads_on flight.now }
 {
     flight
@@ -32,7 +32,7 @@ fn leads_on(flight: &Begun) -> bool
 }
 
 // The places of the nodes.
-fn nodes_of(alloc: Global, flight: &Begun) -> Result<Nodes, OutOfMemory>
+fn nodes_of(alloc: Global, flight: &FlightDraft) -> Result<Nodes, OutOfMemory>
     ensures { IfOk result (λ nodes. nodes ≡ nodes_of flight.now) }
 {
     let mut nodes = vec![in alloc; flight.from]?;
@@ -53,7 +53,7 @@ fn node_of(nodes: &[u32], place: u32) -> u16
 }
 
 // The legs between these nodes.
-fn legs_between(alloc: Global, nodes: &[u32], legs: &[Hop]) -> Result<Legs, OutOfMemory>
+fn legs_between(alloc: Global, nodes: &[u32], legs: &[PlaceLeg]) -> Result<Legs, OutOfMemory>
     requires { length nodes.now ≤ 65535 }
     ensures { IfOk result (λ found. found ≡ map (leg_between nodes.now) legs.now) }
 {
@@ -69,7 +69,7 @@ fn legs_between(alloc: Global, nodes: &[u32], legs: &[Hop]) -> Result<Legs, OutO
 }
 
 // The flight with these nodes.
-fn flight_with(alloc: Global, flight: &Begun, nodes: Nodes) -> Result<Flight, OutOfMemory>
+fn flight_with(alloc: Global, flight: &FlightDraft, nodes: Nodes) -> Result<Flight, OutOfMemory>
     requires { length nodes ≤ 65535 }
     ensures { IfOk result (λ found. found ≡ flight_with flight.now nodes) }
 {
@@ -91,12 +91,12 @@ fn flight_with(alloc: Global, flight: &Begun, nodes: Nodes) -> Result<Flight, Ou
 
 // The flight between nodes, or what is wrong with its network.
 #[tactic(auto, unfolding(crate::specs::Finish::finished_flight))]
-fn finished_flight(alloc: Global, flight: &Begun) -> Result<Flight, ReadError>
-    requires { length flight.now.passed ≤ 30 }
+fn finished_flight(alloc: Global, flight: &FlightDraft) -> Result<Flight, Refusal>
+    requires { length flight.now.passed ≤ most_sectors }
     ensures { Reads (λ found. found) result (finished_flight flight.now) }
 {
     let refused = |cause| {
-        Err(ReadError::Fault(Fault {
+        Err(Refusal::Text(Fault {
             at: flight.at,
             field: 1,
             cause,
@@ -112,8 +112,8 @@ fn finished_flight(alloc: Global, flight: &Begun) -> Result<Flight, ReadError>
     Ok(flight_with(alloc, flight, nodes)?)
 }
 
-fn finished_flights(alloc: Global, flights: &[Begun]) -> Result<Flights, ReadError>
-    requires { All (λ flight. length flight.passed ≤ 30) flights.now }
+fn finished_flights(alloc: Global, flights: &[FlightDraft]) -> Result<Flights, Refusal>
+    requires { All (λ flight. length flight.passed ≤ most_sectors) flights.now }
     ensures { Reads (λ found. found) result (finished_flights flights.now) }
 {
     let mut found = Sequence::empty(alloc);
@@ -125,10 +125,10 @@ fn finished_flights(alloc: Global, flights: &[Begun]) -> Result<Flights, ReadErr
 
 /// The scenario of a draft, or the first flight's fault.
 #[tactic(auto, unfolding(crate::specs::Finish::finished))]
-pub fn finished(alloc: Global, draft: Draft) -> Result<Scenario, ReadError>
-    ensures { Reads parts_of result (finished (sketch_of draft)) }
+pub fn finished(alloc: Global, draft: Draft) -> Result<Scenario, Refusal>
+    ensures { Reads parts_of result (finished draft) }
 {
-    let flights = finished_flights(alloc, draft.flights.items())?;
+    let flights = finished_flights(alloc, draft.flights().items())?;
     let Draft {
         day,
         places,

@@ -21,26 +21,26 @@ pub enum Kind {
 pub fn kind_of(word: &[u8]) -> Option<Kind>
     ensures { result ≡ kind_of word.now }
 {
-    if word == b"day".as_slice() {
-        Some(Kind::Day)
-    } else if word == b"airport".as_slice() {
-        Some(Kind::Airport)
-    } else if word == b"sector".as_slice() {
-        Some(Kind::Sector)
-    } else if word == b"flight".as_slice() {
-        Some(Kind::Flight)
-    } else if word == b"leg".as_slice() {
+    if word == b"leg".as_slice() {
         Some(Kind::Leg)
-    } else if word == b"connect".as_slice() {
-        Some(Kind::Connect)
-    } else if word == b"table".as_slice() {
-        Some(Kind::Table)
-    } else if word == b"cost".as_slice() {
-        Some(Kind::Cost)
     } else if word == b"cap".as_slice() {
         Some(Kind::Cap)
     } else if word == b"note".as_slice() {
         Some(Kind::Note)
+    } else if word == b"flight".as_slice() {
+        Some(Kind::Flight)
+    } else if word == b"connect".as_slice() {
+        Some(Kind::Connect)
+    } else if word == b"cost".as_slice() {
+        Some(Kind::Cost)
+    } else if word == b"table".as_slice() {
+        Some(Kind::Table)
+    } else if word == b"sector".as_slice() {
+        Some(Kind::Sector)
+    } else if word == b"airport".as_slice() {
+        Some(Kind::Airport)
+    } else if word == b"day".as_slice() {
+        Some(Kind::Day)
     } else {
         None
     }

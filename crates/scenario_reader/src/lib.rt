@@ -9,7 +9,7 @@
 //! `fault`). Want of memory is the third answer, of which no clause says when it comes.
 //!
 //! The scenario that is built is known to be valid without a second test: every draft keeps the
-//! rules (`IsSketch`), and a network whose destination is reached and that has no dead end is a
+//! rules (`IsValidDraft`), and a network whose destination is reached and that has no dead end is a
 //! route.
 //!
 //! Memory: the text, the scenario, and as much again as the names and legs of its flights while
@@ -22,50 +22,38 @@ ghost use Rattle.std.specs.Prelude.{◌≡◌, ◌≤◌, Ok, Err, IfOk, length}
 ghost use Rattle.flow_types.specs.Scenario.{parts_of};
 ghost use Rattle.flow_types.specs.declared.fault.Fault.{Fault as TheFault};
 ghost use Rattle.scenario_reader.specs.Reading.{scenario_of};
+ghost use Rattle.flow_types.specs.Limits.{most_text_bytes};
 
-mod begun;
-mod books;
 mod capacities;
 mod connections;
 mod date;
 mod draft;
 mod finish;
+mod flight_draft;
 mod flights;
 mod kind;
 mod legs;
+mod named_list;
 mod places;
 mod reading;
 mod records;
+mod sectors;
 mod tables;
 
-use crate::reading::read_exactly;
-use flow_types::{Fault, Scenario};
+use crate::reading::scenario_of;
+use flow_types::Scenario;
 use std::alloc::Global;
-use text_records::ReadError;
-
-/// Why a scenario isn't read.
-#[derive(Clone, Copy, Debug, PartialEq, Eq)]
-pub enum Refusal {
-    /// The text has this fault, and none before it.
-    Text(Fault),
-    OutOfMemory,
-}
+pub use text_records::Refusal;
 
 /// The scenario of a text of at most 64 MiB, or its first fault: by record, then field, then in the
-/// order of `Cause`. It takes memory for the scenario, and as much again while it is read.
+/// order of `Cause`. It takes memory for the scenario, for the longest record, and as much again as the
+/// names and legs of its flights while it is read.
 pub fn read_scenario(alloc: Global, text: &[u8]) -> Result<Scenario, Refusal>
-    requires { length text.now ≤ 67108864 }
+    requires { length text.now ≤ most_text_bytes }
     // What is read is the scenario of the text.
     ensures scenario { IfOk result (λ s. scenario_of text.now ≡ Ok (parts_of s)) }
     // A fault that is told is the text's first.
     ensures fault { (fault : TheFault) → result ≡ Err (Refusal.Text fault) → scenario_of text.now ≡ Err fault }
 {
-    match read_exactly(alloc, text) {
-        Ok(scenario) => Ok(scenario),
-        Err(ReadError::Fault(fault)) => Err(Refusal::Text(fault)),
-        Err(ReadError::OutOfMemory) => Err(Refusal::OutOfMemory),
-    }
+    scenario_of(alloc, text)
 }
-
-#[cfg(test)]
-mod tests;

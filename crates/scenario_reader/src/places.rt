@@ -1,34 +1,35 @@
 //! The day, airports and sectors.
 ghost use Rattle.std.specs.Prelude.{◌≡◌, ◌<◌, ◌≤◌, ◌++◌, ◌∷◌, [], None, IfOk, OnOk, All, length, replicate, slice_get};
 ghost use Rattle.csv.specs.Records.{fields_of};
-ghost use Rattle.flow_types.specs.Routes.{is_airport, is_sector};
 ghost use Rattle.flow_types.specs.Valid.{IsDay, IsPlace};
-ghost use Rattle.text_records.specs.Flaws.{Finds, Gives};
+ghost use Rattle.text_records.specs.Errors.{Finds, Gives};
 ghost use Rattle.scenario_reader.specs.Capacities.{Reaches, with_change};
 ghost use Rattle.scenario_reader.specs.Change.{changed_at};
 ghost use Rattle.text_records.specs.Names.{position_of};
 ghost use Rattle.scenario_reader.specs.Places.{airport_of, day_of, sector_of};
-ghost use Rattle.scenario_reader.specs.Sketch.{place_names};
+ghost use Rattle.scenario_reader.specs.DraftParts.{place_names};
 ghost use Rattle.flow_types.specs.declared.place.Place.{Place};
+ghost use Rattle.flow_types.specs.Limits.{most_capacity, most_places};
 
-use crate::books::Book;
 use crate::capacities::CapChange;
 use crate::date::moment_of;
+use crate::named_list::NamedList;
 use csv::ByteRecord;
-use flow_types::{CapKind, Caps, Day, Place, PlaceKind, Sequence};
+use flow_types::{
+    CapKind, Caps, Day, MOST_CAPACITY, MOST_MINUTES, MOST_PERIODS, MOST_PLACES, Place, PlaceKind,
+    Sequence,
+};
 use std::alloc::{AllocError, Global};
-use text_records::{Flaw, NameIndex, Trouble, end_after, field_at, new_name, number_at};
+use text_records::{FieldFault, NameIndex, RecordError, ends_after, field_in, new_name, number_in};
 
-impl Book<Place> {
-    /// The book with a change of a place's capacities. It takes no memory.
-    pub fn with_change(self, change: CapChange) -> Self
-        requires here { change.place < length self }
-        requires within { (place : Place) → slice_get self change.place ≡ Some place → Reaches change place }
-        ensures { result ≡ changed_at (with_change change) self change.place }
+impl NamedList<Place> {
+    /// Changes a place's capacities. It takes no memory.
+    pub fn change(&mut self, change: CapChange)
+        requires here { change.place < length self.old }
+        requires within { (place : Place) → slice_get self.old change.place ≡ Some place → Reaches change place }
+        ensures { self.new ≡ changed_at (with_change change) self.old change.place }
     {
-        let Book { mut items, index } = self;
-        change_place(&mut items[change.place as usize], change);
-        Book { items, index }
+        change_place(&mut self.items[change.place as usize], change);
     }
 }
 
@@ -47,14 +48,14 @@ fn change_place(place: &mut Place, change: CapChange)
 
 /// The day that a `day` record tells.
 #[tactic(auto, unfolding(crate::specs::Places::day_of))]
-pub fn day_of(row: &ByteRecord) -> Result<Day, Flaw>
+pub fn day_of(row: &ByteRecord) -> Result<Day, FieldFault>
     ensures found { Finds (λ day. day) result (day_of (fields_of row.now)) }
     ensures valid { IfOk result IsDay }
 {
-    let moment = moment_of(field_at(row, 2)?)?;
-    let minutes = number_at(row, 3, 1, 120)? as u16;
-    let periods = number_at(row, 4, 1, 512)? as u16;
-    end_after(row, 4)?;
+    let moment = moment_of(field_in(row, 2)?)?;
+    let minutes = number_in(row, 3, 1, u64::from(MOST_MINUTES))? as u16;
+    let periods = number_in(row, 4, 1, u64::from(MOST_PERIODS))? as u16;
+    ends_after(row, 4)?;
     Ok(Day {
         year: moment.year,
         month: moment.month,
@@ -73,16 +74,16 @@ pub fn airport_of(
     periods: u16,
     names: &NameIndex,
     row: &ByteRecord,
-) -> Result<Place, Trouble>
+) -> Result<Place, RecordError>
     ensures found { Gives (λ place. place) result (airport_of periods names.now (fields_of row.now)) }
     ensures valid { IfOk result (IsPlace periods) }
     ensures fresh { IfOk result (λ place. position_of place.name names.now ≡ None) }
-    ensures room { OnOk result (length names.now < 1000) }
+    ensures room { OnOk result (length names.now < most_places) }
 {
-    let name = new_name(1000, names, row)?;
-    let departures = number_at(row, 3, 0, 1_000_000)? as u32;
-    let arrivals = number_at(row, 4, 0, 1_000_000)? as u32;
-    end_after(row, 4)?;
+    let name = new_name(MOST_PLACES, names, row)?;
+    let departures = number_in(row, 3, 0, u64::from(MOST_CAPACITY))? as u32;
+    let arrivals = number_in(row, 4, 0, u64::from(MOST_CAPACITY))? as u32;
+    ends_after(row, 4)?;
     Ok(Place {
         name: Sequence::from_vec(Vec::from_slice(alloc, name)?),
         kind: PlaceKind::Airport,
@@ -98,15 +99,15 @@ pub fn sector_of(
     periods: u16,
     names: &NameIndex,
     row: &ByteRecord,
-) -> Result<Place, Trouble>
+) -> Result<Place, RecordError>
     ensures found { Gives (λ place. place) result (sector_of periods names.now (fields_of row.now)) }
     ensures valid { IfOk result (IsPlace periods) }
     ensures fresh { IfOk result (λ place. position_of place.name names.now ≡ None) }
-    ensures room { OnOk result (length names.now < 1000) }
+    ensures room { OnOk result (length names.now < most_places) }
 {
-    let name = new_name(1000, names, row)?;
-    let capacity = number_at(row, 3, 0, 1_000_000)? as u32;
-    end_after(row, 3)?;
+    let name = new_name(MOST_PLACES, names, row)?;
+    let capacity = number_in(row, 3, 0, u64::from(MOST_CAPACITY))? as u32;
+    ends_after(row, 3)?;
     Ok(Place {
         name: Sequence::from_vec(Vec::from_slice(alloc, name)?),
         kind: PlaceKind::Sector,
@@ -117,30 +118,10 @@ pub fn sector_of(
 
 // The same capacity for every period.
 fn caps_of(alloc: Global, periods: u16, capacity: u32) -> Result<Caps, AllocError>
-    requires { capacity ≤ 1000000 }
+    requires { capacity ≤ most_capacity }
     ensures caps { IfOk result (λ caps. caps ≡ replicate periods capacity) }
     ensures many { IfOk result (λ caps. length caps ≡ periods) }
-    ensures few { IfOk result (λ caps. All (λ c. c ≤ 1000000) caps) }
+    ensures few { IfOk result (λ caps. All (λ c. c ≤ most_capacity) caps) }
 {
     Ok(Sequence::from_vec(vec![in alloc; capacity; periods as usize]?))
-}
-
-/// Whether the place is an airport.
-pub fn is_airport(places: &[Place], place: u32) -> bool
-    ensures { result ≡ is_airport (slice_get places.now place) }
-{
-    match places.get(place as usize) {
-        Some(place) => place.kind == PlaceKind::Airport,
-        None => false,
-    }
-}
-
-/// Whether the place is a sector.
-pub fn is_sector(places: &[Place], place: u32) -> bool
-    ensures { result ≡ is_sector (slice_get places.now place) }
-{
-    match places.get(place as usize) {
-        Some(place) => place.kind == PlaceKind::Sector,
-        None => false,
-    }
 }

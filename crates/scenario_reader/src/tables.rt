@@ -2,18 +2,22 @@
 ghost use Rattle.std.specs.Prelude.{◌≡◌, ◌≤◌, ◌<◌, ◌+◌, None, Some, All, IfOk, OnOk, drop, length, slice_get};
 ghost use Rattle.csv.specs.Records.{fields_of};
 ghost use Rattle.flow_types.specs.Valid.{IsTable, IsValue, value_count};
-ghost use Rattle.text_records.specs.Flaws.{Finds, Gives};
+ghost use Rattle.text_records.specs.Errors.{Finds, Gives};
 ghost use Rattle.text_records.specs.Names.{position_of};
-ghost use Rattle.scenario_reader.specs.Sketch.{table_names};
+ghost use Rattle.scenario_reader.specs.DraftParts.{table_names};
 ghost use Rattle.scenario_reader.specs.Tables.{has_tables, pricing_of, signed, table_in, table_of, untabled_at, untabled_in, value_at, value_in, value_of, values_from};
 ghost use Rattle.scenario_reader.specs.Validity.{IsPricing};
+ghost use Rattle.flow_types.specs.Limits.{most_tables, most_value, most_values};
 
-use crate::begun::Begun;
-use crate::books::Book;
+use crate::flight_draft::FlightDraft;
+use crate::named_list::NamedList;
 use csv::ByteRecord;
-use flow_types::{Cause, Cost, CostTable, Sequence, Values, parse_number};
+use flow_types::{
+    Cause, Cost, CostTable, MOST_TABLES, MOST_VALUE, MOST_VALUES, Sequence, Values, parse_number,
+    value_count,
+};
 use std::alloc::Global;
-use text_records::{Flaw, NameIndex, Trouble, end_after, field_at, known_in, new_name};
+use text_records::{FieldFault, NameIndex, RecordError, ends_after, field_in, known_in, new_name};
 
 /// The tables of a flight. It and they are named by their positions.
 #[derive(Clone, Copy, Debug, PartialEq, Eq)]
@@ -25,7 +29,7 @@ pub struct Pricing {
 
 // The number with its sign.
 fn signed(negative: bool, n: u64) -> i64
-    requires { n ≤ 1000000000 }
+    requires { n ≤ most_value }
     ensures value { result ≡ signed negative n }
     ensures valid { IsValue result }
 {
@@ -33,17 +37,17 @@ fn signed(negative: bool, n: u64) -> i64
 }
 
 // The number with its sign, which has to be within its limits.
-fn value_at(number: u32, negative: bool, size: Option<u64>) -> Result<i64, Flaw>
+fn value_at(number: u32, negative: bool, size: Option<u64>) -> Result<i64, FieldFault>
     ensures found { Finds (λ value. value) result (value_at number negative size) }
     ensures valid { IfOk result IsValue }
 {
     match size {
-        Some(n) if n <= 1_000_000_000 => Ok(signed(negative, n)),
-        Some(_) => Err(Flaw {
+        Some(n) if n <= MOST_VALUE as u64 => Ok(signed(negative, n)),
+        Some(_) => Err(FieldFault {
             field: number,
             cause: Cause::OutOfRange,
         }),
-        None => Err(Flaw {
+        None => Err(FieldFault {
             field: number,
             cause: Cause::BadNumber,
         }),
@@ -51,7 +55,7 @@ fn value_at(number: u32, negative: bool, size: Option<u64>) -> Result<i64, Flaw>
 }
 
 // The value that the bytes of a field spell.
-fn value_of(number: u32, bytes: &[u8]) -> Result<i64, Flaw>
+fn value_of(number: u32, bytes: &[u8]) -> Result<i64, FieldFault>
     ensures found { Finds (λ value. value) result (value_of number bytes.now) }
     ensures valid { IfOk result IsValue }
 {
@@ -62,13 +66,13 @@ fn value_of(number: u32, bytes: &[u8]) -> Result<i64, Flaw>
 }
 
 // The value in the field of this number, of which the last may be the 514th.
-fn value_in(number: u32, bytes: &[u8]) -> Result<i64, Flaw>
+fn value_in(number: u32, bytes: &[u8]) -> Result<i64, FieldFault>
     ensures found { Finds (λ value. value) result (value_in number bytes.now) }
     ensures valid { IfOk result IsValue }
-    ensures within { OnOk result (number ≤ 514) }
+    ensures within { OnOk result (number ≤ most_values + 2) }
 {
-    if number > 514 {
-        return Err(Flaw {
+    if number as usize > MOST_VALUES + 2 {
+        return Err(FieldFault {
             field: number,
             cause: Cause::ExtraField,
         });
@@ -77,30 +81,34 @@ fn value_in(number: u32, bytes: &[u8]) -> Result<i64, Flaw>
 }
 
 // The values in the fields from the third on.
-fn values_in(alloc: Global, row: &ByteRecord) -> Result<Values, Trouble>
+fn values_in(alloc: Global, row: &ByteRecord) -> Result<Values, RecordError>
     ensures found { Gives (λ values. values) result (values_from 3 (drop 2 (fields_of row.now))) }
     ensures valid { IfOk result (λ values. All IsValue values) }
-    ensures few { IfOk result (λ values. length values ≤ 512) }
+    ensures few { IfOk result (λ values. length values ≤ most_values) }
     ensures many { IfOk result (λ values. length (fields_of row.now) ≤ length values + 2) }
 {
     let mut values = Sequence::empty(alloc);
-    for at in 2..row.len().min(515) {
+    for at in 2..row.len().min(MOST_VALUES + 3) {
         let number = at as u32 + 1;
-        values.add(value_in(number, field_at(row, number)?)?)?;
+        values.add(value_in(number, field_in(row, number)?)?)?;
     }
     Ok(values)
 }
 
 /// The table that a `table` record tells.
 #[tactic(auto, unfolding(crate::specs::Tables::table_of))]
-pub fn table_of(alloc: Global, names: &NameIndex, row: &ByteRecord) -> Result<CostTable, Trouble>
+pub fn table_of(
+    alloc: Global,
+    names: &NameIndex,
+    row: &ByteRecord,
+) -> Result<CostTable, RecordError>
     ensures found { Gives (λ table. table) result (table_of names.now (fields_of row.now)) }
     ensures valid { IfOk result IsTable }
     ensures fresh { IfOk result (λ table. position_of table.name names.now ≡ None) }
-    ensures room { OnOk result (length names.now < 1000) }
+    ensures room { OnOk result (length names.now < most_tables) }
 {
-    let name = new_name(1000, names, row)?;
-    field_at(row, 3)?;
+    let name = new_name(MOST_TABLES, names, row)?;
+    field_in(row, 3)?;
     let values = values_in(alloc, row)?;
     Ok(CostTable {
         name: Sequence::from_vec(Vec::from_slice(alloc, name)?),
@@ -119,17 +127,17 @@ fn has_tables(cost: Cost) -> bool
 }
 
 // The flight, with its position, which has no tables yet.
-fn untabled_at(flights: &[Begun], k: u32) -> Result<(u32, &Begun), Flaw>
+fn untabled_at(flights: &[FlightDraft], k: u32) -> Result<(u32, &FlightDraft), FieldFault>
     ensures found { Finds (λ found. (found.0, found.1.now)) result (untabled_at k (slice_get flights.now k)) }
     ensures here { IfOk result (λ found. slice_get flights.now found.0 ≡ Some found.1.now) }
 {
     match flights.get(k as usize) {
-        Some(flight) if has_tables(flight.cost) => Err(Flaw {
+        Some(flight) if has_tables(flight.cost) => Err(FieldFault {
             field: 2,
             cause: Cause::Repeated,
         }),
         Some(flight) => Ok((k, flight)),
-        None => Err(Flaw {
+        None => Err(FieldFault {
             field: 2,
             cause: Cause::UnknownName,
         }),
@@ -137,22 +145,15 @@ fn untabled_at(flights: &[Begun], k: u32) -> Result<(u32, &Begun), Flaw>
 }
 
 #[tactic(auto, unfolding(crate::specs::Tables::untabled_in))]
-fn untabled_in<'a>(book: &'a Book<Begun>, row: &ByteRecord) -> Result<(u32, &'a Begun), Flaw>
-    ensures found { Finds (λ found. (found.0, found.1.now)) result (untabled_in book.now (fields_of row.now)) }
-    ensures here { IfOk result (λ found. slice_get book.now found.0 ≡ Some found.1.now) }
+fn untabled_in<'a>(
+    flights: &'a NamedList<FlightDraft>,
+    row: &ByteRecord,
+) -> Result<(u32, &'a FlightDraft), FieldFault>
+    ensures found { Finds (λ found. (found.0, found.1.now)) result (untabled_in flights.now (fields_of row.now)) }
+    ensures here { IfOk result (λ found. slice_get flights.now found.0 ≡ Some found.1.now) }
 {
-    let k = known_in(2, book.names(), row)?;
-    untabled_at(book.items(), k)
-}
-
-// How many values the table has.
-fn value_count(tables: &[CostTable], table: u32) -> usize
-    ensures { result ≡ value_count (slice_get tables.now table) }
-{
-    match tables.get(table as usize) {
-        Some(table) => table.values.items().len(),
-        None => 0,
-    }
+    let k = known_in(2, flights.names(), row)?;
+    untabled_at(flights.items(), k)
 }
 
 // The table, which has so many values at the least.
@@ -160,16 +161,16 @@ fn value_count(tables: &[CostTable], table: u32) -> usize
 fn table_in(
     number: u32,
     least: usize,
-    book: &Book<CostTable>,
+    tables: &NamedList<CostTable>,
     row: &ByteRecord,
-) -> Result<u32, Flaw>
+) -> Result<u32, FieldFault>
     requires { 1 ≤ number }
-    ensures found { Finds (λ table. table) result (table_in number least book.now (fields_of row.now)) }
-    ensures long { IfOk result (λ table. least ≤ value_count (slice_get book.now table)) }
+    ensures found { Finds (λ table. table) result (table_in number least tables.now (fields_of row.now)) }
+    ensures long { IfOk result (λ table. least ≤ value_count (slice_get tables.now table)) }
 {
-    let table = known_in(number, book.names(), row)?;
-    if value_count(book.items(), table) < least {
-        return Err(Flaw {
+    let table = known_in(number, tables.names(), row)?;
+    if value_count(tables.items(), table) < least {
+        return Err(FieldFault {
             field: number,
             cause: Cause::ShortTable,
         });
@@ -180,17 +181,17 @@ fn table_in(
 /// The tables that a `cost` record tells of its flight.
 #[tactic(auto, unfolding(crate::specs::Tables::pricing_of))]
 pub fn pricing_of(
-    flights: &Book<Begun>,
-    tables: &Book<CostTable>,
+    flights: &NamedList<FlightDraft>,
+    tables: &NamedList<CostTable>,
     row: &ByteRecord,
-) -> Result<Pricing, Flaw>
+) -> Result<Pricing, FieldFault>
     ensures found { Finds (λ pricing. pricing) result (pricing_of flights.now tables.now (fields_of row.now)) }
     ensures valid { IfOk result (IsPricing flights.now tables.now) }
 {
     let (k, flight) = untabled_in(flights, row)?;
     let total = table_in(3, flight.hours.md as usize + 1, tables, row)?;
     let credit = table_in(4, flight.hours.mg as usize + 1, tables, row)?;
-    end_after(row, 4)?;
+    ends_after(row, 4)?;
     Ok(Pricing {
         flight: k,
         total,

@@ -1,5 +1,4 @@
 pub mod RowFacts
 pub mod FieldFacts
-pub mod ScanFacts
-pub mod ClippedFacts
+pub mod ReaderFacts
 pub mod NameFacts

@@ -112,7 +112,7 @@ enough (suc n) (suc m) s bytes start p q = by (next_record default_config s [] [
 -- a record stands in front of those after it
 pub first_row : (s : State) (bytes : List ℕ) (read : Read) → ends_at_end s ≡ false
     → next_record default_config s [] [] bytes ≡ Some read
-    → rows_from s bytes ≡ read.0 ∷ rows_from read.1 read.2
+    → rows_from s (Some bytes) ≡ read.0 ∷ rows_from read.1 (Some read.2)
 unfolding records_from
 first_row s bytes read start e =
     let byte = took_byte bytes s read start e in
@@ -121,7 +121,7 @@ first_row s bytes read start e =
     (ap (λ (rows : List Fields). read.0 ∷ rows)
     (enough (length bytes) (length read.2 + 1) read.1 read.2 (taken bytes s [] [] read e).start byte (omega arith)))
 
-pub no_row : (s : State) (bytes : List ℕ) → next_record default_config s [] [] bytes ≡ None → rows_from s bytes ≡ []
+pub no_row : (s : State) (bytes : List ℕ) → next_record default_config s [] [] bytes ≡ None → rows_from s (Some bytes) ≡ []
 unfolding records_from
 no_row s bytes e =
     let one : length bytes + 1 ≡ suc (length bytes) = omega arith in
@@ -142,7 +142,7 @@ few (suc n) s bytes start = by (next_record default_config s [] [] bytes) refl (
         let rest = more read.1 read.2 (taken bytes s [] [] read e).start in
         omega arith
 
-pub few_rows : (s : State) (bytes : List ℕ) → ends_at_end s ≡ false → length (rows_from s bytes) ≤ length bytes
+pub few_rows : (s : State) (bytes : List ℕ) → ends_at_end s ≡ false → length (rows_from s (Some bytes)) ≤ length bytes
 few_rows s bytes start = few (length bytes + 1) s bytes start
 
 strip_fits : (bytes : List ℕ) → length (strip_bom bytes) ≤ length bytes

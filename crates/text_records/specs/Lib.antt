@@ -1,5 +1,5 @@
-pub mod Flaws
+pub mod Errors
 pub mod Rows
+pub mod Reader
 pub mod Fields
-pub mod Scan
 pub mod Names

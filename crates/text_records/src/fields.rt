@@ -3,20 +3,20 @@ ghost use Rattle.std.specs.Prelude.{◌≤◌, IfOk, IsTrue};
 ghost use Rattle.csv.specs.Records.{fields_of};
 ghost use Rattle.flow_types.specs.Words.{is_name};
 ghost use Rattle.text_records.specs.Fields.{ends_after, field_in, name_in, number_in};
-ghost use Rattle.text_records.specs.Flaws.{Finds};
+ghost use Rattle.text_records.specs.Errors.{Finds};
 
-use crate::flaw::Flaw;
+use crate::error::FieldFault;
 use csv::ByteRecord;
 use flow_types::{Cause, is_name, parse_number};
 
 /// The field of this number, from 1.
-pub fn field_at(row: &ByteRecord, number: u32) -> Result<&[u8], Flaw>
+pub fn field_in(row: &ByteRecord, number: u32) -> Result<&[u8], FieldFault>
     requires { 1 ≤ number }
     ensures { Finds (λ bytes. bytes.now) result (field_in (fields_of row.now) number) }
 {
     match row.get(number as usize - 1) {
         Some(bytes) => Ok(bytes),
-        None => Err(Flaw {
+        None => Err(FieldFault {
             field: number,
             cause: Cause::MissingField,
         }),
@@ -24,12 +24,12 @@ pub fn field_at(row: &ByteRecord, number: u32) -> Result<&[u8], Flaw>
 }
 
 /// Whether the record has no field past this one.
-pub fn end_after(row: &ByteRecord, last: u32) -> Result<(), Flaw>
+pub fn ends_after(row: &ByteRecord, last: u32) -> Result<(), FieldFault>
     requires { last ≤ 1000 }
     ensures { Finds (λ unit. unit) result (ends_after (fields_of row.now) last) }
 {
     if row.len() > last as usize {
-        return Err(Flaw {
+        return Err(FieldFault {
             field: last + 1,
             cause: Cause::ExtraField,
         });
@@ -39,14 +39,14 @@ pub fn end_after(row: &ByteRecord, last: u32) -> Result<(), Flaw>
 
 /// The field of this number, from 1, which has to be a name.
 #[tactic(auto, unfolding(crate::specs::Fields::name_in))]
-pub fn name_at(row: &ByteRecord, number: u32) -> Result<&[u8], Flaw>
+pub fn name_in(row: &ByteRecord, number: u32) -> Result<&[u8], FieldFault>
     requires { 1 ≤ number }
     ensures found { Finds (λ bytes. bytes.now) result (name_in (fields_of row.now) number) }
     ensures named { IfOk result (λ bytes. IsTrue (is_name bytes.now)) }
 {
-    let bytes = field_at(row, number)?;
+    let bytes = field_in(row, number)?;
     if !is_name(bytes) {
-        return Err(Flaw {
+        return Err(FieldFault {
             field: number,
             cause: Cause::BadName,
         });
@@ -56,21 +56,21 @@ pub fn name_at(row: &ByteRecord, number: u32) -> Result<&[u8], Flaw>
 
 /// The number in the field of this number, from 1, which has to be within these limits.
 #[tactic(auto, unfolding(crate::specs::Fields::number_in))]
-pub fn number_at(row: &ByteRecord, number: u32, low: u64, high: u64) -> Result<u64, Flaw>
+pub fn number_in(row: &ByteRecord, number: u32, low: u64, high: u64) -> Result<u64, FieldFault>
     requires { 1 ≤ number }
     ensures found { Finds (λ value. value) result (number_in (fields_of row.now) number low high) }
     ensures low { IfOk result (λ value. low ≤ value) }
     ensures high { IfOk result (λ value. value ≤ high) }
 {
-    let bytes = field_at(row, number)?;
+    let bytes = field_in(row, number)?;
     let Some(value) = parse_number(bytes) else {
-        return Err(Flaw {
+        return Err(FieldFault {
             field: number,
             cause: Cause::BadNumber,
         });
     };
     if value < low || value > high {
-        return Err(Flaw {
+        return Err(FieldFault {
             field: number,
             cause: Cause::OutOfRange,
         });

@@ -1,34 +1,39 @@
-//! Texts of records: their rows one at a time, fields that are names or numbers, and names by their
-//! positions.
+//! Texts of records: their records one at a time, fields that are names or numbers, and names by their
+//! positions. Both readers of texts stand on it.
 //!
-//! A caller makes `Rows` of a text, which contracts see as the list of what is kept of each record that
-//! is left (`clipped`: one field, and one byte of each field, more than any record may have that isn't
-//! passed over), and has `next_row` fill one `ByteRecord` with each in turn. The records of a text are
-//! those of `csv`'s definitions, and what is kept tells of their fields what they tell
-//! (`proofs/ClippedFacts.antt`).
+//! ```text
+//! let mut rows = Rows::of_text(alloc, text);
+//! let mut row = ByteRecord::new(alloc);
+//! while rows.next_row(&mut row)? {
+//!     let name = name_in(&row, 2)?;
+//!     let period = number_in(&row, 3, 0, 511)?;
+//!     ends_after(&row, 3)?;
+//! }
+//! ```
 //!
-//! A field's function answers the value or a `Flaw`, which is a field and a cause; a `Flaw` and the
-//! number of its record are a `Fault`. Each function's clause says that it gives exactly what its
-//! definition in `specs/` gives (`Finds`, and `Gives` and `Reads` where memory may be wanting), so a
-//! reader whose steps are chained as its definition is answers the first fault.
+//! `Rows` are seen as the list of the records that are left, each the list of its fields; the records
+//! of a text are those of `csv`'s definitions, and `csv` reads them. `next_row` fills one `ByteRecord`
+//! with each in turn.
 //!
-//! A `NameIndex` is the names that were told so far, which contracts see as the list; `known_in` and
-//! `new_name` read the fields that name what is known and what is new.
+//! There are three errors, by what fails: a `FieldFault` is a field and a cause, a `RecordError` such a
+//! fault or want of memory, and a `Refusal` the first fault of a whole text, or want of memory. Each
+//! function's clause says that it gives exactly what its definition of the same name in `specs/` gives
+//! (`Finds`, and `Gives` and `Reads` where memory may be wanting), so a reader whose steps are chained
+//! as its definition is answers the first fault.
 //!
-//! Memory: at most 515 fields of 33 bytes of a record, and a copy of each name. Time: the length of the
-//! text, and a look-up by hash for each name.
+//! A `NameIndex` is the names that were told so far, seen as the list; `known_in` and `new_name` read
+//! the fields that name what is known and what is new.
+//!
+//! Memory: 8 KiB, the longest record, at 8 bytes a field besides its bytes, in blocks that grow by
+//! doubling, and a copy of each name. Time: the length of the text, and a look-up by hash for each name.
 #![tactic(auto)]
 
-pub mod fields;
-pub mod flaw;
-pub mod names;
-pub mod rows;
-mod scan;
+mod error;
+mod fields;
+mod names;
+mod rows;
 
-pub use fields::{end_after, field_at, name_at, number_at};
-pub use flaw::{Flaw, ReadError, Trouble, in_record};
+pub use error::{FieldFault, RecordError, Refusal, refusal_of};
+pub use fields::{ends_after, field_in, name_in, number_in};
 pub use names::{NameIndex, known_at, known_in, new_name};
 pub use rows::Rows;
-
-#[cfg(test)]
-mod tests;

@@ -2,11 +2,11 @@
 ghost use Rattle.std.specs.Prelude.{◌≡◌, ◌<◌, ◌≤◌, ◌-◌, ◌^◌, ◌++◌, ◌∷◌, [], None, IfOk, IfSome, OnOk, OnErr, IsTrue, length};
 ghost use Rattle.csv.specs.Records.{fields_of};
 ghost use Rattle.flow_types.specs.Words.{is_name};
-ghost use Rattle.text_records.specs.Flaws.{Finds};
+ghost use Rattle.text_records.specs.Errors.{Finds};
 ghost use Rattle.text_records.specs.Names.{known_at, known_in, new_name, position_of};
 
-use crate::fields::name_at;
-use crate::flaw::Flaw;
+use crate::error::FieldFault;
+use crate::fields::name_in;
 use csv::ByteRecord;
 use flow_types::{Cause, OutOfMemory};
 use indexmap::IndexSet;
@@ -71,10 +71,10 @@ impl NameIndex {
 }
 
 /// The position, where there is one, of what the field of this number names.
-pub fn known_at(number: u32, position: Option<u32>) -> Result<u32, Flaw>
+pub fn known_at(number: u32, position: Option<u32>) -> Result<u32, FieldFault>
     ensures { Finds (λ k. k) result (known_at number position) }
 {
-    position.ok_or(Flaw {
+    position.ok_or(FieldFault {
         field: number,
         cause: Cause::UnknownName,
     })
@@ -82,31 +82,35 @@ pub fn known_at(number: u32, position: Option<u32>) -> Result<u32, Flaw>
 
 /// The position of the name in the field of this number, which has to be one of these.
 #[tactic(auto, unfolding(crate::specs::Names::known_in))]
-pub fn known_in(number: u32, names: &NameIndex, row: &ByteRecord) -> Result<u32, Flaw>
+pub fn known_in(number: u32, names: &NameIndex, row: &ByteRecord) -> Result<u32, FieldFault>
     requires { 1 ≤ number }
     ensures { Finds (λ k. k) result (known_in number names.now (fields_of row.now)) }
 {
-    let name = name_at(row, number)?;
+    let name = name_in(row, number)?;
     known_at(number, names.find(name))
 }
 
 /// The name in field 2, which isn't among these yet, and of which there may be so many.
 #[tactic(auto, unfolding(crate::specs::Names::new_name))]
-pub fn new_name<'a>(limit: usize, names: &NameIndex, row: &'a ByteRecord) -> Result<&'a [u8], Flaw>
+pub fn new_name<'a>(
+    limit: usize,
+    names: &NameIndex,
+    row: &'a ByteRecord,
+) -> Result<&'a [u8], FieldFault>
     ensures found { Finds (λ name. name.now) result (new_name limit names.now (fields_of row.now)) }
     ensures named { IfOk result (λ name. IsTrue (is_name name.now)) }
     ensures fresh { IfOk result (λ name. position_of name.now names.now ≡ None) }
     ensures room { OnOk result (length names.now < limit) }
 {
-    let name = name_at(row, 2)?;
+    let name = name_in(row, 2)?;
     if names.find(name).is_some() {
-        return Err(Flaw {
+        return Err(FieldFault {
             field: 2,
             cause: Cause::Repeated,
         });
     }
     if names.len() >= limit {
-        return Err(Flaw {
+        return Err(FieldFault {
             field: 2,
             cause: Cause::Limit,
         });
