@@ -31,11 +31,12 @@ pub trait Files {
     ghost store_faults: { Self → ℕ };
 
     /// The length of what the name holds, in bytes. `Failed` always comes where the files tell
-    /// that they don't have the name, and else only where `faults` rose.
+    /// that they don't have the name, and else only where `faults` rose; after an answer it stays.
     fn size(&mut self, name: &str) -> Result<u64, Failed>
         ensures length { IfOk result (λ n.
             Told (held self.old) name.now (λ bytes. n ≡ length bytes)) }
         ensures present { OnOk result (HasName (held self.old) name.now) }
+        ensures unfailed { OnOk result (faults self.new ≡ faults self.old) }
         ensures failed { OnErr result
             (HasName (held self.old) name.now → Rose (faults self.old) (faults self.new)) }
         ensures counts { faults self.old ≤ faults self.new }
@@ -44,12 +45,13 @@ pub trait Files {
 
     /// Puts bytes of what the name holds, from a place on (0 is the first byte), in front of `into`
     /// and answers how many: at least one where one is left and `into` isn't empty. `Failed` comes
-    /// as for `size`; nothing is then said of `into`.
+    /// as for `size`; nothing is then said of `into`. After an answer `faults` stays.
     fn read_at(&mut self, name: &str, place: u64, into: &mut [u8]) -> Result<usize, Failed>
         ensures within { IfOk result (λ n. n ≤ length into.old) }
         ensures part { IfOk result (λ n.
             Told (held self.old) name.now (λ bytes. ReadsPart bytes place n into.old into.new)) }
         ensures present { OnOk result (HasName (held self.old) name.now) }
+        ensures unfailed { OnOk result (faults self.new ≡ faults self.old) }
         ensures failed { OnErr result
             (HasName (held self.old) name.now → Rose (faults self.old) (faults self.new)) }
         ensures counts { faults self.old ≤ faults self.new }
@@ -57,10 +59,11 @@ pub trait Files {
         ensures stores { store_faults self.new ≡ store_faults self.old };
 
     /// Puts these bytes under the name, in place of what it held. `Failed` comes only where
-    /// `store_faults` rose; nothing is then said of what the name holds, and every other name has
-    /// what it had. After `OutOfMemory` all is as before.
+    /// `store_faults` rose, which stays after any other answer; nothing is then said of what the
+    /// name holds, and every other name has what it had. After `OutOfMemory` all is as before.
     fn store(&mut self, name: &str, bytes: &[u8]) -> Result<(), StoreFault>
         ensures ok { OnOk result (held self.new ≡ stored (held self.old) name.now bytes.now) }
+        ensures unfailed { OnOk result (store_faults self.new ≡ store_faults self.old) }
         ensures others { IsErrOf result StoreFault.Failed →
             KeepsOthers (held self.old) (held self.new) name.now }
         ensures failed { IsErrOf result StoreFault.Failed →

@@ -1,5 +1,5 @@
 //! A whole text, read from files.
-ghost use Rattle.std.specs.Prelude.{◌≡◌, ◌<◌, ◌≤◌, ◌↔◌, length, take, IfOk, OnErr, vec_len};
+ghost use Rattle.std.specs.Prelude.{◌≡◌, ◌<◌, ◌≤◌, ◌↔◌, length, take, IfOk, OnOk, OnErr, vec_len};
 ghost use Rattle.flow_outside.specs.Counts.{Rose};
 ghost use Rattle.flow_outside.specs.Held.{Told, HasName};
 ghost use Rattle.flow_outside.specs.Loads.{OnRead, UnlessRead, IsTooLong, IfTooLong};
@@ -22,11 +22,12 @@ pub enum LoadFault {
     OutOfMemory,
 }
 
-/// Loads all that the name holds, of at most `limit` bytes. It asks the size once, takes memory for
-/// so many bytes, and reads until it has them or a read gives none.
+/// Loads all that the name holds, of at most `limit` bytes.
 ///
-/// `Read` comes where the size isn't answered or a read fails, and so always where the files tell
-/// that they don't have the name. `TooLong` comes where the size is above the limit.
+/// `Read` comes where the files' count of faults rose in this call, and where the files tell that
+/// they don't have the name. `TooLong` comes where the name holds more bytes than the limit, and
+/// says how many. After any other answer than `Read` the count stays. What the files hold stays as
+/// it was. It takes memory for as many bytes as the name holds, and none where they are too many.
 pub fn load<F: Files>(
     alloc: Global,
     files: &mut F,
@@ -47,6 +48,7 @@ pub fn load<F: Files>(
     ensures present { UnlessRead result (HasName (F.held files.old) name.now) }
     ensures read { OnRead result
         (HasName (F.held files.old) name.now → Rose (F.faults files.old) (F.faults files.new)) }
+    ensures unfailed { UnlessRead result (F.faults files.new ≡ F.faults files.old) }
 
     ensures counts { F.faults files.old ≤ F.faults files.new }
     ensures held { F.held files.new ≡ F.held files.old }
@@ -74,6 +76,7 @@ fn fill<F: Files>(files: &mut F, name: &str, buffer: &mut [u8]) -> Result<usize,
     ensures within { IfOk result (λ n. n ≤ length buffer.old) }
     ensures text { IfOk result (λ n. Told (F.held files.old) name.now
         (λ bytes. length bytes ≡ length buffer.old → take n buffer.new ≡ bytes)) }
+    ensures unfailed { OnOk result (F.faults files.new ≡ F.faults files.old) }
     ensures failed { OnErr result
         (HasName (F.held files.old) name.now → Rose (F.faults files.old) (F.faults files.new)) }
     ensures counts { F.faults files.old ≤ F.faults files.new }

@@ -9,7 +9,7 @@ invariant-loop-taken g l =
     record {
       within : l.taken ≤ length l.buffer;
       read : Told (files.held l.fn.files) l.name (λ bytes. take l.taken l.buffer ≡ take l.taken bytes);
-      later : files.faults l.fn.files ≤ files.faults l.files;
+      faults : files.faults l.files ≡ files.faults l.fn.files;
       held : files.held l.files ≡ files.held l.fn.files;
       stores : files.store_faults l.files ≡ files.store_faults l.fn.files;
     }

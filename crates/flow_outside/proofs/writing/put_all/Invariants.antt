@@ -9,7 +9,7 @@ invariant-loop-put g l =
     record {
       within : l.put ≤ length l.bytes;
       front : sink.written l.sink ≡ appended (sink.written l.fn.sink) (take l.put l.bytes);
-      later : sink.faults l.fn.sink ≤ sink.faults l.sink;
+      faults : sink.faults l.sink ≡ sink.faults l.fn.sink;
     }
 
 abbrev pub decreases-loop-put : goal.decreases-loop-put
