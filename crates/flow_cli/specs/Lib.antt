@@ -1,5 +1,6 @@
 pub mod Answer
 pub mod Answers
+pub mod Exit
 pub mod Faults
 pub mod Judging
 pub mod Lines
