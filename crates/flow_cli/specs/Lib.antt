@@ -4,6 +4,7 @@ pub mod Exit
 pub mod Faults
 pub mod Judging
 pub mod Lines
+pub mod Outside
 pub mod Planning
 pub mod Reading
 pub mod Status

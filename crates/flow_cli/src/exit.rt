@@ -4,6 +4,7 @@ ghost use Rattle.std.specs.Process.{exit_status};
 ghost use Rattle.std.specs.Vec.Iter.{into_iter_items};
 ghost use Rattle.flow_cli.specs.Answer.{Ends};
 ghost use Rattle.flow_cli.specs.Exit.{ExitsWith, words_given};
+ghost use Rattle.flow_cli.specs.Outside.{change};
 
 use crate::running::run;
 use crate::status::Status;
@@ -22,7 +23,8 @@ pub fn exit_code<F: Files, S: Sink>(
     files: &mut F,
     out: &mut S,
 ) -> ExitCode
-    ensures { ExitsWith (F.held files.old) (F.faults files.old) (F.faults files.new) (words_given args) (S.written out.old) (S.written out.new) (exit_status result) }
+    ensures { ExitsWith (change (F.seen files.old) (F.seen files.new))
+        (change (S.seen out.old) (S.seen out.new)) (words_given args) (exit_status result) }
 {
     let status = run_given(alloc, args, files, out);
     ExitCode::from(status.number())
@@ -35,7 +37,8 @@ fn run_given<F: Files, S: Sink>(
     files: &mut F,
     out: &mut S,
 ) -> Status
-    ensures { Ends (F.held files.old) (F.faults files.old) (F.faults files.new) (words_given args) (S.written out.old) (S.written out.new) result }
+    ensures { Ends (change (F.seen files.old) (F.seen files.new))
+        (change (S.seen out.old) (S.seen out.new)) (words_given args) result }
 {
     match words_of(alloc, args) {
         Ok(words) => run(alloc, &words, files, out),

@@ -1,11 +1,14 @@
 //! A run of the program, from its words to its status.
 ghost use Rattle.std.specs.Prelude.{◌≡◌, ◌≤◌, IfOk, map, string_bytes};
 ghost use Rattle.flow_outside.specs.Counts.{Rose};
+ghost use Rattle.flow_outside.specs.Seen.{AreKept};
 ghost use Rattle.flow_cli.specs.Answer.{Ends, IsAnswer};
 ghost use Rattle.flow_cli.specs.Answers.{IfAnswered};
+ghost use Rattle.flow_cli.specs.Outside.{change, printed_by};
+ghost use Rattle.flow_cli.specs.Reading.{IsQuiet};
 ghost use Rattle.flow_cli.specs.Words.{asked};
 
-use crate::answer::{Answer, Halt};
+use crate::answer::{Answer, EarlyEnd};
 use crate::judging::judge_named;
 use crate::planning::plan_named;
 use crate::status::Status;
@@ -36,14 +39,12 @@ trial N
 /// What the files hold stays as it was. It takes memory for a text, the scenario, the plan with its
 /// loads, and the answer.
 pub fn run<F: Files, S: Sink>(alloc: Global, words: &[String], files: &mut F, out: &mut S) -> Status
-    ensures answered { Ends (F.held files.old) (F.faults files.old) (F.faults files.new)
-        (map string_bytes words.now) (S.written out.old) (S.written out.new) result }
+    ensures answered { Ends (change (F.seen files.old) (F.seen files.new))
+        (change (S.seen out.old) (S.seen out.new)) (map string_bytes words.now) result }
     // WriteFault comes only where the output failed.
-    ensures write_fault { result ≡ Status.WriteFault → Rose (S.faults out.old) (S.faults out.new) }
-    ensures held { F.held files.new ≡ F.held files.old }
-    ensures stores { F.store_faults files.new ≡ F.store_faults files.old }
-    ensures counts { F.faults files.old ≤ F.faults files.new }
-    ensures write_counts { S.faults out.old ≤ S.faults out.new }
+    ensures write_fault { result ≡ Status.WriteFault → Rose (S.seen out.old).faults (S.seen out.new).faults }
+    ensures kept { AreKept (F.seen files.old) (F.seen files.new) }
+    ensures write_counts { (S.seen out.old).faults ≤ (S.seen out.new).faults }
 {
     match answer_to(alloc, words, files) {
         Err(OutOfMemory) => Status::OutOfMemory,
@@ -60,26 +61,24 @@ fn answer_to<F: Files>(
     words: &[String],
     files: &mut F,
 ) -> Result<Answer, OutOfMemory>
-    ensures answered { IfOk result (λ answer. IsAnswer (F.held files.old) (F.faults files.old) (F.faults files.new)
-        (asked (map string_bytes words.now)) answer.text.items answer.status) }
-    ensures held { F.held files.new ≡ F.held files.old }
-    ensures stores { F.store_faults files.new ≡ F.store_faults files.old }
-    ensures counts { F.faults files.old ≤ F.faults files.new }
+    ensures answered { IfOk result (λ answer. IsAnswer (change (F.seen files.old) (F.seen files.new))
+        (asked (map string_bytes words.now)) (printed_by answer)) }
+    ensures quiet { IfOk result (λ answer. IsQuiet (change (F.seen files.old) (F.seen files.new)) (printed_by answer)) }
+    ensures kept { AreKept (F.seen files.old) (F.seen files.new) }
 {
     match work(alloc, words, files) {
         Ok(answer) => Ok(answer),
-        Err(Halt::Answered(answer)) => Ok(answer),
-        Err(Halt::OutOfMemory) => Err(OutOfMemory),
+        Err(EarlyEnd::Answered(answer)) => Ok(answer),
+        Err(EarlyEnd::OutOfMemory) => Err(OutOfMemory),
     }
 }
 
 // The work of the command in the words.
-fn work<F: Files>(alloc: Global, words: &[String], files: &mut F) -> Result<Answer, Halt>
-    ensures answered { IfAnswered result (IsAnswer (F.held files.old) (F.faults files.old) (F.faults files.new)
+fn work<F: Files>(alloc: Global, words: &[String], files: &mut F) -> Result<Answer, EarlyEnd>
+    ensures answered { IfAnswered result (IsAnswer (change (F.seen files.old) (F.seen files.new))
         (asked (map string_bytes words.now))) }
-    ensures held { F.held files.new ≡ F.held files.old }
-    ensures stores { F.store_faults files.new ≡ F.store_faults files.old }
-    ensures counts { F.faults files.old ≤ F.faults files.new }
+    ensures quiet { IfAnswered result (IsQuiet (change (F.seen files.old) (F.seen files.new))) }
+    ensures kept { AreKept (F.seen files.old) (F.seen files.new) }
 {
     match command_of(words) {
         Some(Command::Plan { name }) => plan_named(alloc, files, name),

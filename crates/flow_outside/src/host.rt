@@ -105,11 +105,7 @@ impl<R: rt::Files> HostFiles<R> {
 impl<R: rt::Files> Files for HostFiles<R> {
     ghost use Rattle.std.specs.Prelude.{None};
 
-    ghost held = { λ _. None };
-
-    ghost faults = { λ h. h.faults };
-
-    ghost store_faults = { λ h. h.store_faults };
+    ghost seen = { λ h. record { held = None; faults = h.faults; store_faults = h.store_faults } };
 
     fn size(&mut self, name: &str) -> Result<u64, Failed>
         ensures after { self.new ≡ record self.old { faults = count_after result self.old.faults } }
@@ -147,9 +143,7 @@ impl<R: Print> HostSink<R> {
 impl<R: Print> Sink for HostSink<R> {
     ghost use Rattle.std.specs.Prelude.{None};
 
-    ghost written = { λ _. None };
-
-    ghost faults = { λ h. h };
+    ghost seen = { λ count. record { written = None; faults = count } };
 
     fn write(&mut self, bytes: &[u8]) -> Result<usize, Failed>
         ensures within { IfOk result (λ n. n ≤ length bytes.now) }

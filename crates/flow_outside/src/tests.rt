@@ -35,11 +35,7 @@ impl Dripping {
 }
 
 impl Files for Dripping {
-    ghost held = { λ _. None };
-
-    ghost faults = { λ d. d.faults };
-
-    ghost store_faults = { λ _. 0 };
+    ghost seen = { λ d. record { held = None; faults = d.faults; store_faults = 0 } };
 
     fn size(&mut self, _name: &str) -> Result<u64, Failed> {
         self.call()?;
