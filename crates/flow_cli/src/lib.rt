@@ -38,6 +38,3 @@ mod words;
 pub use exit::exit_code;
 pub use running::run;
 pub use status::Status;
-
-#[cfg(test)]
-mod tests;
