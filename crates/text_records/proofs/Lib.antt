@@ -3,3 +3,4 @@ pub mod FieldFacts
 pub mod ScanFacts
 pub mod ClippedFacts
 pub mod NameFacts
+pub mod LineFacts
