@@ -148,7 +148,7 @@ module _ (leave : ℕ) (few : leave ≤ 1000000) where
       (is_scenario leave 9 9 few (omega arith) (omega arith)).flights are_chains feasible.trips both_least
 
 -- So the day is planned as is printed: the plan is optimal.
-pub optimal_day : IsPlannedDay (two_flights 2) optimal_text Done
+pub optimal_day : IsPlannedDay (two_flights 2) (record { text = optimal_text; status = Done })
 optimal_day = record {
   plan = Some on_time;
   bound = AtLeast (pos 0);
@@ -161,7 +161,7 @@ optimal_day = record {
 }
 
 -- Where one may leave in a period, both can't keep the schedule: the answer is open, without a plan.
-open_day : IsPlannedDay (two_flights 1) none_found_text OpenGap
+open_day : IsPlannedDay (two_flights 1) (record { text = none_found_text; status = OpenGap })
 open_day = record {
   plan = None;
   bound = AtLeast (pos 0);
@@ -197,7 +197,7 @@ is_flight = record {
 too_late : HasEarliest 8 too_far → ⊥
 too_late has = omega (arith, has)
 
-infeasible_day : IsPlannedDay day_too_far infeasible_text Infeasible
+infeasible_day : IsPlannedDay day_too_far (record { text = infeasible_text; status = Infeasible })
 infeasible_day = record {
   plan = None;
   bound = NoPlan;

@@ -1,48 +1,52 @@
 -- How a run ends.
 use Rattle.std.specs.Prelude.{◌≡◌, ◌⊎◌, ℕ, List, Option, None, Some}
-use Rattle.flow_outside.specs.Held.{Held}
+use Rattle.flow_outside.specs.Counts.{Rose}
+use Rattle.flow_outside.specs.Seen.{FilesSeen, SinkSeen}
 use Rattle.flow_outside.specs.Written.{appended, AppendsPart}
 use Rattle.flow_cli.specs.declared.status.Status.{Status}
 use Rattle.flow_cli.specs.declared.status.Status.TheVariants.{OutOfMemory, Usage, WriteFault}
 use Rattle.flow_cli.specs.Judging.{IsOfJudge}
+use Rattle.flow_cli.specs.Outside.{Change, Printed}
 use Rattle.flow_cli.specs.Planning.{IsOfPlan}
+use Rattle.flow_cli.specs.Reading.{IsQuiet}
 use Rattle.flow_cli.specs.Words.{Asked, Judged, Planned, asked, usage_text}
 
 -- the answer to words that are no command's
-pub record IsUsage (printed : List ℕ) (status : Status) : Type 0 where
-  pub ends : status ≡ Usage
-  pub text : printed ≡ usage_text
+pub record IsUsage (answer : Printed) : Type 0 where
+  pub ends : answer.status ≡ Usage
+  pub text : answer.text ≡ usage_text
 
 -- the answer to what is asked for
-abbrev pub IsAnswer : Option Held → ℕ → ℕ → Option Asked → List ℕ → Status → Type 0
-IsAnswer held before now None printed status = IsUsage printed status
-IsAnswer held before now (Some (Planned name)) printed status = IsOfPlan held before now name printed status
-IsAnswer held before now (Some (Judged name plan)) printed status = IsOfJudge held before now name plan printed status
+abbrev pub IsAnswer : Change FilesSeen → Option Asked → Printed → Type 0
+IsAnswer files None answer = IsUsage answer
+IsAnswer files (Some (Planned name)) answer = IsOfPlan files name answer
+IsAnswer files (Some (Judged name plan)) answer = IsOfJudge files name plan answer
 
 -- the whole answer is written
-pub record IsWritten (held : Option Held) (before now : ℕ) (words : List (List ℕ))
-    (written_before written_now : Option (List ℕ)) (status : Status) : Type 0 where
-  pub printed : List ℕ
-  pub answer : IsAnswer held before now (asked words) printed status
-  pub whole : written_now ≡ appended written_before printed
+pub record IsWritten (files : Change FilesSeen) (out : Change SinkSeen) (words : List (List ℕ)) (status : Status) : Type 0 where
+  pub answer : Printed
+  pub of_words : IsAnswer files (asked words) answer
+  pub quiet : IsQuiet files answer
+  pub ends : status ≡ answer.status
+  pub whole : out.now.written ≡ appended out.before.written answer.text
+  pub unfailed : out.now.faults ≡ out.before.faults
 
 -- the answer is written in part
-pub record IsCutShort (held : Option Held) (before now : ℕ) (words : List (List ℕ))
-    (written_before written_now : Option (List ℕ)) (status : Status) : Type 0 where
+pub record IsCutShort (files : Change FilesSeen) (out : Change SinkSeen) (words : List (List ℕ)) (status : Status) : Type 0 where
+  pub answer : Printed
+  pub of_words : IsAnswer files (asked words) answer
+  pub quiet : IsQuiet files answer
   pub ends : status ≡ WriteFault
-  pub printed : List ℕ
-  pub of_answer : Status
-  pub answer : IsAnswer held before now (asked words) printed of_answer
-  pub part : AppendsPart written_before written_now printed
+  pub part : AppendsPart out.before.written out.now.written answer.text
+  pub failed : Rose out.before.faults out.now.faults
 
 -- there was no memory for the answer, and nothing is written
-pub record IsUnwritten (written_before written_now : Option (List ℕ)) (status : Status) : Type 0 where
+pub record IsUnwritten (out : Change SinkSeen) (status : Status) : Type 0 where
   pub ends : status ≡ OutOfMemory
-  pub same : written_now ≡ written_before
+  pub same : out.now.written ≡ out.before.written
+  pub unfailed : out.now.faults ≡ out.before.faults
 
 -- how a run with these words ends
-abbrev pub Ends : Option Held → ℕ → ℕ → List (List ℕ) → Option (List ℕ) → Option (List ℕ) → Status → Type 0
-Ends held before now words written_before written_now status =
-    IsWritten held before now words written_before written_now status
-    ⊎ (IsCutShort held before now words written_before written_now status
-    ⊎ IsUnwritten written_before written_now status)
+abbrev pub Ends : Change FilesSeen → Change SinkSeen → List (List ℕ) → Status → Type 0
+Ends files out words status =
+    IsWritten files out words status ⊎ (IsCutShort files out words status ⊎ IsUnwritten out status)

@@ -1,21 +1,21 @@
 -- How a piece of work ends early: with the answer, or for want of memory.
-use Rattle.std.specs.Prelude.{ℕ, List, Result, Ok, Err}
+use Rattle.std.specs.Prelude.{Result, Ok, Err}
 use Rattle.flow_cli.specs.declared.answer.Answer.{Answer}
-use Rattle.flow_cli.specs.declared.answer.Halt.{Halt}
-use Rattle.flow_cli.specs.declared.answer.Halt.TheVariants.{Answered, OutOfMemory}
-use Rattle.flow_cli.specs.declared.status.Status.{Status}
+use Rattle.flow_cli.specs.declared.answer.EarlyEnd.{EarlyEnd}
+use Rattle.flow_cli.specs.declared.answer.EarlyEnd.TheVariants.{Answered, OutOfMemory}
+use Rattle.flow_cli.specs.Outside.{Printed, printed_by}
 
--- a fact of what is printed and of the status, unless there was no memory
-abbrev pub OnHalt : Halt → (List ℕ → Status → Type 0) → Type 0
-OnHalt (Answered answer) P = P answer.text.items answer.status
-OnHalt OutOfMemory P = Unit {0}
+-- a fact of what is printed, unless there was no memory
+abbrev pub OnEarlyEnd : EarlyEnd → (Printed → Type 0) → Type 0
+OnEarlyEnd (Answered answer) P = P (printed_by answer)
+OnEarlyEnd OutOfMemory P = Unit {0}
 
--- the same where the work goes on else
-abbrev pub IfHalted : {A : Type 0} → Result A Halt → (List ℕ → Status → Type 0) → Type 0
-IfHalted (Ok a) P = Unit {0}
-IfHalted (Err halt) P = OnHalt halt P
+-- a fact of what is printed where the work ended early
+abbrev pub IfEarly : {A : Type 0} → Result A EarlyEnd → (Printed → Type 0) → Type 0
+IfEarly (Ok a) P = Unit {0}
+IfEarly (Err early) P = OnEarlyEnd early P
 
--- the same of an answer, whether it came early or not
-abbrev pub IfAnswered : Result Answer Halt → (List ℕ → Status → Type 0) → Type 0
-IfAnswered (Ok answer) P = P answer.text.items answer.status
-IfAnswered (Err halt) P = OnHalt halt P
+-- a fact of what is printed, whether the answer came early or not
+abbrev pub IfAnswered : Result Answer EarlyEnd → (Printed → Type 0) → Type 0
+IfAnswered (Ok answer) P = P (printed_by answer)
+IfAnswered (Err early) P = OnEarlyEnd early P

@@ -1,8 +1,10 @@
 pub mod Answer
 pub mod Answers
+pub mod Exit
 pub mod Faults
 pub mod Judging
 pub mod Lines
+pub mod Outside
 pub mod Planning
 pub mod Reading
 pub mod Status

@@ -2,16 +2,22 @@
 use Rattle.std.specs.Prelude.{◌≡◌, ◌⊎◌, ℕ, ◌<◌, ◌≤◌, List, length, codes, Option, Ok, Err}
 use Rattle.flow_outside.specs.Counts.{Rose}
 use Rattle.flow_outside.specs.Held.{Held, Told, HasName}
+use Rattle.flow_outside.specs.Seen.{FilesSeen}
 use Rattle.flow_types.specs.declared.fault.Fault.{Fault}
 use Rattle.flow_types.specs.declared.parts.Parts.{Parts}
 use Rattle.scenario_reader.specs.Reading.{scenario_of}
 use Rattle.flow_cli.specs.declared.status.Status.{Status}
 use Rattle.flow_cli.specs.declared.status.Status.TheVariants.{BadScenario, ReadFault, TooLong}
 use Rattle.flow_cli.specs.Faults.{fault_text, too_long_text}
+use Rattle.flow_cli.specs.Outside.{Change, Printed}
 
 -- the most bytes of a text
 abbrev pub most_bytes : ℕ
 most_bytes = 67108864
+
+-- only an answer that a read failed raises the count of faults
+abbrev pub IsQuiet : Change FilesSeen → Printed → Type 0
+IsQuiet files answer = (answer.status ≡ ReadFault → ⊥) → files.now.faults ≡ files.before.faults
 
 -- the name is there and holds these bytes, no more than a text may have
 pub record IsTextOf (held : Option Held) (name bytes : List ℕ) : Type 0 where
@@ -20,23 +26,23 @@ pub record IsTextOf (held : Option Held) (name bytes : List ℕ) : Type 0 where
   pub within : length bytes ≤ most_bytes
 
 -- the name is there and holds more bytes than a text may have
-pub record IsTooMany (held : Option Held) (name printed : List ℕ) (status : Status) : Type 0 where
+pub record IsTooMany (held : Option Held) (name : List ℕ) (answer : Printed) : Type 0 where
   pub present : HasName held name
-  pub ends : status ≡ TooLong
+  pub ends : answer.status ≡ TooLong
   pub size : ℕ
   pub source : Told held name (λ told. size ≡ length told)
   pub above : most_bytes < size
-  pub text : printed ≡ too_long_text size
+  pub text : answer.text ≡ too_long_text size
 
--- the name isn't there, or a call failed; the counts are those of the files' faults
-pub record IsFailed (held : Option Held) (before now : ℕ) (name printed : List ℕ) (status : Status) : Type 0 where
-  pub ends : status ≡ ReadFault
-  pub failed : HasName held name → Rose before now
-  pub text : printed ≡ codes "fault,read\n"
+-- the name isn't there, or a call failed
+pub record IsFailed (files : Change FilesSeen) (name : List ℕ) (answer : Printed) : Type 0 where
+  pub ends : answer.status ≡ ReadFault
+  pub failed : HasName files.before.held name → Rose files.before.faults files.now.faults
+  pub text : answer.text ≡ codes "fault,read\n"
 
 -- the answer where the text of a name isn't read
-abbrev pub IsUnread : Option Held → ℕ → ℕ → List ℕ → List ℕ → Status → Type 0
-IsUnread held before now name printed status = IsTooMany held name printed status ⊎ IsFailed held before now name printed status
+abbrev pub IsUnread : Change FilesSeen → List ℕ → Printed → Type 0
+IsUnread files name answer = IsTooMany files.before.held name answer ⊎ IsFailed files name answer
 
 -- the name holds the text of this scenario
 pub record IsDayOf (held : Option Held) (name : List ℕ) (parts : Parts) : Type 0 where
@@ -45,15 +51,14 @@ pub record IsDayOf (held : Option Held) (name : List ℕ) (parts : Parts) : Type
   pub read : scenario_of bytes ≡ Ok parts
 
 -- the name holds a text that is no scenario: what is printed is its first fault
-pub record IsNoDay (held : Option Held) (name printed : List ℕ) (status : Status) : Type 0 where
+pub record IsNoDay (held : Option Held) (name : List ℕ) (answer : Printed) : Type 0 where
   pub bytes : List ℕ
   pub source : IsTextOf held name bytes
   pub fault : Fault
   pub read : scenario_of bytes ≡ Err fault
-  pub ends : status ≡ BadScenario
-  pub text : printed ≡ fault_text fault
+  pub ends : answer.status ≡ BadScenario
+  pub text : answer.text ≡ fault_text fault
 
 -- the answer where there is no day under the name
-abbrev pub IsWithoutDay : Option Held → ℕ → ℕ → List ℕ → List ℕ → Status → Type 0
-IsWithoutDay held before now name printed status =
-    IsNoDay held name printed status ⊎ IsUnread held before now name printed status
+abbrev pub IsWithoutDay : Change FilesSeen → List ℕ → Printed → Type 0
+IsWithoutDay files name answer = IsNoDay files.before.held name answer ⊎ IsUnread files name answer

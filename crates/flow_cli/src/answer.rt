@@ -24,21 +24,21 @@ impl Answer {
     }
 }
 
-/// Why the work goes no further.
+/// How a piece of work ends before its end.
 #[derive(Drop)]
-pub enum Halt {
+pub enum EarlyEnd {
     /// The answer is there already.
     Answered(Answer),
     OutOfMemory,
 }
 
-impl From<OutOfMemory> for Halt {
+impl From<OutOfMemory> for EarlyEnd {
     ghost use Rattle.std.specs.Prelude.{◌≡◌};
-    ghost use Rattle.flow_cli.specs.declared.answer.Halt.TheVariants as halt;
+    ghost use Rattle.flow_cli.specs.declared.answer.EarlyEnd.TheVariants as halt;
 
     ghost from_gives = { λ _ e. e ≡ halt.OutOfMemory };
 
     fn from(_: OutOfMemory) -> Self {
-        Halt::OutOfMemory
+        EarlyEnd::OutOfMemory
     }
 }

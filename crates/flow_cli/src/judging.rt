@@ -1,10 +1,13 @@
 //! The command `judge`.
-ghost use Rattle.std.specs.Prelude.{◌≡◌, ◌≤◌, IfOk};
+ghost use Rattle.std.specs.Prelude.{◌≡◌, IfOk};
+ghost use Rattle.flow_outside.specs.Seen.{AreKept};
 ghost use Rattle.flow_types.specs.Scenario.{parts_of};
 ghost use Rattle.flow_cli.specs.Answers.{IfAnswered};
 ghost use Rattle.flow_cli.specs.Judging.{IsOfJudge, IsOfPlanOf, IsVerdict};
+ghost use Rattle.flow_cli.specs.Outside.{change, printed_by};
+ghost use Rattle.flow_cli.specs.Reading.{IsQuiet};
 
-use crate::answer::{Answer, Halt};
+use crate::answer::{Answer, EarlyEnd};
 use crate::faults::fault_line;
 use crate::reading::{day_of, text_of};
 use crate::status::Status;
@@ -22,11 +25,10 @@ pub fn judge_named<F: Files>(
     files: &mut F,
     name: &str,
     plan: &str,
-) -> Result<Answer, Halt>
-    ensures answered { IfAnswered result (IsOfJudge (F.held files.old) (F.faults files.old) (F.faults files.new) name.now plan.now) }
-    ensures held { F.held files.new ≡ F.held files.old }
-    ensures stores { F.store_faults files.new ≡ F.store_faults files.old }
-    ensures counts { F.faults files.old ≤ F.faults files.new }
+) -> Result<Answer, EarlyEnd>
+    ensures answered { IfAnswered result (IsOfJudge (change (F.seen files.old) (F.seen files.new)) name.now plan.now) }
+    ensures quiet { IfAnswered result (IsQuiet (change (F.seen files.old) (F.seen files.new))) }
+    ensures kept { AreKept (F.seen files.old) (F.seen files.new) }
 {
     let s = day_of(alloc, files, name)?;
     judge_of(alloc, &s, files, plan)
@@ -38,11 +40,10 @@ fn judge_of<F: Files>(
     s: &Scenario,
     files: &mut F,
     name: &str,
-) -> Result<Answer, Halt>
-    ensures answered { IfAnswered result (IsOfPlanOf (parts_of s.now) (F.held files.old) (F.faults files.old) (F.faults files.new) name.now) }
-    ensures held { F.held files.new ≡ F.held files.old }
-    ensures stores { F.store_faults files.new ≡ F.store_faults files.old }
-    ensures counts { F.faults files.old ≤ F.faults files.new }
+) -> Result<Answer, EarlyEnd>
+    ensures answered { IfAnswered result (IsOfPlanOf (parts_of s.now) (change (F.seen files.old) (F.seen files.new)) name.now) }
+    ensures quiet { IfAnswered result (IsQuiet (change (F.seen files.old) (F.seen files.new))) }
+    ensures kept { AreKept (F.seen files.old) (F.seen files.new) }
 {
     let text = text_of(alloc, files, name)?;
     match read_plan(alloc, s, &text) {
@@ -51,13 +52,13 @@ fn judge_of<F: Files>(
             text: fault_line(alloc, fault)?,
             status: Status::BadPlan,
         }),
-        Err(Refusal::OutOfMemory) => Err(Halt::OutOfMemory),
+        Err(Refusal::OutOfMemory) => Err(EarlyEnd::OutOfMemory),
     }
 }
 
 // The verdict on a plan.
 fn judge_plan(alloc: Global, s: &Scenario, plan: &Plan) -> Result<Answer, OutOfMemory>
-    ensures { IfOk result (λ answer. IsVerdict (parts_of s.now) plan.now answer.text.items answer.status) }
+    ensures { IfOk result (λ answer. IsVerdict (parts_of s.now) plan.now (printed_by answer)) }
 {
     // what is found first is broken, and what comes before it is kept
     first_broken_rules_are_first();

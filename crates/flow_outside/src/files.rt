@@ -1,7 +1,8 @@
 //! Files, by name.
-ghost use Rattle.std.specs.Prelude.{◌≡◌, ◌≤◌, Option, ℕ, length, IfOk, OnOk, OnErr, IsErrOf};
+ghost use Rattle.std.specs.Prelude.{◌≡◌, ◌≤◌, length, IfOk, OnOk, OnErr, IsErrOf};
 ghost use Rattle.flow_outside.specs.Counts.{Rose};
-ghost use Rattle.flow_outside.specs.Held.{Held, Told, HasName, ReadsPart, stored, KeepsOthers};
+ghost use Rattle.flow_outside.specs.Held.{Told, HasName, ReadsPart, stored, KeepsOthers};
+ghost use Rattle.flow_outside.specs.Seen.{AreKept, FilesSeen};
 
 /// A call on files or on an output failed.
 #[derive(Clone, Copy, Debug, PartialEq, Eq)]
@@ -21,53 +22,47 @@ pub enum StoreFault {
 /// The two counts of faults are 64 bits wide. They never fall, and stop at their last value, where
 /// a fault needs no rise.
 pub trait Files {
-    /// What the names hold, where it is told.
-    ghost held: { Self → Option Held };
-
-    /// How often `size` and `read_at` failed.
-    ghost faults: { Self → ℕ };
-
-    /// How often `store` failed.
-    ghost store_faults: { Self → ℕ };
+    /// What the names hold, where it is told, how often `size` and `read_at` failed, and how often
+    /// `store` did.
+    ghost seen: { Self → FilesSeen };
 
     /// The length of what the name holds, in bytes. `Failed` always comes where the files tell
-    /// that they don't have the name, and else only where `faults` rose.
+    /// that they don't have the name, and else only where `faults` rose; after an answer it stays.
     fn size(&mut self, name: &str) -> Result<u64, Failed>
         ensures length { IfOk result (λ n.
-            Told (held self.old) name.now (λ bytes. n ≡ length bytes)) }
-        ensures present { OnOk result (HasName (held self.old) name.now) }
+            Told (seen self.old).held name.now (λ bytes. n ≡ length bytes)) }
+        ensures present { OnOk result (HasName (seen self.old).held name.now) }
+        ensures unfailed { OnOk result ((seen self.new).faults ≡ (seen self.old).faults) }
         ensures failed { OnErr result
-            (HasName (held self.old) name.now → Rose (faults self.old) (faults self.new)) }
-        ensures counts { faults self.old ≤ faults self.new }
-        ensures held { held self.new ≡ held self.old }
-        ensures stores { store_faults self.new ≡ store_faults self.old };
+            (HasName (seen self.old).held name.now → Rose (seen self.old).faults (seen self.new).faults) }
+        ensures kept { AreKept (seen self.old) (seen self.new) };
 
     /// Puts bytes of what the name holds, from a place on (0 is the first byte), in front of `into`
     /// and answers how many: at least one where one is left and `into` isn't empty. `Failed` comes
-    /// as for `size`; nothing is then said of `into`.
+    /// as for `size`; nothing is then said of `into`. After an answer `faults` stays.
     fn read_at(&mut self, name: &str, place: u64, into: &mut [u8]) -> Result<usize, Failed>
         ensures within { IfOk result (λ n. n ≤ length into.old) }
         ensures part { IfOk result (λ n.
-            Told (held self.old) name.now (λ bytes. ReadsPart bytes place n into.old into.new)) }
-        ensures present { OnOk result (HasName (held self.old) name.now) }
+            Told (seen self.old).held name.now (λ bytes. ReadsPart bytes place n into.old into.new)) }
+        ensures present { OnOk result (HasName (seen self.old).held name.now) }
+        ensures unfailed { OnOk result ((seen self.new).faults ≡ (seen self.old).faults) }
         ensures failed { OnErr result
-            (HasName (held self.old) name.now → Rose (faults self.old) (faults self.new)) }
-        ensures counts { faults self.old ≤ faults self.new }
-        ensures held { held self.new ≡ held self.old }
-        ensures stores { store_faults self.new ≡ store_faults self.old };
+            (HasName (seen self.old).held name.now → Rose (seen self.old).faults (seen self.new).faults) }
+        ensures kept { AreKept (seen self.old) (seen self.new) };
 
     /// Puts these bytes under the name, in place of what it held. `Failed` comes only where
-    /// `store_faults` rose; nothing is then said of what the name holds, and every other name has
-    /// what it had. After `OutOfMemory` all is as before.
+    /// `store_faults` rose, which stays after any other answer; nothing is then said of what the
+    /// name holds, and every other name has what it had. After `OutOfMemory` all is as before.
     fn store(&mut self, name: &str, bytes: &[u8]) -> Result<(), StoreFault>
-        ensures ok { OnOk result (held self.new ≡ stored (held self.old) name.now bytes.now) }
+        ensures ok { OnOk result ((seen self.new).held ≡ stored (seen self.old).held name.now bytes.now) }
+        ensures unfailed { OnOk result ((seen self.new).store_faults ≡ (seen self.old).store_faults) }
         ensures others { IsErrOf result StoreFault.Failed →
-            KeepsOthers (held self.old) (held self.new) name.now }
+            KeepsOthers (seen self.old).held (seen self.new).held name.now }
         ensures failed { IsErrOf result StoreFault.Failed →
-            Rose (store_faults self.old) (store_faults self.new) }
-        ensures unchanged { IsErrOf result StoreFault.OutOfMemory → held self.new ≡ held self.old }
+            Rose (seen self.old).store_faults (seen self.new).store_faults }
+        ensures unchanged { IsErrOf result StoreFault.OutOfMemory → (seen self.new).held ≡ (seen self.old).held }
         ensures uncounted { IsErrOf result StoreFault.OutOfMemory →
-            store_faults self.new ≡ store_faults self.old }
-        ensures counts { store_faults self.old ≤ store_faults self.new }
-        ensures faults { faults self.new ≡ faults self.old };
+            (seen self.new).store_faults ≡ (seen self.old).store_faults }
+        ensures counts { (seen self.old).store_faults ≤ (seen self.new).store_faults }
+        ensures faults { (seen self.new).faults ≡ (seen self.old).faults };
 }

@@ -1,8 +1,8 @@
 //! The files and the standard output of the system. They are the trusted edge: no clause says which
 //! bytes the system reads or writes.
-ghost use Rattle.std.specs.Prelude.{◌≡◌, ◌<◌, ◌≤◌, length, IfOk, OnErr};
+ghost use Rattle.std.specs.Prelude.{◌≡◌, ◌<◌, ◌≤◌, length, Err, IfOk, OnErr};
 ghost use Rattle.std.specs.Result.{result_ok};
-ghost use Rattle.flow_outside.specs.Counts.{Rose};
+ghost use Rattle.flow_outside.specs.Counts.{count_after};
 
 use crate::schedule::one_more;
 use crate::{Failed, Files, Sink, StoreFault};
@@ -11,7 +11,8 @@ use std::marker::Model;
 use std::{fs, io, rt};
 
 /// The system's files, which tell nothing of what they hold. A name is a path. Each error raises
-/// the count that its call belongs to; contracts see the two counts.
+/// the count that its call belongs to by one, and nothing else changes a count; contracts see the
+/// two counts.
 #[derive(Drop)]
 pub struct HostFiles<R> {
     rt: R,
@@ -19,8 +20,8 @@ pub struct HostFiles<R> {
     store_faults: u64,
 }
 
-/// The standard output, which doesn't tell what was written. Each error raises the count, which
-/// contracts see.
+/// The standard output, which doesn't tell what was written. Each error raises the count by one, and
+/// nothing else changes it; contracts see the count.
 #[derive(Drop)]
 pub struct HostSink<R> {
     rt: R,
@@ -46,8 +47,7 @@ impl<R> Model for HostSink<R> {
 /// Hands an answer of the system on. An error raises the count.
 fn counted<T>(answer: io::Result<T>, count: &mut u64) -> Result<T, Failed>
     ensures value { result_ok result ≡ result_ok answer }
-    ensures rose { OnErr result (Rose count.old count.new) }
-    ensures counts { count.old ≤ count.new }
+    ensures count { count.new ≡ count_after result count.old }
 {
     match answer {
         Ok(value) => Ok(value),
@@ -105,21 +105,27 @@ impl<R: rt::Files> HostFiles<R> {
 impl<R: rt::Files> Files for HostFiles<R> {
     ghost use Rattle.std.specs.Prelude.{None};
 
-    ghost held = { λ _. None };
+    ghost seen = { λ h. record { held = None; faults = h.faults; store_faults = h.store_faults } };
 
-    ghost faults = { λ h. h.faults };
-
-    ghost store_faults = { λ h. h.store_faults };
-
-    fn size(&mut self, name: &str) -> Result<u64, Failed> {
+    fn size(&mut self, name: &str) -> Result<u64, Failed>
+        ensures after { self.new ≡ record self.old { faults = count_after result self.old.faults } }
+    {
         counted(file_len(&self.rt, name), &mut self.faults)
     }
 
-    fn read_at(&mut self, name: &str, place: u64, into: &mut [u8]) -> Result<usize, Failed> {
+    fn read_at(&mut self, name: &str, place: u64, into: &mut [u8]) -> Result<usize, Failed>
+        ensures within { IfOk result (λ n. n ≤ length into.old) }
+        ensures after { self.new ≡ record self.old { faults = count_after result self.old.faults } }
+    {
         counted(read_part(&self.rt, name, place, into), &mut self.faults)
     }
 
-    fn store(&mut self, name: &str, bytes: &[u8]) -> Result<(), StoreFault> {
+    fn store(&mut self, name: &str, bytes: &[u8]) -> Result<(), StoreFault>
+        ensures failed { OnErr result (result ≡ Err StoreFault.Failed) }
+        ensures after { self.new ≡ record self.old {
+          store_faults = count_after result self.old.store_faults;
+        } }
+    {
         let stored = fs::write(&self.rt, name, bytes);
         counted(stored, &mut self.store_faults).map_err(|_| StoreFault::Failed)
     }
@@ -137,11 +143,13 @@ impl<R: Print> HostSink<R> {
 impl<R: Print> Sink for HostSink<R> {
     ghost use Rattle.std.specs.Prelude.{None};
 
-    ghost written = { λ _. None };
+    ghost seen = { λ count. record { written = None; faults = count } };
 
-    ghost faults = { λ h. h };
-
-    fn write(&mut self, bytes: &[u8]) -> Result<usize, Failed> {
+    fn write(&mut self, bytes: &[u8]) -> Result<usize, Failed>
+        ensures within { IfOk result (λ n. n ≤ length bytes.now) }
+        ensures some { IfOk result (λ n. 0 < length bytes.now → 0 < n) }
+        ensures after { self.new ≡ count_after result self.old }
+    {
         counted(write_part(&self.rt, bytes), &mut self.faults)
     }
 }

@@ -1,28 +1,41 @@
 //! The outside of the program: files and an output as traits, in memory and real.
 //!
 //! A caller is generic over [`Files`] and [`Sink`]. It reads a whole text by [`load`], writes one
-//! by [`put_all`], and stores one by [`Files::store`]. Tests hand in [`MemoryFiles`] and
-//! [`MemorySink`], which tell what they hold and fail at the calls that were named; `main` hands in
-//! [`HostFiles`] and [`HostSink`].
+//! by [`put_all`], and stores one by [`Files::store`]:
 //!
-//! Nobody can rule a fault of a device out, so each object counts its faults, and a call answers a
-//! fault only where the object's count rose in that call: a body can't blame the device by itself.
-//! A count stops at its last value, and a fault needs no rise there.
+//!     // Copies the text of a name to the output, and says whether all of it is there.
+//!     fn copy<F: Files, S: Sink>(alloc: Global, files: &mut F, out: &mut S, name: &str) -> bool {
+//!         match load(alloc, files, name, 1_000_000) {
+//!             Ok(text) => put_all(out, &text).is_ok(),
+//!             Err(_) => false,
+//!         }
+//!     }
+//!
+//!     copy(alloc, &mut HostFiles::new(&rt), &mut HostSink::new(&rt), "day.csv")
+//!
+//! Tests hand in [`MemoryFiles`] and [`MemorySink`], which tell what they hold and fail at the calls
+//! that were named; a program hands in [`HostFiles`] and [`HostSink`].
+//!
+//! Nobody can rule a fault of a device out, so each object counts its faults. A call answers a fault
+//! only where the object's count rose in that call, and leaves the count as it was after any other
+//! answer: a body can neither blame the device by itself nor hide a fault. A count is 64 bits wide
+//! and stops at its last value, where a fault needs no rise.
 //!
 //! What is proved, by these clauses:
 //!
 //! - `load`: where the files tell what they hold, an answer is exactly what the name holds
 //!   (`text`), and `TooLong` comes exactly above the limit, with the length (`too_long`, `size`).
 //!   Told or not, a text is within the limit (`within`). `Read` comes only where the count rose or
-//!   the files tell that they don't have the name (`read`), and always for such a name (`present`).
-//! - `put_all`: all bytes were appended (`all`), or a part of them, and the count rose (`part`,
-//!   `failed`).
-//! - The objects in memory: what each call answers and leaves (`answer`, `count`, `after`).
-//! - The system's files and output: that a fault is answered only with a count. What they read and
-//!   write is trusted.
+//!   the files tell that they don't have the name (`read`), and always for such a name (`present`);
+//!   after any other answer the count is as before (`unfailed`).
+//! - `put_all`: all bytes were appended, and the count is as before (`all`, `unfailed`), or a part
+//!   of them, and the count rose (`part`, `failed`).
+//! - The objects in memory: what each call answers and leaves (`answer`, `count`, `part`, `after`).
+//! - The system's files and output: each call raises its count by one at a fault, and else no count
+//!   changes (`after`). What they read and write is trusted.
 //!
-//! Memory: `load` takes the text's length, once; `MemoryFiles` a copy of each text, `MemorySink`
-//! its room; `put_all`, `HostFiles` and `HostSink` none.
+//! No clause says what a call takes in memory. `load` takes the text's length, once; `MemoryFiles` a
+//! copy of each text, `MemorySink` its room; `put_all`, `HostFiles` and `HostSink` none.
 #![tactic(auto)]
 
 mod files;

@@ -1,8 +1,9 @@
 //! A whole text, read from files.
-ghost use Rattle.std.specs.Prelude.{◌≡◌, ◌<◌, ◌≤◌, ◌↔◌, length, take, IfOk, OnErr, vec_len};
+ghost use Rattle.std.specs.Prelude.{◌≡◌, ◌<◌, ◌≤◌, ◌↔◌, length, take, IfOk, OnOk, OnErr, vec_len};
 ghost use Rattle.flow_outside.specs.Counts.{Rose};
 ghost use Rattle.flow_outside.specs.Held.{Told, HasName};
 ghost use Rattle.flow_outside.specs.Loads.{OnRead, UnlessRead, IsTooLong, IfTooLong};
+ghost use Rattle.flow_outside.specs.Seen.{AreKept};
 
 use crate::{Failed, Files};
 use std::alloc::Global;
@@ -22,11 +23,12 @@ pub enum LoadFault {
     OutOfMemory,
 }
 
-/// Loads all that the name holds, of at most `limit` bytes. It asks the size once, takes memory for
-/// so many bytes, and reads until it has them or a read gives none.
+/// Loads all that the name holds, of at most `limit` bytes.
 ///
-/// `Read` comes where the size isn't answered or a read fails, and so always where the files tell
-/// that they don't have the name. `TooLong` comes where the size is above the limit.
+/// `Read` comes where the files' count of faults rose in this call, and where the files tell that
+/// they don't have the name. `TooLong` comes where the name holds more bytes than the limit, and
+/// says how many. After any other answer than `Read` the count stays. What the files hold stays as
+/// it was. It takes memory for as many bytes as the name holds, and none where they are too many.
 pub fn load<F: Files>(
     alloc: Global,
     files: &mut F,
@@ -34,23 +36,22 @@ pub fn load<F: Files>(
     limit: u64,
 ) -> Result<Vec<u8>, LoadFault>
     ensures text { IfOk result (λ text.
-        Told (F.held files.old) name.now (λ bytes. text.items ≡ bytes)) }
+        Told (F.seen files.old).held name.now (λ bytes. text.items ≡ bytes)) }
     ensures within { IfOk result (λ text. vec_len text ≤ limit) }
 
     ensures too_long { UnlessRead result
-        (Told (F.held files.old) name.now (λ bytes. IsTooLong result ↔ (limit < length bytes))) }
+        (Told (F.seen files.old).held name.now (λ bytes. IsTooLong result ↔ (limit < length bytes))) }
     ensures size { IfTooLong result (λ n.
-        Told (F.held files.old) name.now (λ bytes. n ≡ length bytes)) }
+        Told (F.seen files.old).held name.now (λ bytes. n ≡ length bytes)) }
     ensures above { IfTooLong result (λ n. limit < n) }
 
     // A name that the files tell they don't have is answered by `Read`.
-    ensures present { UnlessRead result (HasName (F.held files.old) name.now) }
+    ensures present { UnlessRead result (HasName (F.seen files.old).held name.now) }
     ensures read { OnRead result
-        (HasName (F.held files.old) name.now → Rose (F.faults files.old) (F.faults files.new)) }
+        (HasName (F.seen files.old).held name.now → Rose (F.seen files.old).faults (F.seen files.new).faults) }
+    ensures unfailed { UnlessRead result ((F.seen files.new).faults ≡ (F.seen files.old).faults) }
 
-    ensures counts { F.faults files.old ≤ F.faults files.new }
-    ensures held { F.held files.new ≡ F.held files.old }
-    ensures stores { F.store_faults files.new ≡ F.store_faults files.old }
+    ensures kept { AreKept (F.seen files.old) (F.seen files.new) }
 {
     let Ok(size) = files.size(name) else {
         return Err(LoadFault::Read);
@@ -72,13 +73,12 @@ pub fn load<F: Files>(
 /// many bytes were read.
 fn fill<F: Files>(files: &mut F, name: &str, buffer: &mut [u8]) -> Result<usize, Failed>
     ensures within { IfOk result (λ n. n ≤ length buffer.old) }
-    ensures text { IfOk result (λ n. Told (F.held files.old) name.now
+    ensures text { IfOk result (λ n. Told (F.seen files.old).held name.now
         (λ bytes. length bytes ≡ length buffer.old → take n buffer.new ≡ bytes)) }
+    ensures unfailed { OnOk result ((F.seen files.new).faults ≡ (F.seen files.old).faults) }
     ensures failed { OnErr result
-        (HasName (F.held files.old) name.now → Rose (F.faults files.old) (F.faults files.new)) }
-    ensures counts { F.faults files.old ≤ F.faults files.new }
-    ensures held { F.held files.new ≡ F.held files.old }
-    ensures stores { F.store_faults files.new ≡ F.store_faults files.old }
+        (HasName (F.seen files.old).held name.now → Rose (F.seen files.old).faults (F.seen files.new).faults) }
+    ensures kept { AreKept (F.seen files.old) (F.seen files.new) }
 {
     let mut taken = 0;
     while taken < buffer.len() {

@@ -126,11 +126,11 @@ impl Files for MemoryFiles {
     ghost use Rattle.flow_outside.specs.Memory.{size_told, count_read, after_read};
     ghost use Rattle.flow_outside.specs.Memory.{is_named, after_store};
 
-    ghost held = { λ m. Some m.held };
-
-    ghost faults = { λ m. m.faults };
-
-    ghost store_faults = { λ m. m.store_faults };
+    ghost seen = { λ m. record {
+      held = Some m.held;
+      faults = m.faults;
+      store_faults = m.store_faults;
+    } };
 
     fn size(&mut self, name: &str) -> Result<u64, Failed>
         ensures answer { result_ok result ≡ size_told self.old name.now }

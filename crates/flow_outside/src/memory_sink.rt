@@ -85,9 +85,7 @@ impl Sink for MemorySink {
     ghost use Rattle.std.specs.Prelude.{Some};
     ghost use Rattle.flow_outside.specs.Memory.{count_taken, after_write};
 
-    ghost written = { λ s. Some s.written };
-
-    ghost faults = { λ s. s.faults };
+    ghost seen = { λ s. record { written = Some s.written; faults = s.faults } };
 
     fn write(&mut self, bytes: &[u8]) -> Result<usize, Failed>
         ensures count { result_ok result ≡ count_taken self.old (length bytes.now) }

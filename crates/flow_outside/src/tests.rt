@@ -1,7 +1,8 @@
-//! What no clause says: that calls succeed with ample memory, and what the adapters do over the
-//! system's files and its standard output.
-ghost use Rattle.std.specs.Prelude.{◌≤◌, None, OnErr};
-ghost use Rattle.flow_outside.specs.Counts.{Rose};
+//! What no clause says: that calls succeed with ample memory, and what the adapter does over the
+//! system's files. What the adapter of the standard output writes is compared by the program's
+//! stored run.
+ghost use Rattle.std.specs.Prelude.{◌≡◌, None};
+ghost use Rattle.flow_outside.specs.Counts.{count_after};
 
 use super::*;
 use crate::schedule::one_more;
@@ -9,53 +10,6 @@ use std::test::Fail;
 use std::{env, fs, process};
 
 const TEXT: &[u8] = b"day,2011-03-14T06:00,15,8\nflight,F1\n";
-
-#[test]
-fn a_text_in_memory_is_loaded(rt: HostRuntime) -> Result<(), Fail> {
-    let alloc = rt.alloc();
-    let mut files = MemoryFiles::new(alloc);
-    files.add("day.csv", b"older")?;
-    files.add("day.csv", TEXT)?;
-    files.add("plan.csv", b"")?;
-    let day = load(alloc, &mut files, "day.csv", 36)?;
-    assert_eq!(rt; day.as_slice(), TEXT);
-    let plan = load(alloc, &mut files, "plan.csv", 0)?;
-    assert!(rt; plan.is_empty());
-    assert_eq!(rt;
-        load(alloc, &mut files, "day.csv", 35).err(),
-        Some(LoadFault::TooLong(36))
-    );
-    assert_eq!(rt;
-        load(alloc, &mut files, "none.csv", 36).err(),
-        Some(LoadFault::Read)
-    );
-    Ok(())
-}
-
-#[test]
-fn a_named_call_on_files_fails(rt: HostRuntime) -> Result<(), Fail> {
-    let alloc = rt.alloc();
-    for call in [1, 2] {
-        let mut files = MemoryFiles::new(alloc);
-        files.add("day.csv", TEXT)?;
-        files.fail(call)?;
-        assert_eq!(rt;
-            load(alloc, &mut files, "day.csv", 36).err(),
-            Some(LoadFault::Read)
-        );
-        let day = load(alloc, &mut files, "day.csv", 36)?;
-        assert_eq!(rt; day.as_slice(), TEXT);
-    }
-    let mut files = MemoryFiles::new(alloc);
-    files.fail(2)?;
-    files.store("a", b"one").map_err(|_| "the first store")?;
-    assert_eq!(rt; files.store("a", b"two"), Err(StoreFault::Failed));
-    assert_eq!(rt; files.get("a").unwrap_or(b""), b"one".as_slice());
-    files.store("b", b"three").map_err(|_| "the third store")?;
-    assert_eq!(rt; files.get("b").unwrap_or(b""), b"three".as_slice());
-    assert!(rt; files.get("c").is_none());
-    Ok(())
-}
 
 /// Files that tell nothing: each name has the first of "abcde", one byte a read, and after so many
 /// calls each one fails.
@@ -69,8 +23,7 @@ struct Dripping {
 
 impl Dripping {
     fn call(&mut self) -> Result<(), Failed>
-        ensures failed { OnErr result (Rose self.old.faults self.new.faults) }
-        ensures counts { self.old.faults ≤ self.new.faults }
+        ensures count { self.new.faults ≡ count_after result self.old.faults }
     {
         if self.works == 0 {
             self.faults = one_more(self.faults);
@@ -82,11 +35,7 @@ impl Dripping {
 }
 
 impl Files for Dripping {
-    ghost held = { λ _. None };
-
-    ghost faults = { λ d. d.faults };
-
-    ghost store_faults = { λ _. 0 };
+    ghost seen = { λ d. record { held = None; faults = d.faults; store_faults = 0 } };
 
     fn size(&mut self, _name: &str) -> Result<u64, Failed> {
         self.call()?;
@@ -131,6 +80,32 @@ fn a_read_fails_in_mid_stream(rt: HostRuntime) -> Result<(), Fail> {
             (Ok(text), Some(want)) => assert_eq!(rt; text.as_slice(), want.as_bytes()),
             (Err(fault), None) => assert_eq!(rt; fault, LoadFault::Read),
             _ => panic!(rt; "size {size}, left {left}, works {works}"),
+        }
+    }
+    Ok(())
+}
+
+#[test]
+fn a_text_in_memory_is_stored_and_loaded(rt: HostRuntime) -> Result<(), Fail> {
+    let alloc = rt.alloc();
+    // The call that fails, the limit, and what `load` answers.
+    let rows = [
+        (0, 36, Ok(TEXT)),
+        (0, 35, Err(LoadFault::TooLong(36))),
+        (1, 36, Ok(b"older".as_slice())),
+        (2, 36, Err(LoadFault::Read)),
+        (3, 36, Err(LoadFault::Read)),
+        (4, 36, Ok(TEXT)),
+    ];
+    for (call, limit, want) in rows {
+        let mut files = MemoryFiles::new(alloc);
+        files.fail(call)?;
+        files.add("day.csv", b"older")?;
+        let _ = files.store("day.csv", TEXT);
+        match (load(alloc, &mut files, "day.csv", limit), want) {
+            (Ok(text), Ok(want)) => assert_eq!(rt; text.as_slice(), want),
+            (Err(fault), Err(want)) => assert_eq!(rt; fault, want),
+            _ => panic!(rt; "call {call}, limit {limit}"),
         }
     }
     Ok(())
@@ -194,12 +169,5 @@ fn the_systems_files_are_read_and_written(rt: HostRuntime) -> Result<(), Fail> {
         files.store("/no/such/folder/text", TEXT),
         Err(StoreFault::Failed)
     );
-    Ok(())
-}
-
-#[test]
-fn the_standard_output_takes_a_text(rt: HostRuntime) -> Result<(), Fail> {
-    let mut sink = HostSink::new(&rt);
-    put_all(&mut sink, TEXT)?;
     Ok(())
 }

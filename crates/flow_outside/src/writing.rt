@@ -11,13 +11,15 @@ use thiserror::Error;
 #[error("the text could not be written")]
 pub struct WriteFault;
 
-/// Writes all the bytes, in as many calls as it takes. `WriteFault` comes where a call fails; the
-/// bytes before that call were then appended, and those behind were not. It takes no memory.
+/// Appends all the bytes. `WriteFault` comes only where the output's count of faults rose; a part
+/// from the front of the bytes was then appended, and not all of them. After `Ok` the count stays.
+/// It takes no memory.
 pub fn put_all<S: Sink>(sink: &mut S, bytes: &[u8]) -> Result<(), WriteFault>
-    ensures all { OnOk result (S.written sink.new ≡ appended (S.written sink.old) bytes.now) }
-    ensures part { OnErr result (AppendsPart (S.written sink.old) (S.written sink.new) bytes.now) }
-    ensures failed { OnErr result (Rose (S.faults sink.old) (S.faults sink.new)) }
-    ensures counts { S.faults sink.old ≤ S.faults sink.new }
+    ensures all { OnOk result ((S.seen sink.new).written ≡ appended (S.seen sink.old).written bytes.now) }
+    ensures part { OnErr result (AppendsPart (S.seen sink.old).written (S.seen sink.new).written bytes.now) }
+    ensures unfailed { OnOk result ((S.seen sink.new).faults ≡ (S.seen sink.old).faults) }
+    ensures failed { OnErr result (Rose (S.seen sink.old).faults (S.seen sink.new).faults) }
+    ensures counts { (S.seen sink.old).faults ≤ (S.seen sink.new).faults }
 {
     let mut put = 0;
     while put < bytes.len() {

@@ -2,3 +2,6 @@ pub mod NameFacts
 pub mod TripFacts
 pub mod ReadingFacts
 mod Worked
+pub mod WrittenTrips
+pub mod TripsAgain
+pub mod PlansAgain

@@ -2,3 +2,4 @@ pub mod RowFacts
 pub mod FieldFacts
 pub mod ReaderFacts
 pub mod NameFacts
+pub mod LineFacts

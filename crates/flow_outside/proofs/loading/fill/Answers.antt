@@ -10,9 +10,9 @@ loop-taken-preserved g c =
     record {
       within = search rules;
       read = λ bytes is. front-put_mid bytes c.loop-taken.buffer _ c.read_at.new.into c.loop-taken.taken _ c.in_ok-count.count loop.within (loop.read bytes is) (read.part bytes (ap (λ held. bytes_told held c.args.name.now) loop.held ∙ is));
-      later = omega arith;
-      held = read.held ∙ loop.held;
-      stores = read.stores ∙ loop.stores;
+      faults = read.unfailed ∙ loop.faults;
+      held = read.kept.held ∙ loop.held;
+      stores = read.kept.store_faults ∙ loop.stores;
     }
 
 pub returns-after-loop-taken-clause-text : goal.returns-after-loop-taken-clause-text

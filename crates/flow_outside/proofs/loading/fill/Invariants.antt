@@ -5,13 +5,14 @@ use Rattle.flow_outside.proofs.loading.fill.Given as goal
 -- the front of the buffer is the front of what the name holds
 abbrev pub invariant-loop-taken : goal.invariant-loop-taken
 invariant-loop-taken g l =
-    let files = g.F.Files in
+    let before = g.F.Files.seen l.fn.files in
+    let now = g.F.Files.seen l.files in
     record {
       within : l.taken ≤ length l.buffer;
-      read : Told (files.held l.fn.files) l.name (λ bytes. take l.taken l.buffer ≡ take l.taken bytes);
-      later : files.faults l.fn.files ≤ files.faults l.files;
-      held : files.held l.files ≡ files.held l.fn.files;
-      stores : files.store_faults l.files ≡ files.store_faults l.fn.files;
+      read : Told before.held l.name (λ bytes. take l.taken l.buffer ≡ take l.taken bytes);
+      faults : now.faults ≡ before.faults;
+      held : now.held ≡ before.held;
+      stores : now.store_faults ≡ before.store_faults;
     }
 
 abbrev pub decreases-loop-taken : goal.decreases-loop-taken

@@ -12,5 +12,5 @@ loop-put-preserved g c =
       front = c.in-Ok.ensures.appended
           ∙ ap (λ written. appended written (take c.in-Ok.count (take (length c.args.bytes.now - c.loop-put.put) (drop c.loop-put.put c.args.bytes.now)))) loop.front
           ∙ rw take_rest (appended-front _ c.args.bytes.now c.loop-put.put c.in-Ok.count);
-      later = omega arith;
+      faults = c.in-Ok.ensures.unfailed ∙ loop.faults;
     }

@@ -5,11 +5,12 @@ use Rattle.flow_outside.proofs.writing.put_all.Given as goal
 -- so many bytes from the front were appended
 abbrev pub invariant-loop-put : goal.invariant-loop-put
 invariant-loop-put g l =
-    let sink = g.S.Sink in
+    let before = g.S.Sink.seen l.fn.sink in
+    let now = g.S.Sink.seen l.sink in
     record {
       within : l.put ≤ length l.bytes;
-      front : sink.written l.sink ≡ appended (sink.written l.fn.sink) (take l.put l.bytes);
-      later : sink.faults l.fn.sink ≤ sink.faults l.sink;
+      front : now.written ≡ appended before.written (take l.put l.bytes);
+      faults : now.faults ≡ before.faults;
     }
 
 abbrev pub decreases-loop-put : goal.decreases-loop-put

@@ -1,0 +1,40 @@
+//! The commands of the program: what is done for its words, what is printed, and how it ends.
+//!
+//! A program hands its words, files and an output to [`exit_code`], or words of its own to [`run`]:
+//!
+//!     // Plans the day in the file `day.csv`, and says whether the plan is optimal.
+//!     fn is_optimal<F: Files, S: Sink>(
+//!         alloc: Global,
+//!         files: &mut F,
+//!         out: &mut S,
+//!     ) -> Result<bool, OutOfMemory> {
+//!         let mut words = Vec::new(alloc);
+//!         words.push(String::from_str(alloc, "plan")?)?;
+//!         words.push(String::from_str(alloc, "day.csv")?)?;
+//!         Ok(run(alloc, &words, files, out) == Status::Done)
+//!     }
+//!
+//! What is printed and how a run ends is said by `run`'s contract: in `specs/Answer.antt`, and for
+//! each command in `specs/Planning.antt` and `specs/Judging.antt`. From the status to the number that
+//! the process ends with, and from the words of the environment to those of `run`, it is said by
+//! `exit_code`'s, in `specs/Exit.antt`.
+//!
+//! Memory: the words, a text, the scenario, the plan with its loads, and the answer.
+#![tactic(auto)]
+
+mod answer;
+mod exit;
+mod faults;
+mod judging;
+mod lines;
+mod planning;
+mod reading;
+mod report;
+mod running;
+mod status;
+mod verdicts;
+mod words;
+
+pub use exit::exit_code;
+pub use running::run;
+pub use status::Status;

@@ -1,0 +1,88 @@
+//! A run of the program, from its words to its status.
+ghost use Rattle.std.specs.Prelude.{◌≡◌, ◌≤◌, IfOk, map, string_bytes};
+ghost use Rattle.flow_outside.specs.Counts.{Rose};
+ghost use Rattle.flow_outside.specs.Seen.{AreKept};
+ghost use Rattle.flow_cli.specs.Answer.{Ends, IsAnswer};
+ghost use Rattle.flow_cli.specs.Answers.{IfAnswered};
+ghost use Rattle.flow_cli.specs.Outside.{change, printed_by};
+ghost use Rattle.flow_cli.specs.Reading.{IsQuiet};
+ghost use Rattle.flow_cli.specs.Words.{asked};
+
+use crate::answer::{Answer, EarlyEnd};
+use crate::judging::judge_named;
+use crate::planning::plan_named;
+use crate::status::Status;
+use crate::words::{Command, command_of};
+use flow_outside::{Files, Sink, put_all};
+use flow_types::OutOfMemory;
+use std::alloc::Global;
+
+// The commands, and the words that each one takes.
+const USAGE: &[u8] = b"usage
+plan NAME [--cert NAME] [--nodes N] [--pivots N] [--cells N] [--rounds N]
+check NAME CERT
+judge NAME PLAN
+explain NAME CERT
+make N
+trial N
+";
+
+/// Runs the program: the words are `plan` and the name of a day, or `judge`, the name of a day and that
+/// of a plan. The texts are read from the files, at most 64 MiB of each, the day's first; the day is
+/// planned, or its plan is judged, and the answer is written.
+///
+/// The status says what the answer is. `Done`, `Infeasible` and `OpenGap` come for a day that is planned,
+/// `Done` and `Broken` for a plan that is judged. `Usage` comes for any other words, `ReadFault` where a
+/// name isn't there or a call fails, `TooLong` for a longer text, `BadScenario` for a text that is no
+/// scenario or a day that isn't planned yet, `BadPlan` for a text that is no plan, `WriteFault` where the
+/// answer isn't written to its end, and `OutOfMemory` where there is no memory; then nothing is written.
+/// What the files hold stays as it was. It takes memory for a text, the scenario, the plan with its
+/// loads, and the answer.
+pub fn run<F: Files, S: Sink>(alloc: Global, words: &[String], files: &mut F, out: &mut S) -> Status
+    ensures answered { Ends (change (F.seen files.old) (F.seen files.new))
+        (change (S.seen out.old) (S.seen out.new)) (map string_bytes words.now) result }
+    // WriteFault comes only where the output failed.
+    ensures write_fault { result ≡ Status.WriteFault → Rose (S.seen out.old).faults (S.seen out.new).faults }
+    ensures kept { AreKept (F.seen files.old) (F.seen files.new) }
+    ensures write_counts { (S.seen out.old).faults ≤ (S.seen out.new).faults }
+{
+    match answer_to(alloc, words, files) {
+        Err(OutOfMemory) => Status::OutOfMemory,
+        Ok(answer) => match put_all(out, &answer.text) {
+            Err(_) => Status::WriteFault,
+            Ok(()) => answer.status,
+        },
+    }
+}
+
+// The answer to the words, whether it comes early or not.
+fn answer_to<F: Files>(
+    alloc: Global,
+    words: &[String],
+    files: &mut F,
+) -> Result<Answer, OutOfMemory>
+    ensures answered { IfOk result (λ answer. IsAnswer (change (F.seen files.old) (F.seen files.new))
+        (asked (map string_bytes words.now)) (printed_by answer)) }
+    ensures quiet { IfOk result (λ answer. IsQuiet (change (F.seen files.old) (F.seen files.new)) (printed_by answer)) }
+    ensures kept { AreKept (F.seen files.old) (F.seen files.new) }
+{
+    match work(alloc, words, files) {
+        Ok(answer) => Ok(answer),
+        Err(EarlyEnd::Answered(answer)) => Ok(answer),
+        Err(EarlyEnd::OutOfMemory) => Err(OutOfMemory),
+    }
+}
+
+// The work of the command in the words.
+fn work<F: Files>(alloc: Global, words: &[String], files: &mut F) -> Result<Answer, EarlyEnd>
+    ensures answered { IfAnswered result (IsAnswer (change (F.seen files.old) (F.seen files.new))
+        (asked (map string_bytes words.now))) }
+    ensures quiet { IfAnswered result (IsQuiet (change (F.seen files.old) (F.seen files.new))) }
+    ensures kept { AreKept (F.seen files.old) (F.seen files.new) }
+{
+    match command_of(words) {
+        Some(Command::Plan { name }) => plan_named(alloc, files, name),
+        Some(Command::Judge { name, plan }) => judge_named(alloc, files, name, plan),
+        None => Ok(Answer::of(alloc, USAGE, Status::Usage)?),
+    }
+}
