@@ -12,13 +12,10 @@
 //! its loads.
 #![tactic(auto)]
 
-pub mod chains;
-pub mod earliest;
-pub mod outcome;
-pub mod pairs;
+mod chains;
+mod earliest;
+mod outcome;
+mod pairs;
 
 pub use chains::is_day_of_chains;
 pub use outcome::{Costed, Outcome, plan_chains};
-
-#[cfg(test)]
-mod tests;

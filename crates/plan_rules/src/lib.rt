@@ -12,13 +12,13 @@
 //! period, and eight a flight.
 #![tactic(auto)]
 
-pub mod broken;
-pub mod costs;
-pub mod judging;
-pub mod laws;
-pub mod loads;
-mod stays;
-mod table;
+mod broken;
+mod costs;
+mod grid;
+mod judging;
+mod laws;
+mod loads;
+mod trip_counts;
 mod trips;
 
 pub use broken::Broken;
@@ -28,6 +28,3 @@ pub use laws::{
     first_broken_rules_are_first, plans_that_break_nothing_are_feasible, trips_are_counted_once,
 };
 pub use loads::Loads;
-
-#[cfg(test)]
-mod tests;
