@@ -29,6 +29,10 @@ early_arrival = refl
 late_arrival : first_broken (two_flights 1 9 9) (plan_with (trip_at 1 8)) ≡ Some (broken.Window 1 2)
 late_arrival = refl
 
+-- It enters the sector past the day.
+past_the_day : first_broken (two_flights 1 9 9) (plan_with (stop_at 0 4 ∷ stop_at 1 8 ∷ stop_at 2 7 ∷ [])) ≡ Some (broken.Window 1 1)
+past_the_day = refl
+
 -- No leg leads from the origin to the destination, nor to a node that the flight hasn't.
 no_leg : first_broken (two_flights 1 9 9) (plan_with (stop_at 0 1 ∷ stop_at 2 3 ∷ [])) ≡ Some (broken.NoLeg 1 0)
 no_leg = refl
@@ -47,6 +51,9 @@ ending = refl
 -- any flight leave, which comes after it.
 turn : first_broken (there_and_back 0 2) (plan_with (trip_at 3 5)) ≡ Some (broken.Turn 0 2 3)
 turn = refl
+
+turn_is_kept : first_broken (there_and_back 1 2) (plan_with (trip_at 4 6)) ≡ None
+turn_is_kept = refl
 
 departs_without_capacity : first_broken (there_and_back 0 2) (plan_with (trip_at 4 6)) ≡ Some (broken.Departures 0 0 1 0)
 departs_without_capacity = refl
