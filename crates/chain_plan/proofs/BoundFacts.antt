@@ -6,6 +6,7 @@ use Rattle.std.proofs.lemmas.Int.{ints}
 use Rattle.std.proofs.lemmas.List.{take_more}
 use Rattle.std.proofs.lemmas.List.Elements.{All-head, All-tail}
 use Rattle.std.proofs.lemmas.Option.{slice_get-get_or}
+use Rattle.exact_sums.specs.Sums.{total}
 use Rattle.flow_types.specs.declared.flight.CostTable.{CostTable}
 use Rattle.flow_types.specs.declared.flight.Flight.{Flight}
 use Rattle.flow_types.specs.declared.place.Place.{Place}
@@ -16,7 +17,6 @@ use Rattle.flow_types.specs.Routes.{IsChain, IsRoute}
 use Rattle.flow_types.specs.Trips.{IsOnward, IsTrip, IsWithinHours, arrival_from, earliest_of, latest_of}
 use Rattle.flow_types.specs.Valid.{IsFlight}
 use Rattle.chain_plan.specs.Chains.{AreChains, HasEarliest, IsLeastPair, IsPair, earliest_arrival, least_after, least_time}
-use Rattle.chain_plan.specs.Outcome.{total_of_all}
 use Rattle.chain_plan.proofs.ChainFacts.{takes_time}
 use Rattle.plan_rules.proofs.JudgeFacts.{AreTrips-at}
 use Rattle.plan_rules.proofs.TripFacts.{AreTrips-length}
@@ -84,7 +84,7 @@ earliest_pair periods flight forward within has = record {
 -- no plan costs less than the least pairs of its flights
 pub pairs_below : (places : List Place) (tables : List CostTable) (periods : ℕ) (flights : List Flight) (plan : List (List Stop)) (pairs : List ℤ)
     → All (IsFlight periods places tables) flights → AreChains flights → AreTrips periods flights plan → AllZip (IsLeastPair periods tables) flights pairs
-    → total_of_all pairs ≤ℤ plan_cost tables flights plan
+    → total (λ pair. pair) pairs ≤ℤ plan_cost tables flights plan
 pairs_below places tables periods [] [] [] valid chains trips least = omega (arith, ints)
 pairs_below places tables periods [] [] (v ∷ pairs) valid chains trips least = absurd least
 pairs_below places tables periods [] (trip ∷ plan) pairs valid chains trips least = absurd trips
@@ -111,11 +111,6 @@ none_feasible places tables periods flights plan valid chains trips late =
     let same = AreTrips-length periods flights plan trips in
     no_trip places periods flight fine.route chain (get_or plan k []) late.4
     (AreTrips-at periods flights plan k [] flight trips (slice_get-get_or flights k flight late.2 ∙ ap Some here) (omega arith))
-
--- one pair more
-pub total_of_all-push : (pairs : List ℤ) (v : ℤ) → total_of_all (pairs ++ v ∷ []) ≡ total_of_all pairs +ℤ v
-total_of_all-push [] v = omega (arith, ints)
-total_of_all-push (p ∷ pairs) v = omega (arith, ints, total_of_all-push pairs v)
 
 -- one item more on both sides
 zip_push : {A B : Type 0} (R : A → B → Type 0) (xs : List A) (ys : List B) (x : A) (y : B) → AllZip R xs ys → R x y → AllZip R (xs ++ x ∷ []) (ys ++ y ∷ [])

@@ -2,4 +2,3 @@ pub mod BoundFacts
 pub mod ChainFacts
 pub mod EarliestFacts
 pub mod PairFacts
-mod WorkedCases

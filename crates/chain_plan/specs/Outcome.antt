@@ -1,6 +1,7 @@
 -- What is planned for a day of chains.
-use Rattle.std.specs.Prelude.{◌≡◌, List, [], ◌∷◌, Option, None, Some, All, ℤ, pos, ◌+ℤ◌}
+use Rattle.std.specs.Prelude.{◌≡◌, List, Option, None, Some, All, ℤ}
 use Rattle.std.specs.List.{Any, AllZip}
+use Rattle.exact_sums.specs.Sums.{total}
 use Rattle.flow_types.specs.declared.bound.Bound.{Bound}
 use Rattle.flow_types.specs.declared.bound.Bound.TheVariants.{AtLeast, NoPlan}
 use Rattle.flow_types.specs.declared.parts.Parts.{Parts}
@@ -11,16 +12,12 @@ use Rattle.chain_plan.specs.declared.outcome.Outcome.{Outcome}
 use Rattle.chain_plan.specs.declared.outcome.Costed.{Costed}
 use Rattle.chain_plan.specs.Chains.{HasEarliest, IsLeastPair, earliest_plan}
 
-abbrev pub total_of_all : List ℤ → ℤ
-total_of_all [] = pos 0
-total_of_all (v ∷ vs) = v +ℤ total_of_all vs
-
 -- NoPlan where a flight has no earliest trip, else the least pairs of all flights added up
 abbrev pub IsFirstBound : Parts → Bound → Type 0
 IsFirstBound parts NoPlan = Any (λ flight. HasEarliest parts.day.periods flight → ⊥) parts.flights
 IsFirstBound parts (AtLeast least) =
     All (HasEarliest parts.day.periods) parts.flights
-    × ((pairs : List ℤ) × AllZip (IsLeastPair parts.day.periods parts.tables) parts.flights pairs × (least ≡ total_of_all pairs))
+    × ((pairs : List ℤ) × AllZip (IsLeastPair parts.day.periods parts.tables) parts.flights pairs × (least ≡ total (λ pair. pair) pairs))
 
 -- the earliest trips where each flight has one and they keep every rule, else no plan
 abbrev pub IsFirstPlan : Parts → Option (List (List Stop)) → Type 0

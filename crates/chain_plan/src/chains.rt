@@ -51,8 +51,9 @@ fn are_apart(connections: &[Connection]) -> bool
     connections.is_empty()
 }
 
-/// Whether a day is one of chains: no flight has two legs from one node or tables of costs, and no two
-/// flights are connected. It takes no memory, and as long as there are pairs of legs of a flight.
+/// Whether a day is one of chains: no flight has two legs from one node or tables of costs, and no
+/// two flights are connected. It takes no memory, and as long as there are pairs of legs of a
+/// flight.
 pub fn is_day_of_chains(s: &Scenario) -> bool
     ensures { IsTrue result ↔ IsDayOfChains (parts_of s.now) }
 {

@@ -1,5 +1,6 @@
 //! The earliest trip of a flight.
 ghost use Rattle.std.specs.Prelude.{◌≡◌, ◌≤◌, ◌-◌, ◌+◌, ◌<◌, ◌^◌, ◌↔◌, IsTrue, IfOk, All, length, min};
+ghost use Rattle.flow_types.specs.Limits.{most_nodes};
 ghost use Rattle.chain_plan.specs.Chains.{HasEarliest, arrive, earliest_arrival, earliest_trip, least_from, least_time};
 
 use flow_types::{Flight, Leg, OutOfMemory, Plan, Stop, Trip};
@@ -8,7 +9,7 @@ use std::alloc::Global;
 /// The least time from the flight's departure to its arrival.
 pub fn least_time(flight: &Flight) -> u32
     requires some { 2 ≤ length flight.now.nodes }
-    requires few { length flight.now.nodes ≤ 32 }
+    requires few { length flight.now.nodes ≤ most_nodes }
     ensures value { result ≡ least_time flight.now }
     ensures small { result < 2 ^ 22 }
 {
@@ -35,7 +36,7 @@ fn least_from(legs: &[Leg], node: usize) -> u16
 /// When the earliest trip arrives.
 pub fn earliest_arrival(flight: &Flight) -> u32
     requires some { 2 ≤ length flight.now.nodes }
-    requires few { length flight.now.nodes ≤ 32 }
+    requires few { length flight.now.nodes ≤ most_nodes }
     ensures { result ≡ earliest_arrival flight.now }
 {
     (u32::from(flight.sd) + least_time(flight)).max(u32::from(flight.sa))
@@ -44,7 +45,7 @@ pub fn earliest_arrival(flight: &Flight) -> u32
 /// Whether the earliest trip arrives in the arrival window.
 pub fn has_earliest(periods: u16, flight: &Flight) -> bool
     requires some { 2 ≤ length flight.now.nodes }
-    requires few { length flight.now.nodes ≤ 32 }
+    requires few { length flight.now.nodes ≤ most_nodes }
     ensures { IsTrue result ↔ HasEarliest periods flight.now }
 {
     let last = u32::from(periods.saturating_sub(1));
@@ -54,7 +55,7 @@ pub fn has_earliest(periods: u16, flight: &Flight) -> bool
 /// The earliest trip of the flight, which arrives in the arrival window.
 pub fn earliest_trip(alloc: Global, periods: u16, flight: &Flight) -> Result<Trip, OutOfMemory>
     requires some { 2 ≤ length flight.now.nodes }
-    requires few { length flight.now.nodes ≤ 32 }
+    requires few { length flight.now.nodes ≤ most_nodes }
     requires has { HasEarliest periods flight.now }
     ensures { IfOk result (λ trip. trip ≡ earliest_trip flight.now) }
 {

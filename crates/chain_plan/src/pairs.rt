@@ -1,6 +1,7 @@
 //! The least cost of a ground delay and an arrival delay that leave time for a flight's legs.
 ghost use Rattle.std.specs.Prelude.{◌≡◌, ◌≤◌, ◌<◌, ◌+◌, ◌-◌, ◌^◌, ◌≤ℤ◌, ◌-ℤ◌, pos, neg_ℤ, None, Some, IfSome, MatchOption, length, min};
 ghost use Rattle.flow_types.specs.Costs.{credit_at, total_at};
+ghost use Rattle.flow_types.specs.Limits.{most_delay};
 ghost use Rattle.flow_types.specs.Scenario.{flight_at, parts_of};
 ghost use Rattle.chain_plan.specs.Chains.{HasEarliest, IsLeastPair, least_time};
 ghost use Rattle.chain_plan.specs.Pairs.{IsBest, IsLarger, IsMost, IsSmaller};
@@ -85,8 +86,8 @@ pub fn least_pair(s: &Scenario, number: u32, flight: &Flight) -> i128
 
 // How many delays from the scheduled period on are within the limit and the day.
 fn delays(scheduled: u16, limit: u16, last: u16) -> u16
-    requires limit { limit ≤ 511 }
-    requires last { last ≤ 511 }
+    requires limit { limit ≤ most_delay }
+    requires last { last ≤ most_delay }
     requires scheduled { scheduled ≤ last }
     ensures { result ≡ min (scheduled + limit) last + 1 - scheduled }
 {

@@ -4,6 +4,8 @@ use Rattle.std.proofs.lemmas.Bool.{cases_lt}
 use Rattle.std.proofs.lemmas.Bool.Decides.{nat_tests}
 use Rattle.std.proofs.lemmas.Option.{slice_get-get_or, slice_get_within}
 use Rattle.std.specs.Option.{option_or}
+use Rattle.exact_sums.proofs.ItemFacts.{All-item}
+use Rattle.flow_types.proofs.PlaceFacts.{has_kind-within}
 use Rattle.flow_types.specs.declared.flight.Connection.{Connection}
 use Rattle.flow_types.specs.declared.flight.Flight.{Flight}
 use Rattle.flow_types.specs.declared.parts.Parts.{Parts}
@@ -21,20 +23,10 @@ use Rattle.plan_rules.specs.Judge.{first_broken_load}
 use Rattle.plan_rules.specs.Loads.{AreLoads, arrival_at, departure_at, load_at}
 use Rattle.plan_rules.specs.declared.broken.Broken.{Broken}
 use Rattle.plan_rules.specs.declared.broken.Broken.TheVariants as broken
-use Rattle.plan_rules.specs.declared.loads.Loads.{Loads}
+use Rattle.plan_rules.specs.Cells.{Tally}
 use Rattle.plan_rules.proofs.BrokenTrips.{trips_from, trips_to}
 use Rattle.plan_rules.proofs.FirstFacts.{first_along-at, first_along-none, first_along-same, first_below-at, first_below-none, first_below-same, or_none, or_nones, unless_none, unless_true}
-use Rattle.plan_rules.proofs.JudgeFacts.{has_kind-within}
 use Rattle.plan_rules.proofs.TripFacts.{AreTrips-length}
-
--- an item of a list by its position
-item_is : {A : Type 0} (items : List A) (k : ℕ) (item : A) → slice_get items k ≡ Some item → get_or items k item ≡ item
-item_is items k item is =
-    let here = slice_get-get_or items k item (slice_get_within items k item is) in cc
-
--- what holds of each item holds of the one at a position
-pub at_position : {A : Type 0} (P : A → Type 0) (items : List A) (k : ℕ) (item : A) → All P items → slice_get items k ≡ Some item → P item
-at_position P items k item all is = subst P (item_is items k item is) (all k item (slice_get_within items k item is))
 
 -- the turnarounds
 pub times_from : (number turnaround arrives leaves : ℕ) (arrival departure : Option ℕ) → broken_times number turnaround arrival departure ≡ None → arrival ≡ Some arrives → departure ≡ Some leaves → arrives + turnaround ≤ leaves
@@ -61,18 +53,13 @@ turns_from plan connections none k d within arrives leaves arrives_is leaves_is 
 turns_to : (plan : List (List Stop)) (connections : List Connection) → All (KeepsTurn plan) connections → first_along (broken_turn (arrival_in plan) (departure_in plan)) connections ≡ None
 turns_to plan connections keeps =
     first_along-none (broken_turn (arrival_in plan) (departure_in plan)) connections
-    (λ k connection is. times_to k connection.turnaround (arrival_in plan connection.first) (departure_in plan connection.second) (at_position (KeepsTurn plan) connections k connection keeps is))
-
--- a place with capacities is one of the places
-place_by : (parts : Parts) (kind : CapKind) (k : ℕ) → IsTrue (has_kind kind (slice_get parts.places k)) → (k < length parts.places) ⊎ (length parts.places ≤ k) → k < length parts.places
-place_by parts kind k has (inl within) = within
-place_by parts kind k has (inr past) = absurd (has_kind-within kind parts.places k past has)
+    (λ k connection is. times_to k connection.turnaround (arrival_in plan connection.first) (departure_in plan connection.second) (All-item (KeepsTurn plan) connections k connection keeps is))
 
 -- the capacities of a kind
 pub over_from : (parts : Parts) (kind : CapKind) (load : ℕ → ℕ → ℕ) → first_over parts kind load ≡ None
     → (k t : ℕ) → IsTrue (has_kind kind (slice_get parts.places k)) → t < parts.day.periods → load k t ≤ capacity_of parts.places kind k t
 over_from parts kind load none k t has t_in =
-    let k_in = place_by parts kind k has (cases_lt k (length parts.places)) in
+    let k_in = has_kind-within kind parts.places k has in
     let here = first_below-at (length parts.places) (first_over_in parts kind load) none k k_in in
     let periods : first_below parts.day.periods (broken_capacity parts kind load k) ≡ None = rw has at here in
     let capacity = capacity_of parts.places kind k t in
@@ -112,7 +99,7 @@ feasible_from parts plan none =
 -- no two legs of a flight join the same nodes
 pub legs_once : (parts : Parts) → IsScenario parts → (k : ℕ) (flight : Flight) → slice_get parts.flights k ≡ Some flight → AllPairs IsOtherLeg flight.legs
 legs_once parts valid k flight is =
-    (at_position (IsFlight parts.day.periods parts.places parts.tables) parts.flights k flight valid.flights is).route.once
+    (All-item (IsFlight parts.day.periods parts.places parts.tables) parts.flights k flight valid.flights is).route.once
 
 pub number_to : (trips flights : ℕ) → trips ≡ flights → broken_number trips flights ≡ None
 number_to trips flights same = unless_true (trips == flights) (broken.Trips trips flights) (grind (arith, nat_tests))
@@ -158,7 +145,7 @@ over_same parts kind load by same =
     (λ k k_in. ap (λ (found : Option Broken). cond (has_kind kind (slice_get parts.places k)) found None)
     (first_below-same parts.day.periods (broken_capacity parts kind load k) (broken_capacity parts kind by k) (λ t t_in. capacity_same parts kind load by k t (same k t k_in t_in))))
 
-module _ (parts : Parts) (plan : List (List Stop)) (loads : Loads) (valid : IsScenario parts) (are : AreLoads parts plan loads) (trips : AreTrips parts.day.periods parts.flights plan) where
+module _ (parts : Parts) (plan : List (List Stop)) (loads : Tally) (valid : IsScenario parts) (are : AreLoads parts plan loads) (trips : AreTrips parts.day.periods parts.flights plan) where
   -- the time of a flight, read from the plan
   time_at : (time : List Stop → Option ℕ) (n : ℕ) → n < length parts.flights → option_and_then time (slice_get plan n) ≡ time (get_or plan n [])
   time_at time n within =
@@ -168,7 +155,7 @@ module _ (parts : Parts) (plan : List (List Stop)) (loads : Loads) (valid : IsSc
   turn_same : (k : ℕ) (connection : Connection) → slice_get parts.connections k ≡ Some connection
       → broken_turn (arrival_at loads) (departure_at loads) k connection ≡ broken_turn (arrival_in plan) (departure_in plan) k connection
   turn_same k connection is =
-      let at = at_position (IsConnection parts.flights) parts.connections k connection valid.connections is in
+      let at = All-item (IsConnection parts.flights) parts.connections k connection valid.connections is in
       ap (λ (arrives : Option ℕ). broken_times k connection.turnaround arrives (departure_at loads connection.second))
       (are.arrives connection.first at.first ∙ sym (time_at arrival_of connection.first at.first))
       ∙ ap (broken_times k connection.turnaround (arrival_in plan connection.first))

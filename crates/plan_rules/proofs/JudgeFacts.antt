@@ -1,4 +1,4 @@
--- The first trips of a plan, and what a place with capacities is.
+-- The first trips of a plan.
 use Rattle.std.proofs.Common.{◌≡◌, ℕ, suc, zero, ◌<◌, ◌≤◌, false, List, [], ◌∷◌, length, map, get_or, set, slice_get, Some, None, IsTrue, refl, sym, ap, ◌∙◌, subst, arith}
 use Rattle.std.proofs.lemmas.Bool.{false≢true}
 use Rattle.std.proofs.lemmas.Option.{slice_get_past}
@@ -11,16 +11,6 @@ use Rattle.flow_types.specs.Capacities.{has_kind}
 use Rattle.flow_types.specs.Feasible.{AreTrips}
 use Rattle.flow_types.specs.Trips.{IsTrip}
 use Rattle.plan_rules.specs.Judge.{first_trips}
-
--- no place, no capacities
-none_has : (k : CapKind) → has_kind k None ≡ false
-none_has kind.Dep = refl
-none_has kind.Arr = refl
-none_has kind.Sector = refl
-
-pub has_kind-within : (k : CapKind) (places : List Place) (n : ℕ) → length places ≤ n → IsTrue (has_kind k (slice_get places n)) → ⊥
-has_kind-within k places n past has =
-    false≢true (sym (none_has k) ∙ ap (has_kind k) (sym (slice_get_past places n past)) ∙ has)
 
 -- none of them yet
 pub first_trips-zero : (flights : List Flight) (plan : List (List Stop)) → length plan ≡ length flights → map (λ flight. []) flights ≡ first_trips zero plan

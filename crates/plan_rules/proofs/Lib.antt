@@ -1,4 +1,3 @@
-pub mod BrokenCases
 pub mod BrokenPlans
 pub mod BrokenTrips
 pub mod CapacityFacts
@@ -6,8 +5,8 @@ pub mod CostFacts
 pub mod CountFacts
 pub mod FirstFacts
 pub mod FirstRules
+pub mod GridFacts
 pub mod JudgeFacts
 pub mod LoadFacts
 pub mod StayFacts
-pub mod TableFacts
 pub mod TripFacts

@@ -6,40 +6,39 @@ use Rattle.flow_types.specs.declared.flight.Flight.{Flight}
 use Rattle.flow_types.specs.declared.parts.Parts.{Parts}
 use Rattle.flow_types.specs.declared.plan.Stop.{Stop}
 use Rattle.flow_types.specs.Counts.{departs_at, arrives_at, stays_at, counted}
+use Rattle.flow_types.specs.Limits.{most_flights}
 use Rattle.flow_types.specs.Trips.{IsTrip, departure_of, arrival_of}
-use Rattle.plan_rules.specs.Loads.{AddsTrip, AreLoads, AreTripsOrNone, HasSize, IsMadeFor, IsTripOrNone, arrival_at, departure_at, no_trips}
-use Rattle.plan_rules.specs.Table.{Adds, IsEmpty, count_at}
-use Rattle.plan_rules.specs.declared.loads.Loads.{Loads}
-use Rattle.plan_rules.specs.declared.table.Table.{Table}
+use Rattle.plan_rules.specs.Loads.{AddsTrip, AreLoads, AreTripsOrNone, HasSize, IsClear, IsMadeFor, IsTripOrNone, no_trips}
+use Rattle.plan_rules.specs.Cells.{Cells, Tally}
+use Rattle.plan_rules.specs.Grid.{Adds, IsEmpty, count_at}
 use Rattle.plan_rules.proofs.CountFacts.{counted-none, counted-set, counted-le, departs_at-le, arrives_at-le, stays_at-le, AreTripsOrNone-set, AreTripsOrNone-none, AreTripsOrNone-length, none_at}
 
--- an empty table counts no trips
-empty_counts : (parts : Parts) (table : Table) (count : ℕ → ℕ → Flight → List Stop → ℕ) → ((k t : ℕ) (flight : Flight) → count k t flight [] ≡ 0)
-    → HasSize (length parts.places) parts.day.periods table → IsEmpty table
-    → (k t : ℕ) → k < length parts.places → t < parts.day.periods → count_at table k t ≡ counted (count k t) parts.flights (no_trips parts)
-empty_counts parts table count none size empty k t k_in t_in =
+-- an empty grid counts no trips
+empty_counts : (parts : Parts) (cells : Cells) (count : ℕ → ℕ → Flight → List Stop → ℕ) → ((k t : ℕ) (flight : Flight) → count k t flight [] ≡ 0)
+    → HasSize (length parts.places) parts.day.periods cells → IsEmpty cells
+    → (k t : ℕ) → k < length parts.places → t < parts.day.periods → count_at cells k t ≡ counted (count k t) parts.flights (no_trips parts)
+empty_counts parts cells count none size empty k t k_in t_in =
     empty k t (omega (arith, size.wide)) (omega (arith, size.long)) ∙ sym (counted-none (count k t) (none k t) parts.flights)
 
 -- loads with nothing in them
-pub AreLoads-none : (parts : Parts) (loads : Loads) → IsMadeFor parts loads → IsEmpty loads.departures → IsEmpty loads.arrivals → IsEmpty loads.inside
-    → ((f : ℕ) → departure_at loads f ≡ None) → ((f : ℕ) → arrival_at loads f ≡ None) → AreLoads parts (no_trips parts) loads
-AreLoads-none parts loads made departures arrivals inside leaves arrives = record {
+pub AreLoads-none : (parts : Parts) (loads : Tally) → IsMadeFor parts loads → IsClear loads → AreLoads parts (no_trips parts) loads
+AreLoads-none parts loads made clear = record {
   made = made;
   each = AreTripsOrNone-none parts.day.periods parts.flights;
-  departures = empty_counts parts loads.departures departs_at (λ k t flight. refl) made.departures departures;
-  arrivals = empty_counts parts loads.arrivals arrives_at (λ k t flight. refl) made.arrivals arrivals;
-  sectors = empty_counts parts loads.inside stays_at (λ k t flight. refl) made.inside inside;
-  leaves = λ f f_in. leaves f ∙ sym (ap departure_of (none_at parts.flights f));
-  arrives = λ f f_in. arrives f ∙ sym (ap arrival_of (none_at parts.flights f));
+  departures = empty_counts parts loads.departures departs_at (λ k t flight. refl) made.departures clear.departures;
+  arrivals = empty_counts parts loads.arrivals arrives_at (λ k t flight. refl) made.arrivals clear.arrivals;
+  sectors = empty_counts parts loads.inside stays_at (λ k t flight. refl) made.inside clear.inside;
+  leaves = λ f f_in. clear.leaves f ∙ sym (ap departure_of (none_at parts.flights f));
+  arrives = λ f f_in. clear.arrives f ∙ sym (ap arrival_of (none_at parts.flights f));
 }
 
--- a table counts one trip more
-module _ (parts : Parts) (few : length parts.flights ≤ 2000) (trips : List (List Stop)) (each : AreTripsOrNone parts.day.periods parts.flights trips)
+-- a grid counts one trip more
+module _ (parts : Parts) (few : length parts.flights ≤ most_flights) (trips : List (List Stop)) (each : AreTripsOrNone parts.day.periods parts.flights trips)
     (n : ℕ) (flight : Flight) (stops : List Stop) (here : slice_get parts.flights n ≡ Some flight) (absent : slice_get trips n ≡ Some [])
     (trip : IsTripOrNone parts.day.periods flight stops) where
   one_more_trip : (count : ℕ → ℕ → Flight → List Stop → ℕ) → ((k t : ℕ) (f : Flight) → count k t f [] ≡ 0)
       → ((k t : ℕ) (f : Flight) (s : List Stop) → IsTripOrNone parts.day.periods f s → count k t f s ≤ 1)
-      → (old new : Table) → HasSize (length parts.places) parts.day.periods old → Adds (λ k t. count k t flight stops) old new
+      → (old new : Cells) → HasSize (length parts.places) parts.day.periods old → Adds (λ k t. count k t flight stops) old new
       → ((k t : ℕ) → k < length parts.places → t < parts.day.periods → count_at old k t ≡ counted (count k t) parts.flights trips)
       → (k t : ℕ) → k < length parts.places → t < parts.day.periods → count_at new k t ≡ counted (count k t) parts.flights (set trips n stops)
   one_more_trip count none once old new size adds are k t k_in t_in =
@@ -66,22 +65,22 @@ module _ (parts : Parts) (few : length parts.flights ≤ 2000) (trips : List (Li
       → n < length parts.flights → (f : ℕ) → f < length parts.flights → get_or (set times n (time stops)) f None ≡ time (get_or (set trips n stops) f [])
   times_set time times long are n_in f f_in = times_at time times long are n_in f f_in (cases_eq f n)
 
-  -- the same for all of the loads
-  pub AreLoads-add : (old new : Loads) → AreLoads parts trips old → AddsTrip flight n stops old new → n < length parts.flights → AreLoads parts (set trips n stops) new
+  -- the loads count one trip more
+  pub AreLoads-add : (old new : Tally) → AreLoads parts trips old → AddsTrip flight n stops old new → n < length parts.flights → AreLoads parts (set trips n stops) new
   AreLoads-add old new are adds n_in = record {
     made = record {
       departures = record { wide = adds.departures.places ∙ are.made.departures.wide; long = adds.departures.periods ∙ are.made.departures.long };
       arrivals = record { wide = adds.arrivals.places ∙ are.made.arrivals.wide; long = adds.arrivals.periods ∙ are.made.arrivals.long };
       inside = record { wide = adds.inside.places ∙ are.made.inside.wide; long = adds.inside.periods ∙ are.made.inside.long };
-      leaves = ap length adds.leaves ∙ length-set old.leaves.items n (departure_of stops) ∙ are.made.leaves;
-      arrives = ap length adds.arrives ∙ length-set old.arrives.items n (arrival_of stops) ∙ are.made.arrives;
+      leaves = ap length adds.leaves ∙ length-set old.leaves n (departure_of stops) ∙ are.made.leaves;
+      arrives = ap length adds.arrives ∙ length-set old.arrives n (arrival_of stops) ∙ are.made.arrives;
     };
     each = AreTripsOrNone-set parts.day.periods parts.flights trips n flight stops here trip each;
     departures = one_more_trip departs_at (λ k t f. refl) (λ k t f s h. departs_at-le k t f s) old.departures new.departures are.made.departures adds.departures are.departures;
     arrivals = one_more_trip arrives_at (λ k t f. refl) (λ k t f s h. arrives_at-le k t f s) old.arrivals new.arrivals are.made.arrivals adds.arrivals are.arrivals;
     sectors = one_more_trip stays_at (λ k t f. refl) (λ k t f s h. stays_at-le parts.day.periods k t f s h) old.inside new.inside are.made.inside adds.inside are.sectors;
-    leaves = λ f f_in. ap (λ times. get_or times f None) adds.leaves ∙ times_set departure_of old.leaves.items are.made.leaves are.leaves n_in f f_in;
-    arrives = λ f f_in. ap (λ times. get_or times f None) adds.arrives ∙ times_set arrival_of old.arrives.items are.made.arrives are.arrives n_in f f_in;
+    leaves = λ f f_in. ap (λ times. get_or times f None) adds.leaves ∙ times_set departure_of old.leaves are.made.leaves are.leaves n_in f f_in;
+    arrives = λ f f_in. ap (λ times. get_or times f None) adds.arrives ∙ times_set arrival_of old.arrives are.made.arrives are.arrives n_in f f_in;
   }
 
 -- a trip is there

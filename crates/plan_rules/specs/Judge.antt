@@ -5,12 +5,12 @@ use Rattle.flow_types.specs.declared.flight.Leg.{Leg}
 use Rattle.flow_types.specs.declared.parts.Parts.{Parts}
 use Rattle.flow_types.specs.declared.place.CapKind.TheVariants as kind
 use Rattle.flow_types.specs.declared.plan.Stop.{Stop}
+use Rattle.plan_rules.specs.Cells.{Tally}
 use Rattle.plan_rules.specs.FirstBroken.{broken_turn, first_along, first_over}
 use Rattle.plan_rules.specs.Loads.{arrival_at, departure_at, load_at}
 use Rattle.plan_rules.specs.declared.broken.Broken.{Broken}
 use Rattle.plan_rules.specs.declared.judging.Verdict.{Verdict}
 use Rattle.plan_rules.specs.declared.judging.Verdict.TheVariants.{Keeps, Breaks}
-use Rattle.plan_rules.specs.declared.loads.Loads.{Loads}
 
 -- a fact for each verdict
 abbrev pub MatchVerdict : Verdict → (ℤ → Type 0) → (Broken → Type 0) → Type 0
@@ -22,7 +22,7 @@ abbrev pub IsUpward : Leg → Type 0
 IsUpward leg = leg.from < leg.to
 
 -- the first turnaround or capacity that the loads break
-abbrev pub first_broken_load : Parts → Loads → Option Broken
+abbrev pub first_broken_load : Parts → Tally → Option Broken
 first_broken_load parts loads =
     option_or (first_along (broken_turn (arrival_at loads) (departure_at loads)) parts.connections)
     (option_or (first_over parts kind.Dep (load_at loads kind.Dep))

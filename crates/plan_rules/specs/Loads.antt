@@ -7,39 +7,51 @@ use Rattle.flow_types.specs.declared.place.CapKind.TheVariants as kind
 use Rattle.flow_types.specs.declared.plan.Stop.{Stop}
 use Rattle.flow_types.specs.Counts.{departs_at, arrives_at, stays_at, departures_at, arrivals_at, occupancy_at}
 use Rattle.flow_types.specs.Trips.{IsTrip, departure_of, arrival_of}
-use Rattle.plan_rules.specs.Table.{Adds, count_at}
-use Rattle.plan_rules.specs.declared.loads.Loads.{Loads}
-use Rattle.plan_rules.specs.declared.table.Table.{Table}
+use Rattle.plan_rules.specs.Cells.{Cells, Tally}
+use Rattle.plan_rules.specs.Grid.{Adds, IsEmpty, count_at}
 
 -- the counts of one kind
-abbrev pub table_of : Loads → CapKind → Table
-table_of loads kind.Dep = loads.departures
-table_of loads kind.Arr = loads.arrivals
-table_of loads kind.Sector = loads.inside
+abbrev pub cells_of : Tally → CapKind → Cells
+cells_of loads kind.Dep = loads.departures
+cells_of loads kind.Arr = loads.arrivals
+cells_of loads kind.Sector = loads.inside
 
 -- how many flights depart from, arrive at or are inside the place in the period
-abbrev pub load_at : Loads → CapKind → ℕ → ℕ → ℕ
-load_at loads kind place period = count_at (table_of loads kind) place period
+abbrev pub load_at : Tally → CapKind → ℕ → ℕ → ℕ
+load_at loads kind place period = count_at (cells_of loads kind) place period
 
 -- when a flight that is there departs and arrives
-abbrev pub departure_at : Loads → ℕ → Option ℕ
-departure_at loads flight = slice_index_or loads.leaves.items flight None
+abbrev pub departure_at : Tally → ℕ → Option ℕ
+departure_at loads flight = slice_index_or loads.leaves flight None
 
-abbrev pub arrival_at : Loads → ℕ → Option ℕ
-arrival_at loads flight = slice_index_or loads.arrives.items flight None
+abbrev pub arrival_at : Tally → ℕ → Option ℕ
+arrival_at loads flight = slice_index_or loads.arrives flight None
+
+-- the place and the period are among those that are counted
+pub record IsCell (cells : Cells) (k t : ℕ) : Type 0 where
+  pub place : k < cells.places
+  pub period : t < cells.periods
+
+-- nothing is counted, and no flight is there
+pub record IsClear (loads : Tally) : Type 0 where
+  pub departures : IsEmpty loads.departures
+  pub arrivals : IsEmpty loads.arrivals
+  pub inside : IsEmpty loads.inside
+  pub leaves : (f : ℕ) → departure_at loads f ≡ None
+  pub arrives : (f : ℕ) → arrival_at loads f ≡ None
 
 -- as many places and periods
-pub record HasSize (places periods : ℕ) (table : Table) : Type 0 where
-  pub wide : table.places ≡ places
-  pub long : table.periods ≡ periods
+pub record HasSize (places periods : ℕ) (cells : Cells) : Type 0 where
+  pub wide : cells.places ≡ places
+  pub long : cells.periods ≡ periods
 
 -- the loads have room for the scenario's places, periods and flights
-pub record IsMadeFor (parts : Parts) (loads : Loads) : Type 0 where
+pub record IsMadeFor (parts : Parts) (loads : Tally) : Type 0 where
   pub departures : HasSize (length parts.places) parts.day.periods loads.departures
   pub arrivals : HasSize (length parts.places) parts.day.periods loads.arrivals
   pub inside : HasSize (length parts.places) parts.day.periods loads.inside
-  pub leaves : length loads.leaves.items ≡ length parts.flights
-  pub arrives : length loads.arrives.items ≡ length parts.flights
+  pub leaves : length loads.leaves ≡ length parts.flights
+  pub arrives : length loads.arrives ≡ length parts.flights
 
 -- each flight has a trip of its own, or no stops: it isn't there
 abbrev pub IsTripOrNone : ℕ → Flight → List Stop → Type 0
@@ -58,7 +70,7 @@ abbrev pub no_trips : Parts → List (List Stop)
 no_trips parts = map (λ flight. []) parts.flights
 
 -- The loads count these trips, one for each flight; a flight with no stops isn't there.
-pub record AreLoads (parts : Parts) (trips : List (List Stop)) (loads : Loads) : Type 0 where
+pub record AreLoads (parts : Parts) (trips : List (List Stop)) (loads : Tally) : Type 0 where
   pub made : IsMadeFor parts loads
   pub each : AreTripsOrNone parts.day.periods parts.flights trips
   pub departures : (k t : ℕ) → k < length parts.places → t < parts.day.periods
@@ -75,9 +87,9 @@ abbrev pub IsTripAt : Parts → ℕ → List Stop → Type 0
 IsTripAt parts number stops = (flight : Flight) → slice_get parts.flights number ≡ Some flight → IsTrip parts.day.periods flight stops
 
 -- one trip more
-pub record AddsTrip (flight : Flight) (number : ℕ) (stops : List Stop) (old new : Loads) : Type 0 where
+pub record AddsTrip (flight : Flight) (number : ℕ) (stops : List Stop) (old new : Tally) : Type 0 where
   pub departures : Adds (λ k t. departs_at k t flight stops) old.departures new.departures
   pub arrivals : Adds (λ k t. arrives_at k t flight stops) old.arrivals new.arrivals
   pub inside : Adds (λ k t. stays_at k t flight stops) old.inside new.inside
-  pub leaves : new.leaves.items ≡ slice_set old.leaves.items number (departure_of stops)
-  pub arrives : new.arrives.items ≡ slice_set old.arrives.items number (arrival_of stops)
+  pub leaves : new.leaves ≡ slice_set old.leaves number (departure_of stops)
+  pub arrives : new.arrives ≡ slice_set old.arrives number (arrival_of stops)

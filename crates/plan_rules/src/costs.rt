@@ -4,7 +4,7 @@ ghost use Rattle.flow_types.specs.Costs.{plan_cost, trip_cost_at};
 ghost use Rattle.flow_types.specs.Feasible.{AreTrips};
 ghost use Rattle.flow_types.specs.Scenario.{flight_at, parts_of};
 
-use crate::stays::{arrival_of, departure_of};
+use crate::trip_counts::{arrival_of, departure_of};
 use flow_types::{Plan, Scenario, Stop};
 
 /// The cost of the plan, each of whose trips is one of its flight: for each flight the total of

@@ -1,7 +1,6 @@
 //! Whether a plan keeps every rule.
 ghost use Rattle.std.specs.Prelude.{◌≡◌, ◌<◌, ◌^◌, None, Some, ⊤, IsTrue, OnOk, All, length, slice_get};
 ghost use Rattle.std.specs.Option.{option_or};
-ghost use Rattle.flow_types.specs.Capacities.{has_kind};
 ghost use Rattle.flow_types.specs.Costs.{plan_cost};
 ghost use Rattle.flow_types.specs.Feasible.{AreTrips, IsFeasible};
 ghost use Rattle.flow_types.specs.Scenario.{parts_of};
@@ -12,7 +11,7 @@ ghost use Rattle.plan_rules.specs.Loads.{AreLoads, IsMadeFor, arrival_at, depart
 use crate::costs::cost;
 use crate::trips::check_trips;
 use crate::{Broken, Loads};
-use flow_types::{CapKind, Connection, Place, PlaceKind, Plan, Scenario, Trip};
+use flow_types::{CapKind, Connection, Plan, Scenario, Trip, has_kind};
 
 // Adds the plan's trips, one for each flight, to loads that have none.
 fn add_all(loads: &mut Loads, s: &Scenario, plan: &[Trip])
@@ -28,8 +27,8 @@ fn add_all(loads: &mut Loads, s: &Scenario, plan: &[Trip])
 // Whether each connection has its turnaround.
 fn check_turns(loads: &Loads, connections: &[Connection]) -> Result<(), Broken>
     requires few { length connections.now < 2 ^ 32 }
-    requires arrives { All (λ connection. connection.first < length loads.now.arrives.items) connections.now }
-    requires leaves { All (λ connection. connection.second < length loads.now.leaves.items) connections.now }
+    requires arrives { All (λ connection. connection.first < length loads.now.arrives) connections.now }
+    requires leaves { All (λ connection. connection.second < length loads.now.leaves) connections.now }
     ensures { Finds (first_along (broken_turn (arrival_at loads.now) (departure_at loads.now)) connections.now) result }
 {
     for at in 0..connections.len() {
@@ -40,8 +39,8 @@ fn check_turns(loads: &Loads, connections: &[Connection]) -> Result<(), Broken>
 
 // Whether the second flight leaves no earlier than the turnaround after the first has arrived.
 fn check_turn(loads: &Loads, connection: &Connection, number: u32) -> Result<(), Broken>
-    requires arrives { connection.now.first < length loads.now.arrives.items }
-    requires leaves { connection.now.second < length loads.now.leaves.items }
+    requires arrives { connection.now.first < length loads.now.arrives }
+    requires leaves { connection.now.second < length loads.now.leaves }
     ensures { Finds (broken_turn (arrival_at loads.now) (departure_at loads.now) number connection.now) result }
 {
     let Some(arrives) = loads.arrival(connection.first) else {
@@ -71,24 +70,13 @@ fn check_kind(loads: &Loads, s: &Scenario, kind: CapKind) -> Result<(), Broken>
     Ok(())
 }
 
-// Whether the place has capacities of this kind.
-fn has_kind(kind: CapKind, place: &Place) -> bool
-    ensures { result ≡ has_kind kind (Some place.now) }
-{
-    match (kind, place.kind) {
-        (CapKind::Dep | CapKind::Arr, PlaceKind::Airport) => true,
-        (CapKind::Sector, PlaceKind::Sector) => true,
-        _ => false,
-    }
-}
-
 // Whether they are kept in the place in every period, if it has them.
 fn check_place(loads: &Loads, s: &Scenario, kind: CapKind, place: u32) -> Result<(), Broken>
     requires made { IsMadeFor (parts_of s.now) loads.now }
     requires place { place < length (parts_of s.now).places }
     ensures { Finds (first_over_in (parts_of s.now) kind (load_at loads.now kind) place) result }
 {
-    if !has_kind(kind, &s.places()[place as usize]) {
+    if !has_kind(kind, s.places(), place) {
         return Ok(());
     }
     for period in 0..s.day().periods {

@@ -1,24 +1,34 @@
 //! The rules of a plan: how many flights are where, whether a plan keeps every rule, and what it
 //! costs.
 //!
-//! A caller makes `Loads` once for a scenario and lends them to `judge`, which takes no memory.
+//! A caller makes `Loads` once for a scenario, and lends them to `judge` for each plan:
+//!
+//!     let mut loads = Loads::new(alloc, &s)?;
+//!     match judge(&mut loads, &s, &plan) {
+//!         Verdict::Keeps { cost } => println!("it costs {cost}; {} depart",
+//!             loads.load(CapKind::Dep, place, period)),
+//!         Verdict::Breaks(Broken::Turn { connection, .. }) => ..,
+//!         Verdict::Breaks(_) => ..,
+//!     }
+//!
 //! `judge` answers `Keeps`, with the plan's cost, exactly where the plan is feasible (`keeps`, `cost`);
 //! the loads then count its trips (`loads`). Otherwise it answers the first rule that the plan breaks,
-//! with its values, and the loads hold no trips (`broken`, `loads`). `cost` is the sum of the costs of a
-//! plan's trips. `plans_that_break_nothing_are_feasible` ties the two definitions together.
+//! with its values, and the loads hold no trips (`broken`, `loads`). Trips may be added one by one too
+//! (`Loads::add`), and taken out together (`Loads::clear`). `cost` is the sum of the costs of a plan's
+//! trips. `plans_that_break_nothing_are_feasible` ties the two definitions together.
 //!
 //! Time: `judge` looks at each stop with the legs of its flight, at each period that a flight
 //! spends in a sector, and a few times at each place and period. `Loads` take twelve bytes a place and
 //! period, and eight a flight.
 #![tactic(auto)]
 
-pub mod broken;
-pub mod costs;
-pub mod judging;
-pub mod laws;
-pub mod loads;
-mod stays;
-mod table;
+mod broken;
+mod costs;
+mod grid;
+mod judging;
+mod laws;
+mod loads;
+mod trip_counts;
 mod trips;
 
 pub use broken::Broken;
@@ -28,6 +38,3 @@ pub use laws::{
     first_broken_rules_are_first, plans_that_break_nothing_are_feasible, trips_are_counted_once,
 };
 pub use loads::Loads;
-
-#[cfg(test)]
-mod tests;

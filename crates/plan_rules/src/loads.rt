@@ -1,20 +1,44 @@
 //! How many flights depart, arrive or are inside a sector in each period.
 ghost use Rattle.std.specs.Prelude.{◌≡◌, ℕ, IfOk, None, length, replicate, slice_index_or};
 
-use crate::stays::{add_arrival, add_departure, add_stays, arrival_of, departure_of};
-use crate::table::Table;
+use crate::grid::Grid;
+use crate::trip_counts::{add_arrival, add_departure, add_stays, arrival_of, departure_of};
 use flow_types::{CapKind, Flight, OutOfMemory, Scenario, Stop};
 use std::alloc::Global;
+use std::marker::Model;
+
+// What loads are known to hold without a look at their counts.
+#[derive(Clone, Copy, Debug, PartialEq, Eq)]
+enum Contents {
+    // No trip: every count is zero.
+    Nothing,
+    // Trips, it may be.
+    Trips,
+}
 
 /// The counts and end times of trips, at most one a flight, of the scenario that they were made
-/// for. They take twelve bytes a place and period, and eight a flight.
+/// for: its places, periods and flights. They take twelve bytes a place and period, and eight a
+/// flight. Contracts see them as a `Tally`.
 #[derive(Debug, Drop)]
 pub struct Loads {
-    departures: Table,
-    arrivals: Table,
-    inside: Table,
+    departures: Grid,
+    arrivals: Grid,
+    inside: Grid,
     leaves: Vec<Option<u16>>,
     arrives: Vec<Option<u16>>,
+    contents: Contents,
+}
+
+impl Model for Loads {
+    ghost use Rattle.plan_rules.specs.Cells.{Tally};
+
+    ghost Value = { Tally };
+
+    ghost use Rattle.plan_rules.specs.Contents.{AreContents};
+
+    ghost view = { λ a. record { departures = a.departures; arrivals = a.arrivals; inside = a.inside; leaves = a.leaves.items; arrives = a.arrives.items } };
+
+    ghost invariant = { λ a. AreContents a.contents (record { departures = a.departures; arrivals = a.arrivals; inside = a.inside; leaves = a.leaves.items; arrives = a.arrives.items }) };
 }
 
 impl Loads {
@@ -22,7 +46,7 @@ impl Loads {
     ghost use Rattle.flow_types.specs.declared.parts.Parts.{Parts};
     ghost use Rattle.flow_types.specs.declared.plan.Stop.{Stop};
     ghost use Rattle.flow_types.specs.Scenario.{parts_of};
-    ghost use Rattle.plan_rules.specs.Loads.{AddsTrip, AreLoads, IsMadeFor, IsTripAt, arrival_at, departure_at, load_at, no_trips, table_of};
+    ghost use Rattle.plan_rules.specs.Loads.{AddsTrip, AreLoads, IsCell, IsMadeFor, IsTripAt, arrival_at, cells_of, departure_at, load_at, no_trips};
 
     /// Loads of a scenario, with no trips.
     pub fn new(alloc: Global, s: &Scenario) -> Result<Loads, OutOfMemory>
@@ -32,23 +56,31 @@ impl Loads {
         let periods = s.day().periods;
         let flights = s.flights().len();
         Ok(Loads {
-            departures: Table::new(alloc, places, periods)?,
-            arrivals: Table::new(alloc, places, periods)?,
-            inside: Table::new(alloc, places, periods)?,
+            departures: Grid::new(alloc, places, periods)?,
+            arrivals: Grid::new(alloc, places, periods)?,
+            inside: Grid::new(alloc, places, periods)?,
             leaves: no_times(alloc, flights)?,
             arrives: no_times(alloc, flights)?,
+            contents: Contents::Nothing,
         })
     }
 
-    /// Takes every trip out. The loads stay those of the scenario that they were made for.
+    /// Takes every trip out. The loads stay those of the scenario that they were made for. Where
+    /// none was added since they were new or cleared, it takes no time.
     pub fn clear(&mut self)
         ensures { (parts : Parts) → IsMadeFor parts self.old → AreLoads parts (no_trips parts) self.new }
     {
-        self.departures.clear();
-        self.arrivals.clear();
-        self.inside.clear();
-        clear_times(&mut self.leaves);
-        clear_times(&mut self.arrives);
+        match self.contents {
+            Contents::Nothing => {}
+            Contents::Trips => {
+                self.departures.clear();
+                self.arrivals.clear();
+                self.inside.clear();
+                clear_times(&mut self.leaves);
+                clear_times(&mut self.arrives);
+                self.contents = Contents::Nothing;
+            }
+        }
     }
 
     /// Adds a trip of the flight, which isn't there yet. The loads were made for the scenario.
@@ -65,10 +97,11 @@ impl Loads {
 
     // Adds a trip of the flight, which has that number.
     fn add_trip(&mut self, flight: &Flight, number: usize, stops: &[Stop])
-        requires leaves { number < length self.old.leaves.items }
-        requires arrives { number < length self.old.arrives.items }
+        requires leaves { number < length self.old.leaves }
+        requires arrives { number < length self.old.arrives }
         ensures { AddsTrip flight.now number stops.now self.old self.new }
     {
+        self.contents = Contents::Trips;
         add_departure(&mut self.departures, flight, stops);
         add_arrival(&mut self.arrivals, flight, stops);
         add_stays(&mut self.inside, flight, stops);
@@ -76,10 +109,10 @@ impl Loads {
         self.arrives[number] = arrival_of(stops);
     }
 
-    /// How many flights depart from, arrive at or are inside the place in the period.
+    /// How many flights depart from, arrive at or are inside the place in the period. Both are of
+    /// the scenario that the loads were made for.
     pub fn load(&self, kind: CapKind, place: u32, period: u16) -> u32
-        requires place { place < (table_of self.now kind).places }
-        requires period { period < (table_of self.now kind).periods }
+        requires { IsCell (cells_of self.now kind) place period }
         ensures { result ≡ load_at self.now kind place period }
     {
         match kind {
@@ -89,17 +122,19 @@ impl Loads {
         }
     }
 
-    /// When the flight departs, nothing where it isn't there.
+    /// When the flight departs, nothing where it isn't there. It is one of the scenario that the
+    /// loads were made for.
     pub fn departure(&self, flight: u32) -> Option<u16>
-        requires { flight < length self.now.leaves.items }
+        requires { flight < length self.now.leaves }
         ensures { result ≡ departure_at self.now flight }
     {
         self.leaves[flight as usize]
     }
 
-    /// When the flight arrives, nothing where it isn't there.
+    /// When the flight arrives, nothing where it isn't there. It is one of the scenario that the
+    /// loads were made for.
     pub fn arrival(&self, flight: u32) -> Option<u16>
-        requires { flight < length self.now.arrives.items }
+        requires { flight < length self.now.arrives }
         ensures { result ≡ arrival_at self.now flight }
     {
         self.arrives[flight as usize]

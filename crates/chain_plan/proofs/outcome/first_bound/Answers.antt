@@ -9,7 +9,8 @@ use Rattle.flow_types.specs.declared.day.Day.{Day}
 use Rattle.flow_types.specs.declared.flight.Flight.{Flight}
 use Rattle.flow_types.specs.Scenario.{parts_of}
 use Rattle.chain_plan.specs.Chains.{HasEarliest, IsLeastPair}
-use Rattle.chain_plan.proofs.BoundFacts.{none_feasible, pairs_below, total_of_all-push, zip_more}
+use Rattle.exact_sums.proofs.SumFacts.{total-push}
+use Rattle.chain_plan.proofs.BoundFacts.{none_feasible, pairs_below, zip_more}
 use Rattle.chain_plan.proofs.outcome.first_bound.Goals as goal
 
 pub returns-then-not-has_earliest-clause-sound : goal.returns-then-not-has_earliest-clause-sound
@@ -38,7 +39,7 @@ loop-at-preserved c =
     let has = rw periods at (c.if-not-has_earliest.ensures.0 refl) in
     let so_far = c.loop-at.invariant.pairs in
     let v = c.least_pair-least.result in
-    let more = total_of_all-push so_far.0 v in
+    let more = total-push (λ pair. pair) so_far.0 v in
     let few = c.args.s.now.valid.flights_few in
     record {
       has = All-more (HasEarliest parts.day.periods) parts.flights at flight (omega arith) c.loop-at.invariant.has (subst (HasEarliest parts.day.periods) is has);

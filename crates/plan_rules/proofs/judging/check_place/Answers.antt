@@ -1,5 +1,4 @@
-use Rattle.std.proofs.Common.{◌≡◌, ◌∙◌, true, Some, length, slice_get, ap, refl, arith}
-use Rattle.std.proofs.lemmas.Option.{slice_get_read}
+use Rattle.std.proofs.Common.{◌≡◌, ◌∙◌, true, slice_get, ap, arith}
 use Rattle.flow_types.specs.declared.day.Day.{Day}
 use Rattle.flow_types.specs.Capacities.{has_kind}
 use Rattle.flow_types.specs.Scenario.{parts_of}
@@ -16,9 +15,8 @@ returns-then-load-capacity c =
     let load = load_at c.args.loads.now kind in
     let place = c.args.place in
     let period = c.loop-period.period in
-    let here : slice_get parts.places place ≡ Some c.index-places-place.result =
-    slice_get_read parts.places (length parts.places) place c.index-places-place.result refl c.requires.place (rw c.places.ensures at c.index-places-place.is) in
-    let has : has_kind kind (slice_get parts.places place) ≡ true = ap (has_kind kind) here ∙ cc in
+    let kinds = rw c.places.ensures at c.has_kind.ensures in
+    let has : has_kind kind (slice_get parts.places place) ≡ true = cc in
     let periods = ap (λ (d : Day). d.periods) c.day-period-end.ensures in
     place_with parts kind load place has
     ∙ first_below-found parts.day.periods period (broken_capacity parts kind load place) c.over.result c.loop-period.invariant

@@ -19,4 +19,10 @@ returns c =
       leaves = ap length c.in_ok-no_times.ensures ∙ long;
       arrives = ap length c.in_ok-no_times-2.ensures ∙ long;
     })
-    c.in_ok-new.ensures.zeros c.in_ok-new-2.ensures.zeros c.in_ok-new-3.ensures.zeros (λ f. none_in _ _ f c.in_ok-no_times.ensures) (λ f. none_in _ _ f c.in_ok-no_times-2.ensures)
+    (record {
+      departures = c.in_ok-new.ensures.zeros;
+      arrivals = c.in_ok-new-2.ensures.zeros;
+      inside = c.in_ok-new-3.ensures.zeros;
+      leaves = λ f. none_in _ _ f c.in_ok-no_times.ensures;
+      arrives = λ f. none_in _ _ f c.in_ok-no_times-2.ensures;
+    })

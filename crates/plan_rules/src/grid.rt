@@ -1,0 +1,91 @@
+//! Counts by place and period.
+ghost use Rattle.std.specs.Prelude.{◌≡◌, ◌*◌, EachIndex, slice_index};
+
+use std::alloc::{AllocError, Global};
+use std::marker::Model;
+
+/// A count for each place and each period, in one block of four bytes each.
+#[derive(Debug, Drop)]
+pub struct Grid {
+    places: usize,
+    periods: u16,
+    counts: Vec<u32>,
+}
+
+impl Model for Grid {
+    ghost use Rattle.std.specs.Prelude.{◌≡◌, ◌*◌, vec_len};
+    ghost use Rattle.plan_rules.specs.Cells.{Cells};
+
+    ghost Value = { Cells };
+
+    ghost view = { λ a. record { places = a.places; periods = a.periods; counts = a.counts.items } };
+
+    ghost invariant = { λ a. vec_len a.counts ≡ a.places * a.periods };
+}
+
+impl Grid {
+    ghost use Rattle.std.specs.Prelude.{◌==◌, ◌&&◌, ◌<◌, ◌^◌, ℕ, nat_le, nat_lt, IfOk};
+    ghost use Rattle.flow_types.specs.Counts.{one_if};
+    ghost use Rattle.plan_rules.specs.Grid.{Adds, IsEmpty, SameSize, count_at};
+
+    /// A grid of zeros.
+    pub fn new(alloc: Global, places: usize, periods: u16) -> Result<Grid, AllocError>
+        requires { places * periods < 2 ^ 64 }
+        ensures size { IfOk result (λ grid. (grid.places ≡ places) × (grid.periods ≡ periods)) }
+        ensures zeros { IfOk result IsEmpty }
+    {
+        Ok(Grid {
+            places,
+            periods,
+            counts: vec![in alloc; 0; places * usize::from(periods)]?,
+        })
+    }
+
+    /// Sets every count to zero.
+    pub fn clear(&mut self)
+        ensures size { SameSize self.old self.new }
+        ensures zeros { IsEmpty self.new }
+    {
+        clear_all(&mut self.counts);
+    }
+
+    /// The count of the place in the period, 0 outside the grid.
+    pub fn get(&self, place: u32, period: u16) -> u32
+        ensures { place < self.now.places → period < self.now.periods → result ≡ count_at self.now place period }
+    {
+        if (place as usize) < self.places && period < self.periods {
+            self.counts[place as usize * usize::from(self.periods) + usize::from(period)]
+        } else {
+            0
+        }
+    }
+
+    /// Counts one more at the place in the period, nothing outside the grid.
+    pub fn add(&mut self, place: u32, period: u16)
+        ensures { Adds (λ k t. one_if ((place == k) && (period == t))) self.old self.new }
+    {
+        let periods = self.periods;
+        if (place as usize) < self.places && period < periods {
+            let at = place as usize * usize::from(periods) + usize::from(period);
+            self.counts[at] = self.counts[at].saturating_add(1);
+        }
+    }
+
+    /// Counts one more at the place in each period from `from` up to, but not including, `to`.
+    pub fn add_stay(&mut self, place: u32, from: u16, to: u16)
+        ensures { Adds (λ k t. one_if ((place == k) && nat_le from t && nat_lt t to)) self.old self.new }
+    {
+        for period in from..to.min(self.periods) {
+            self.add(place, period);
+        }
+    }
+}
+
+// Sets each number to zero.
+fn clear_all(counts: &mut [u32])
+    ensures { EachIndex counts.new (λ k. slice_index counts.new k ≡ 0) }
+{
+    for count in counts.iter_mut() {
+        *count = 0;
+    }
+}

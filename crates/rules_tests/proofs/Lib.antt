@@ -1,0 +1,2 @@
+mod BrokenCases
+mod ChainCases

@@ -1,0 +1,69 @@
+//! Each public call once, with ample memory.
+ghost use Rattle.std.specs.Prelude.{IfOk};
+ghost use Rattle.flow_types.specs.Scenario.{parts_of};
+ghost use Rattle.plan_rules.specs.Loads.{IsMadeFor};
+
+use chain_plan::{is_day_of_chains, plan_chains};
+use flow_types::{Bound, CapKind, OutOfMemory, Scenario};
+use plan_rules::{
+    Loads, Verdict, cost, first_broken_rules_are_first, judge,
+    plans_that_break_nothing_are_feasible, trips_are_counted_once,
+};
+use std::alloc::Global;
+use std::test::Fail;
+use worked_days::{plan_with, trip_at, two_flights};
+
+// Loads of the day, after a plan was judged whose second flight departs a period late.
+fn loads_of(alloc: Global, s: &Scenario) -> Result<Loads, OutOfMemory>
+    ensures { IfOk result (IsMadeFor (parts_of s.now)) }
+{
+    let plan = plan_with(alloc, &trip_at(1, 3))?;
+    let mut loads = Loads::new(alloc, s)?;
+    match judge(&mut loads, s, &plan) {
+        Verdict::Keeps { .. } => Ok(loads),
+        Verdict::Breaks(_) => Ok(loads),
+    }
+}
+
+#[test]
+fn loads_count_the_trips_of_a_plan(rt: HostRuntime) -> Result<(), Fail> {
+    let alloc = rt.alloc();
+    let s = two_flights(alloc, 9, 9, 9)?;
+    let mut loads = loads_of(alloc, &s)?;
+    assert_eq!(rt; loads.departure(1), Some(1));
+    assert_eq!(rt; loads.arrival(1), Some(3));
+    // The period, and how many leave in it, are inside in it and arrive in it.
+    for (period, leave, inside, arrive) in [
+        (0, 1, 1, 0),
+        (1, 1, 2, 0),
+        (2, 0, 1, 1),
+        (3, 0, 0, 1),
+    ] {
+        assert_eq!(rt; loads.load(CapKind::Dep, 0, period), leave, "{period}");
+        assert_eq!(rt; loads.load(CapKind::Arr, 1, period), arrive, "{period}");
+        assert_eq!(rt; loads.load(CapKind::Sector, 2, period), inside, "{period}");
+    }
+    loads.clear();
+    loads.add(&s, 1, &trip_at(1, 3));
+    Ok(())
+}
+
+#[test]
+fn a_day_is_judged_and_planned(rt: HostRuntime) -> Result<(), Fail> {
+    let alloc = rt.alloc();
+    let s = two_flights(alloc, 2, 9, 9)?;
+    let plan = plan_with(alloc, &trip_at(0, 2))?;
+    let mut loads = Loads::new(alloc, &s)?;
+    match judge(&mut loads, &s, &plan) {
+        Verdict::Keeps { cost: paid } => assert_eq!(rt; (paid, cost(&s, &plan)), (0, 0)),
+        Verdict::Breaks(_) => return Err("the plan keeps every rule".into()),
+    }
+    assert!(rt; is_day_of_chains(&s));
+    let outcome = plan_chains(alloc, &s)?;
+    assert_eq!(rt; outcome.bound, Bound::AtLeast(0));
+    assert_eq!(rt; outcome.kept.map(|kept| kept.cost), Some(0));
+    trips_are_counted_once();
+    plans_that_break_nothing_are_feasible();
+    first_broken_rules_are_first();
+    Ok(())
+}
