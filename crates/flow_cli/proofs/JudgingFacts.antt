@@ -1,5 +1,5 @@
 -- What is answered to a plan is what is answered to the words, where the day was read before.
-use Rattle.std.proofs.Common.{◌≡◌, ℕ, ◌≤◌, List, Option, Result, Ok, Err, subst, sym, inl, inr, arith}
+use Rattle.std.proofs.Common.{ℕ, ◌≤◌, List, Option, Result, Ok, Err, subst, sym, inl, inr, arith}
 use Rattle.flow_outside.specs.Counts.{Rose}
 use Rattle.flow_outside.specs.Held.{Held, HasName}
 use Rattle.flow_outside.specs.Seen.{AreKept, FilesSeen}

@@ -6,7 +6,6 @@ use Rattle.flow_outside.specs.Seen.{FilesSeen}
 use Rattle.flow_types.specs.declared.fault.Fault.{Fault}
 use Rattle.flow_types.specs.declared.parts.Parts.{Parts}
 use Rattle.scenario_reader.specs.Reading.{scenario_of}
-use Rattle.flow_cli.specs.declared.status.Status.{Status}
 use Rattle.flow_cli.specs.declared.status.Status.TheVariants.{BadScenario, ReadFault, TooLong}
 use Rattle.flow_cli.specs.Faults.{fault_text, too_long_text}
 use Rattle.flow_cli.specs.Outside.{Change, Printed}

@@ -1,6 +1,5 @@
 -- A plan breaks no rule exactly where it is feasible; and its loads break the rules that it breaks.
-use Rattle.std.proofs.Common.{◌≡◌, ◌⊎◌, ℕ, ◌+◌, ◌<◌, ◌≤◌, Bool, true, false, ◌==◌, nat_le, List, [], length, get_or, slice_get, Option, Some, None, option_and_then, All, AllPairs, IsTrue, refl, sym, ap, ◌∙◌, subst, inl, inr, cond, arith}
-use Rattle.std.proofs.lemmas.Bool.{cases_lt}
+use Rattle.std.proofs.Common.{◌≡◌, ℕ, ◌+◌, ◌<◌, ◌≤◌, Bool, true, false, ◌==◌, nat_le, List, [], length, get_or, slice_get, Option, Some, None, option_and_then, All, AllPairs, IsTrue, refl, sym, ap, ◌∙◌, cond, arith}
 use Rattle.std.proofs.lemmas.Bool.Decides.{nat_tests}
 use Rattle.std.proofs.lemmas.Option.{slice_get-get_or, slice_get_within}
 use Rattle.std.specs.Option.{option_or}

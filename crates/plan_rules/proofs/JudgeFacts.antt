@@ -1,13 +1,7 @@
 -- The first trips of a plan.
-use Rattle.std.proofs.Common.{◌≡◌, ℕ, suc, zero, ◌<◌, ◌≤◌, false, List, [], ◌∷◌, length, map, get_or, set, slice_get, Some, None, IsTrue, refl, sym, ap, ◌∙◌, subst, arith}
-use Rattle.std.proofs.lemmas.Bool.{false≢true}
-use Rattle.std.proofs.lemmas.Option.{slice_get_past}
+use Rattle.std.proofs.Common.{◌≡◌, ℕ, suc, zero, ◌<◌, ◌≤◌, List, [], ◌∷◌, length, map, get_or, set, slice_get, Some, refl, ap, subst, arith}
 use Rattle.flow_types.specs.declared.flight.Flight.{Flight}
-use Rattle.flow_types.specs.declared.place.CapKind.{CapKind}
-use Rattle.flow_types.specs.declared.place.CapKind.TheVariants as kind
-use Rattle.flow_types.specs.declared.place.Place.{Place}
 use Rattle.flow_types.specs.declared.plan.Stop.{Stop}
-use Rattle.flow_types.specs.Capacities.{has_kind}
 use Rattle.flow_types.specs.Feasible.{AreTrips}
 use Rattle.flow_types.specs.Trips.{IsTrip}
 use Rattle.plan_rules.specs.Judge.{first_trips}

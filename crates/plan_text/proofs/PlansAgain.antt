@@ -1,23 +1,22 @@
 -- The lines of a plan's trips are read as the plan.
-use Rattle.std.specs.Prelude.{codes, replicate}
-use Rattle.std.proofs.Common.{◌≡◌, ℕ, suc, ◌+◌, ◌<◌, ◌≤◌, List, [], ◌∷◌, ◌++◌, length, Option, Some, None, Result, Ok, map, set, slice_get, refl, sym, ap, subst, ◌∙◌, arith, append_assoc, length-append}
+use Rattle.std.specs.Prelude.{codes}
+use Rattle.std.proofs.Common.{◌≡◌, ℕ, ◌+◌, List, [], ◌∷◌, ◌++◌, length, Option, Some, None, Ok, map, set, slice_get, refl, sym, ap, subst, ◌∙◌, arith, append_assoc, length-append}
 use Rattle.std.specs.Fmt.{decimal}
 use Rattle.std.proofs.Math.Seq.{get_or-append_seam, set-append_seam}
 use Rattle.std.proofs.lemmas.List.{append-nil, length-map, map-append}
 use Rattle.std.proofs.lemmas.Option.{slice_get-get_or}
-use Rattle.flow_types.specs.declared.fault.Fault.{Fault}
 use Rattle.flow_types.specs.declared.flight.Flight.{Flight}
 use Rattle.flow_types.specs.declared.parts.Parts.{Parts}
 use Rattle.flow_types.specs.declared.place.Place.{Place}
 use Rattle.flow_types.specs.declared.plan.Stop.{Stop}
 use Rattle.flow_types.specs.Feasible.{AreTrips}
 use Rattle.flow_types.specs.Trips.{IsTrip, place_at}
-use Rattle.flow_types.specs.Valid.{IsFlight, IsScenario}
+use Rattle.flow_types.specs.Valid.{IsScenario}
 use Rattle.text_records.specs.Rows.{Fields}
-use Rattle.text_records.proofs.LineFacts.{ArePlain, ArePlainLines, IsPlain, IsPlainLine, line_of, more_fields, plain_decimal, plain_if_name}
+use Rattle.text_records.proofs.LineFacts.{ArePlain, ArePlainLines, IsPlain, line_of, more_fields, plain_decimal, plain_if_name}
 use Rattle.plan_text.specs.Kinds.{kind_of}
 use Rattle.plan_text.specs.Lines.{name_at, stop_text, stops_text, trip_text}
-use Rattle.plan_text.specs.Plans.{none_read, plan_from, record_step, records_step, stops_or_none, trip_step, trips_of, with_trip}
+use Rattle.plan_text.specs.Plans.{none_read, record_step, records_step, trip_step, trips_of}
 use Rattle.plan_text.specs.Trips.{TripsRead}
 use Rattle.plan_text.specs.declared.kind.Kind.TheVariants as kind
 use Rattle.plan_text.proofs.TripsAgain.{AreReadBack, are_read_back, is_flight, is_place, place_there, stop_fields, trip_back, trip_fields}
@@ -113,6 +112,7 @@ module _ (parts : Parts) (valid : IsScenario parts) where
   plain_trips before (flight ∷ flights) (trip ∷ plan) are trips =
       let there : slice_get parts.flights (length before) ≡ Some flight = rw are (seam before flight flights) in
       let valid_flight = is_flight parts valid (length before) flight there in
-      let back = are_read_back parts.day.periods valid.day.periods_from flight valid_flight.route.each_leg trip trips.0 in
-      ((refl, (plain_if_name flight.name valid_flight.name, plain_stops (length before) flight there trip back)),
-       plain_trips (before ++ flight ∷ []) flights plan (are ∙ sym (append_assoc before (flight ∷ []) flights)) trips.1)
+      let back = are_read_back parts.day.periods valid.day.periods_from flight valid_flight.route.each_leg trip trips.0 in (
+        (refl, (plain_if_name flight.name valid_flight.name, plain_stops (length before) flight there trip back)),
+        plain_trips (before ++ flight ∷ []) flights plan (are ∙ sym (append_assoc before (flight ∷ []) flights)) trips.1,
+      )

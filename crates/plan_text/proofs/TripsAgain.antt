@@ -1,7 +1,7 @@
 -- A trip that its line tells is read back: its stops are at nodes of the flight, in periods of the
 -- day, and no more than its nodes.
 use Rattle.std.specs.Prelude.{codes}
-use Rattle.std.proofs.Common.{◌≡◌, ◌≢◌, ◌⊎◌, ℕ, zero, suc, ◌+◌, ◌-◌, ◌*◌, ◌^◌, ◌<◌, ◌≤◌, ◌==◌, Bool, true, false, List, [], ◌∷◌, ◌++◌, length, get_or, slice_index, min, Option, Some, None, Result, Ok, Err, IsTrue, All, map, slice_get, if◌then◌else◌, refl, sym, ap, subst, ◌∙◌, inl, inr, arith, append_assoc, length-append, add-zero}
+use Rattle.std.proofs.Common.{◌≡◌, ◌⊎◌, ℕ, zero, suc, ◌+◌, ◌-◌, ◌*◌, ◌^◌, ◌<◌, ◌≤◌, ◌==◌, Bool, true, false, List, [], ◌∷◌, ◌++◌, length, min, Option, Some, None, Ok, All, slice_get, if◌then◌else◌, refl, sym, ap, subst, ◌∙◌, inl, inr, arith, append_assoc, length-append}
 use Rattle.std.specs.Fmt.{decimal}
 use Rattle.std.proofs.Math.Seq.{get_or-append_seam}
 use Rattle.std.proofs.lemmas.Bool.{cases_lt, false≢true, le-ltb, lt-ltb}
@@ -11,15 +11,13 @@ use Rattle.flow_types.specs.declared.flight.Flight.{Flight}
 use Rattle.flow_types.specs.declared.parts.Parts.{Parts}
 use Rattle.flow_types.specs.declared.place.Place.{Place}
 use Rattle.flow_types.specs.declared.plan.Stop.{Stop}
-use Rattle.flow_types.specs.Routes.{IsLeg, IsRoute, is_airport, is_sector}
+use Rattle.flow_types.specs.Routes.{IsLeg, is_airport, is_sector}
 use Rattle.flow_types.specs.Trips.{IsOnward, IsTrip, IsWithinHours, latest_of, place_at}
 use Rattle.flow_types.specs.Valid.{IsFlight, IsPlace, IsScenario}
-use Rattle.text_records.specs.Fields.{ends_after, name_in, number_in}
-use Rattle.text_records.specs.Errors.{◌>>=◌}
 use Rattle.text_records.specs.Names.{position_of}
 use Rattle.text_records.specs.Rows.{Fields}
 use Rattle.plan_text.specs.Lines.{name_at}
-use Rattle.plan_text.specs.Names.{flight_names, node_named, place_names}
+use Rattle.plan_text.specs.Names.{flight_names, node_named}
 use Rattle.plan_text.specs.Trips.{TripsRead, flight_in, stop_in, stops_from, trip_of}
 use Rattle.plan_text.proofs.WrittenTrips.{name_back, named_at, node_back, number_in_back}
 

@@ -1,20 +1,17 @@
 -- The lines of trips are read as these trips.
-use Rattle.std.specs.Prelude.{codes}
-use Rattle.std.proofs.Common.{◌≡◌, ◌≢◌, ◌⊎◌, ℕ, zero, suc, ◌+◌, ◌-◌, ◌*◌, ◌^◌, ◌<◌, ◌≤◌, ◌==◌, ◌&&◌, Bool, true, false, List, [], ◌∷◌, ◌++◌, length, get_or, slice_index, min, Option, Some, None, Result, Ok, Err, IsTrue, All, AllPairs, map, position, slice_get, refl, sym, ap, subst, ◌∙◌, inl, inr, arith, append_assoc, length-append}
+use Rattle.std.proofs.Common.{◌≡◌, ◌≢◌, ℕ, ◌-◌, ◌^◌, ◌<◌, ◌≤◌, ◌==◌, Bool, true, false, List, length, get_or, slice_index, Some, Ok, AllPairs, map, position, slice_get, refl, sym, ap, ◌∙◌, arith}
 use Rattle.std.specs.Fmt.{decimal}
-use Rattle.std.specs.List.{list_all, position_or_len}
 use Rattle.std.specs.Str.{bytes_eq, all_ascii_digits}
 use Rattle.std.specs.Str.Parse.{digits_value}
-use Rattle.std.proofs.Math.Seq.{get_or-append_seam}
-use Rattle.std.proofs.lemmas.Bool.{eq-eqb, false≢true, le-leb, le-ltb, lt-ltb, ne_eqb}
-use Rattle.std.proofs.lemmas.Fmt.{decimal_is_IsNumeral, decimal_nonempty, digits_decimal, digits_value-decimal, length-decimal-le}
+use Rattle.std.proofs.lemmas.Bool.{eq-eqb, le-leb, lt-ltb, ne_eqb}
+use Rattle.std.proofs.lemmas.Fmt.{decimal_nonempty, digits_decimal, digits_value-decimal, length-decimal-le}
 use Rattle.std.proofs.lemmas.List.Sums.{position_or_len_is}
-use Rattle.std.proofs.lemmas.Option.{slice_get-get_or, slice_get_within, get_or_from_slice_get}
+use Rattle.std.proofs.lemmas.Option.{slice_get_within, get_or_from_slice_get}
 use Rattle.std.proofs.lemmas.Slice.Eq.{bytes_eq-Decides}
 use Rattle.std.proofs.lemmas.Str.Parse.{numerals_by_value, tells_all_ascii_digits}
-use Rattle.flow_types.specs.Words.{is_name, is_name_byte, is_number, number_of}
-use Rattle.text_records.specs.Fields.{field_in, name_in, number_in, within_limits}
-use Rattle.text_records.specs.Names.{known_at, position_of}
+use Rattle.flow_types.specs.Words.{is_name, number_of}
+use Rattle.text_records.specs.Fields.{name_in, number_in}
+use Rattle.text_records.specs.Names.{position_of}
 use Rattle.text_records.specs.Rows.{Fields}
 use Rattle.text_records.proofs.NameFacts.{position-map}
 
@@ -60,13 +57,13 @@ named_at f xs k x apart there =
     let here : get_or xs k x ≡ x = get_or_from_slice_get xs k x x there in
     position-map (bytes_eq (f x)) f xs
     ∙ found_at (λ y. bytes_eq (f x) (f y)) xs k x within
-        (λ i less. apart_bytes (f x) (f (get_or xs i x)) (λ same. apart i k x less within (same ∙ ap f (sym here))))
-        (ap (λ y. bytes_eq (f x) (f y)) here ∙ (bytes_eq-Decides (f x) (f x)).1 refl)
+    (λ i less. apart_bytes (f x) (f (get_or xs i x)) (λ same. apart i k x less within (same ∙ ap f (sym here))))
+    (ap (λ y. bytes_eq (f x) (f y)) here ∙ (bytes_eq-Decides (f x) (f x)).1 refl)
 
 -- where nodes differ, each is found at its position
 pub node_back : (nodes : List ℕ) (k : ℕ) → AllPairs (λ a b. a ≢ b) nodes → k < length nodes
     → position (λ node. node == slice_index nodes k) nodes ≡ Some k
 node_back nodes k apart within =
     found_at (λ node. node == slice_index nodes k) nodes k 0 within
-        (λ i less. ne_eqb (get_or nodes i 0) (slice_index nodes k) (apart i k 0 less within))
-        (eq-eqb (slice_index nodes k) (slice_index nodes k) refl)
+    (λ i less. ne_eqb (get_or nodes i 0) (slice_index nodes k) (apart i k 0 less within))
+    (eq-eqb (slice_index nodes k) (slice_index nodes k) refl)

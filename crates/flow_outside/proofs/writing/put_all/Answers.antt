@@ -1,4 +1,4 @@
-use Rattle.std.proofs.Common.{◌-◌, ◌∙◌, ap, drop, length, take, arith, rules}
+use Rattle.std.proofs.Common.{◌-◌, ◌∙◌, ap, drop, length, take, rules}
 use Rattle.std.proofs.lemmas.List.{take_rest}
 use Rattle.flow_outside.specs.Written.{appended}
 use Rattle.flow_outside.proofs.Pieces.{appended-front}
