@@ -3,3 +3,4 @@ pub mod TextFacts
 mod WorkedCases
 mod WorkedRuns
 mod WorkedVerdicts
+pub mod ReportFacts

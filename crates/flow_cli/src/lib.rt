@@ -26,6 +26,7 @@ mod answer;
 mod exit;
 mod faults;
 mod judging;
+mod laws;
 mod lines;
 mod planning;
 mod reading;
@@ -36,5 +37,6 @@ mod verdicts;
 mod words;
 
 pub use exit::exit_code;
+pub use laws::reports_are_read_as_their_plans;
 pub use running::run;
 pub use status::Status;

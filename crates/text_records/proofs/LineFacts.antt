@@ -91,9 +91,18 @@ few_lines : (lines : List Fields) → length lines ≤ length (lines_of lines)
 few_lines [] = omega arith
 few_lines (line ∷ lines) = omega (arith, some_bytes line, few_lines lines, length-append (line_of line) (lines_of lines))
 
+-- a text that doesn't begin with the first byte of the mark has no mark
+no_mark : (b : ℕ) (rest : List ℕ) → (b == 0xEF) ≡ false → strip_bom (b ∷ rest) ≡ b ∷ rest
+unfolding strip_bom
+no_mark b [] other = refl
+no_mark b (c ∷ []) other = refl
+no_mark b (c ∷ d ∷ rest) other = rw other refl
+
 -- lines of plain fields are read as these fields
-pub rows_of_lines : (lines : List Fields) → ArePlainLines lines → strip_bom (lines_of lines) ≡ lines_of lines → rows_of (lines_of lines) ≡ lines
-rows_of_lines lines plain start =
+pub rows_of_lines : (lines : List Fields) (b : ℕ) (rest : List ℕ) → ArePlainLines lines → lines_of lines ≡ b ∷ rest → (b == 0xEF) ≡ false
+    → rows_of (lines_of lines) ≡ lines
+rows_of_lines lines b rest plain begins other =
+    let start : strip_bom (lines_of lines) ≡ lines_of lines = ap strip_bom begins ∙ no_mark b rest other ∙ sym begins in
     let room : length (lines_of lines) + 1 ≡ length lines + (length (lines_of lines) + 1 - length lines) = omega (arith, few_lines lines) in
     ap (λ (text : List ℕ). records_from default_config (length text + 1) st.StartRecord text) start
     ∙ ap (λ (most : ℕ). records_from default_config most st.StartRecord (lines_of lines)) room
