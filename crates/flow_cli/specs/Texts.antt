@@ -1,5 +1,6 @@
 -- What is printed of a day that was planned, byte by byte.
-use Rattle.std.specs.Prelude.{ℕ, List, [], ◌∷◌, ◌++◌, Option, None, Some, codes, ℤ, option_map}
+use Rattle.std.specs.Prelude.{ℕ, ◌<◌, ◌^◌, List, [], ◌∷◌, ◌++◌, Option, None, Some, codes, ℤ, option_map}
+use lib.Signed.{mag}
 use Rattle.std.specs.Fmt.{decimal, signed_decimal}
 use Rattle.flow_types.specs.declared.bound.Bound.{Bound}
 use Rattle.flow_types.specs.declared.bound.Bound.TheVariants.{AtLeast, NoPlan}
@@ -52,3 +53,11 @@ abbrev pub report_text : Parts → Option (List (List Stop)) → Bound → ℕ �
 report_text parts plan bound nodes =
     claim_text (option_map (plan_cost parts.tables parts.flights) plan) bound nodes
     ++ plan_text parts plan
+
+-- a number of 128 bits, one of them for its sign
+abbrev pub IsShort : ℤ → Type 0
+IsShort number = mag number < 2 ^ 127
+
+abbrev pub IsShortBound : Bound → Type 0
+IsShortBound NoPlan = Unit {0}
+IsShortBound (AtLeast least) = IsShort least

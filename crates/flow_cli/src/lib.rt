@@ -37,6 +37,6 @@ mod verdicts;
 mod words;
 
 pub use exit::exit_code;
-pub use laws::reports_are_read_as_their_plans;
+pub use laws::{reports_are_read_as_their_plans, reports_tell_their_claims};
 pub use running::run;
 pub use status::Status;
