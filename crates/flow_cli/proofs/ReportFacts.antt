@@ -1,6 +1,6 @@
 -- A report is read as its plan, and tells its cost, its bound and its number of nodes.
 use Rattle.std.specs.Prelude.{codes}
-use Rattle.std.proofs.Common.{◌≡◌, ℕ, List, [], ◌∷◌, ◌++◌, map, Option, Some, None, Ok, IfSome, ℤ, pos, negsuc, suc, ◌<◌, ◌^◌, drop, get_or, length, arith, subst, refl, sym, ap, ap₂, ◌∙◌, append_assoc}
+use Rattle.std.proofs.Common.{◌≡◌, ℕ, List, [], ◌∷◌, ◌++◌, map, Option, Some, None, Ok, IfSome, ℤ, pos, negsuc, suc, ◌<◌, ◌^◌, drop, get_or, arith, subst, refl, sym, ap, ap₂, ◌∙◌, append_assoc}
 use Rattle.std.specs.Char.{digit_value}
 use Rattle.std.specs.Fmt.{decimal, signed_decimal}
 use Rattle.std.specs.Str.Parse.{IsNumeral, digits_value}
@@ -18,8 +18,7 @@ use Rattle.flow_types.specs.Feasible.{IsFeasible}
 use Rattle.flow_types.specs.Valid.{IsScenario}
 use Rattle.text_records.specs.Rows.{Fields, rows_of}
 use Rattle.text_records.proofs.LineFacts.{ArePlainLines, IsPlain, line_of, lines_of, plain_decimal, plain_signed, rows_of_lines}
-use Rattle.plan_text.specs.Plans.{none_told, plan_from, plan_of, records_step, trips_of}
-use Rattle.plan_text.specs.Trips.{Told}
+use Rattle.plan_text.specs.Plans.{none_told, plan_from, plan_of, records_step}
 use Rattle.plan_text.proofs.ReadingFacts.{plan_is}
 use Rattle.plan_text.proofs.ToldPlans.{all_told, passed_over, plain_trips, trip_is_line, trip_rows, trips_of_all}
 use Rattle.flow_cli.specs.declared.status.Status.{Status}
@@ -38,10 +37,6 @@ abbrev pub claim_rows : Option ℤ → Bound → ℕ → List Fields → List Fi
 claim_rows cost bound nodes rows =
     pair (codes "status") (status_word (status_of cost bound)) ∷ pair (codes "cost") (cost_word cost)
     ∷ pair (codes "bound") (bound_word bound) ∷ pair (codes "nodes") (decimal nodes) ∷ rows
-
-
-
-
 
 abbrev cost_of : Parts → Option (List (List Stop)) → Option ℤ
 cost_of parts plan = option_map (plan_cost parts.tables parts.flights) plan

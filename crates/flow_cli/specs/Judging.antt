@@ -23,8 +23,8 @@ pub record TellsCost (parts : Parts) (plan : List (List Stop)) (answer : Printed
   pub ends : answer.status ≡ Done
   pub text : answer.text ≡ keeps_text (plan_cost parts.tables parts.flights plan)
 
--- The plan breaks a rule: the first one is printed. It is broken with the values that are printed, and
--- each rule before it is kept.
+-- The plan breaks a rule: the first one is printed. It is broken with the values that are printed,
+-- and each rule before it is kept.
 pub record TellsBrokenRule (parts : Parts) (plan : List (List Stop)) (answer : Printed) : Type 0 where
   pub rule : Rule
   pub first : first_broken parts plan ≡ Some rule

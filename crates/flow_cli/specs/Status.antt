@@ -21,7 +21,8 @@ number_of TooLong = 9
 number_of Broken = 10
 number_of BadPlan = 11
 
--- optimal where the plan costs the bound, infeasible where the bound is that no plan exists, else open
+-- optimal where the plan costs the bound, infeasible where the bound is that no plan exists, else
+-- open
 abbrev pub status_of : Option ℤ → Bound → Status
 status_of cost NoPlan = Infeasible
 status_of None (AtLeast least) = OpenGap

@@ -21,12 +21,12 @@ abbrev pub flight_name : Option Flight → List ℕ
 flight_name None = []
 flight_name (Some flight) = flight.name
 
--- the field of the name of the flight of this number, and of the place of this number
+-- the field of the name of the flight at this position, and of the place at this position
 abbrev pub flight_field : Parts → ℕ → List ℕ
-flight_field parts number = field_text (flight_name (slice_get parts.flights number))
+flight_field parts position = field_text (flight_name (slice_get parts.flights position))
 
 abbrev pub place_field : Parts → ℕ → List ℕ
-place_field parts number = field_text (name_at (slice_get parts.places number))
+place_field parts position = field_text (name_at (slice_get parts.places position))
 
 -- where a stop of a flight is, the place 0 where there is no flight or no stop
 abbrev pub place_of_stop : Option Flight → Option Stop → ℕ
@@ -39,14 +39,14 @@ abbrev pub time_of_stop : Option Stop → ℕ
 time_of_stop None = 0
 time_of_stop (Some stop) = stop.time
 
--- the field of the place at which the flight of this number has its stop of this number, and of the
+-- the field of the place at which the flight at this position has its stop at this position, and of the
 -- period in which it enters that
 abbrev pub stop_field : Parts → List (List Stop) → ℕ → ℕ → List ℕ
-stop_field parts plan number stop =
-    place_field parts (place_of_stop (slice_get parts.flights number) (stop_at plan number stop))
+stop_field parts plan position stop =
+    place_field parts (place_of_stop (slice_get parts.flights position) (stop_at plan position stop))
 
 abbrev pub time_field : List (List Stop) → ℕ → ℕ → List ℕ
-time_field plan number stop = field_text (decimal (time_of_stop (stop_at plan number stop)))
+time_field plan position stop = field_text (decimal (time_of_stop (stop_at plan position stop)))
 
 -- the fields of a connection: its flights, the arrival and the departure, the turnaround
 abbrev pub turn_fields : Parts → Option Connection → ℕ → ℕ → List ℕ

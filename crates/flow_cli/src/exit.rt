@@ -15,8 +15,9 @@ use std::process::ExitCode;
 use std::{env, io};
 
 /// Runs the program on what the environment answers about its words, and gives what the process is
-/// to end with: the number of `run`'s status for the words behind the program's name. Words of which
-/// one isn't UTF-8 are those of no command. It takes memory for the words, besides that of `run`.
+/// to end with: the number of `run`'s status for the words behind the program's name. Words of
+/// which one isn't UTF-8 are those of no command. It takes memory for the words, besides that of
+/// `run`.
 pub fn exit_code<F: Files, S: Sink>(
     alloc: Global,
     args: io::Result<env::Args>,

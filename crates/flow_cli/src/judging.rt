@@ -18,8 +18,8 @@ use plan_rules::{Loads, Verdict, first_broken_rules_are_first, judge};
 use plan_text::{Refusal, read_plan};
 use std::alloc::Global;
 
-/// The answer where the plan of the second name is to be judged by the day of the first, which is read
-/// first.
+/// The answer where the plan of the second name is to be judged by the day of the first, which is
+/// read first.
 pub fn judge_named<F: Files>(
     alloc: Global,
     files: &mut F,

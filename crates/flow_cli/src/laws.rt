@@ -15,8 +15,8 @@ pub fn reports_are_read_as_their_plans()
     ensures { (parts : Parts) (plan : List (List Stop)) (bound : Bound) (nodes : ℕ) → IsScenario parts → IsFeasible parts plan → plan_of parts (report_text parts (Some plan) bound nodes) ≡ Ok plan }
 {}
 
-/// Two reports with the same bytes, of plans of one scenario, tell the same cost, the same bound and
-/// the same number of nodes.
+/// Two reports with the same bytes, of plans of one scenario, tell the same cost, the same bound
+/// and the same number of nodes.
 pub fn reports_tell_their_claims()
     ensures cost { (parts : Parts) (plan other : Option (List (List Stop))) (bound other_bound : Bound) (nodes other_nodes : ℕ) → IsScenario parts → IfSome plan (IsFeasible parts) → IfSome other (IsFeasible parts)
         → report_text parts plan bound nodes ≡ report_text parts other other_bound other_nodes

@@ -15,9 +15,9 @@
 //!     }
 //!
 //! What is printed and how a run ends is said by `run`'s contract: in `specs/Answer.antt`, and for
-//! each command in `specs/Planning.antt` and `specs/Judging.antt`. From the status to the number that
-//! the process ends with, and from the words of the environment to those of `run`, it is said by
-//! `exit_code`'s, in `specs/Exit.antt`.
+//! each command in `specs/Planning.antt` and `specs/Judging.antt`. From the status to the number
+//! that the process ends with, and from the words of the environment to those of `run`, it is said
+//! by `exit_code`'s, in `specs/Exit.antt`.
 //!
 //! Memory: the words, a text, the scenario, the plan with its loads, and the answer.
 #![tactic(auto)]

@@ -242,21 +242,21 @@ fn put_over(
     put_number(alloc, out, u64::from(over.capacity))
 }
 
-// Adds the name of the flight of this number.
-fn put_flight(out: &mut Vec<u8>, s: &Scenario, number: u32) -> Result<(), OutOfMemory>
-    ensures { OnOk result (out.new.items ≡ out.old.items ++ flight_field (parts_of s.now) number) }
+// Adds the name of the flight at this position.
+fn put_flight(out: &mut Vec<u8>, s: &Scenario, position: u32) -> Result<(), OutOfMemory>
+    ensures { OnOk result (out.new.items ≡ out.old.items ++ flight_field (parts_of s.now) position) }
 {
-    put_field(out, flight_name(s, number))
+    put_field(out, flight_name(s, position))
 }
 
-// Adds the name of the place of this number.
-fn put_place(out: &mut Vec<u8>, s: &Scenario, number: u32) -> Result<(), OutOfMemory>
-    ensures { OnOk result (out.new.items ≡ out.old.items ++ place_field (parts_of s.now) number) }
+// Adds the name of the place at this position.
+fn put_place(out: &mut Vec<u8>, s: &Scenario, position: u32) -> Result<(), OutOfMemory>
+    ensures { OnOk result (out.new.items ≡ out.old.items ++ place_field (parts_of s.now) position) }
 {
-    put_field(out, place_name(s, number))
+    put_field(out, place_name(s, position))
 }
 
-// Adds the name of the place at which the flight of this number makes the stop.
+// Adds the name of the place at which the flight at this position makes the stop.
 fn put_stop(
     out: &mut Vec<u8>,
     s: &Scenario,
@@ -275,27 +275,27 @@ fn put_time(alloc: Global, out: &mut Vec<u8>, stop: Option<Stop>) -> Result<(), 
     put_number(alloc, out, u64::from(time_of_stop(stop)))
 }
 
-// The name of the flight of this number, empty where there is none.
-fn flight_name(s: &Scenario, number: u32) -> &[u8]
-    ensures { result.now ≡ flight_name (slice_get (parts_of s.now).flights number) }
+// The name of the flight at this position, empty where there is none.
+fn flight_name(s: &Scenario, position: u32) -> &[u8]
+    ensures { result.now ≡ flight_name (slice_get (parts_of s.now).flights position) }
 {
-    match s.flights().get(number as usize) {
+    match s.flights().get(position as usize) {
         None => b"",
         Some(flight) => flight.name.items(),
     }
 }
 
-// The name of the place of this number, empty where there is none.
-fn place_name(s: &Scenario, number: u32) -> &[u8]
-    ensures { result.now ≡ name_at (slice_get (parts_of s.now).places number) }
+// The name of the place at this position, empty where there is none.
+fn place_name(s: &Scenario, position: u32) -> &[u8]
+    ensures { result.now ≡ name_at (slice_get (parts_of s.now).places position) }
 {
-    match s.places().get(number as usize) {
+    match s.places().get(position as usize) {
         None => b"",
         Some(place) => place.name.items(),
     }
 }
 
-// The stop of this number of a flight, if there is one.
+// The stop at this position of a flight's trip, if there is one.
 fn stop_at(plan: &Plan, flight: u32, stop: usize) -> Option<Stop>
     ensures { result ≡ stop_at plan.now flight stop }
 {
@@ -305,7 +305,7 @@ fn stop_at(plan: &Plan, flight: u32, stop: usize) -> Option<Stop>
     }
 }
 
-// The number of the place of a flight's stop, 0 where there is no flight or no stop.
+// The position of the place of a flight's stop, 0 where there is no flight or no stop.
 fn place_of_stop(s: &Scenario, flight: u32, stop: Option<Stop>) -> u32
     ensures { result ≡ place_of_stop (slice_get (parts_of s.now).flights flight) stop }
 {

@@ -11,8 +11,8 @@ pub enum Command<'a> {
     Judge { name: &'a str, plan: &'a str },
 }
 
-/// The command in the words, which are `plan` and a name, or `judge` and two names. A name isn't empty
-/// and doesn't begin with `-`.
+/// The command in the words, which are `plan` and a name, or `judge` and two names. A name isn't
+/// empty and doesn't begin with `-`.
 pub fn command_of(words: &[String]) -> Option<Command<'_>>
     ensures { option_map asked_by result ≡ asked (map string_bytes words.now) }
 {
