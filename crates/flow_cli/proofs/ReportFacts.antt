@@ -18,9 +18,9 @@ use Rattle.flow_types.specs.Feasible.{IsFeasible}
 use Rattle.flow_types.specs.Valid.{IsScenario}
 use Rattle.text_records.specs.Rows.{Fields, rows_of}
 use Rattle.text_records.proofs.LineFacts.{ArePlainLines, IsPlain, line_of, lines_of, plain_decimal, plain_signed, rows_of_lines}
-use Rattle.plan_text.specs.Plans.{none_told, plan_from, plan_of, records_step}
+use Rattle.plan_text.specs.Plans.{none_read, plan_from, plan_of, records_step}
 use Rattle.plan_text.proofs.ReadingFacts.{plan_is}
-use Rattle.plan_text.proofs.ToldPlans.{all_told, passed_over, plain_trips, trip_is_line, trip_rows, trips_of_all}
+use Rattle.plan_text.proofs.PlansAgain.{all_read, passed_over, plain_trips, trip_is_line, trip_rows, trips_of_all}
 use Rattle.flow_cli.specs.declared.status.Status.{Status}
 use Rattle.flow_cli.specs.declared.status.Status.TheVariants as status
 use Rattle.flow_cli.specs.Lines.{line_text}
@@ -131,13 +131,13 @@ unfolding plan_rows
 plan_of_report parts plan bound nodes valid feasible =
     let cost = cost_of parts (Some plan) in
     let rows = trip_rows parts.places parts.flights plan in
-    let none = none_told parts.flights in
+    let none = none_read parts.flights in
     let told : records_step parts 1 none (claim_rows cost bound nodes rows) ≡ Ok (map Some plan) =
     passed_over parts 1 none (codes "status") (status_word (status_of cost bound) ∷ []) (pair (codes "cost") (cost_word cost) ∷ pair (codes "bound") (bound_word bound) ∷ pair (codes "nodes") (decimal nodes) ∷ rows) refl
     ∙ passed_over parts 2 none (codes "cost") (cost_word cost ∷ []) (pair (codes "bound") (bound_word bound) ∷ pair (codes "nodes") (decimal nodes) ∷ rows) refl
     ∙ passed_over parts 3 none (codes "bound") (bound_word bound ∷ []) (pair (codes "nodes") (decimal nodes) ∷ rows) refl
     ∙ passed_over parts 4 none (codes "nodes") (decimal nodes ∷ []) rows refl
-    ∙ all_told parts valid 5 [] parts.flights [] plan refl refl feasible.trips in
+    ∙ all_read parts valid 5 [] parts.flights [] plan refl refl feasible.trips in
     ap (plan_from parts) (rows_of_report parts (Some plan) bound nodes valid feasible)
     ∙ plan_is parts (claim_rows cost bound nodes rows) (map Some plan) told
     ∙ ap (λ (trips : List (List Stop)). Ok trips) (trips_of_all plan)
