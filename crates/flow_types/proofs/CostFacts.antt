@@ -54,7 +54,7 @@ credit_within tables mg md d (Tables total credit) all is few =
     let v = table_within tables credit d (slice_get tables credit) all refl in
     record { low = omega (arith, ints, v.low); high = omega (arith, ints, v.high) }
 
--- the same of a flight of a valid scenario
+-- how large the costs of a flight of a valid scenario are
 pub total_at-within : (parts : Parts) (n d : ℕ) (flight : Option Flight) → IsScenario parts → slice_get parts.flights n ≡ flight → d < 65536 → IsWithin 100000000000 (total_at parts.tables flight d)
 total_at-within parts n d None valid here few = record { low = omega (arith, ints); high = omega (arith, ints) }
 total_at-within parts n d (Some flight) valid here few =
