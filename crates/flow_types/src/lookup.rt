@@ -41,7 +41,8 @@ pub fn has_kind(kind: CapKind, places: &[Place], place: u32) -> bool
     }
 }
 
-/// The place of the flight's node, as a position in the list of places; 0 where it has no such node.
+/// The place of the flight's node, as a position in the list of places; 0 where it has no such
+/// node.
 pub fn place_at(flight: &Flight, node: u16) -> u32
     ensures { result ≡ place_at flight.now node }
 {

@@ -124,10 +124,10 @@ pub enum Verdict {
     Breaks(Broken),
 }
 
-/// Whether the plan keeps every rule of the scenario, with its cost, or the first rule that it breaks,
-/// in the order that `Broken` says. Every plan is judged: no leg leads to a node that a flight hasn't.
-/// The loads were made for the scenario. After `Keeps` they are the plan's; after `Breaks` they
-/// hold no trips. It takes no memory.
+/// Whether the plan keeps every rule of the scenario, with its cost, or the first rule that it
+/// breaks, in the order that `Broken` says. Every plan is judged: no leg leads to a node that a
+/// flight hasn't. The loads were made for the scenario. After `Keeps` they are the plan's; after
+/// `Breaks` they hold no trips. It takes no memory.
 pub fn judge(loads: &mut Loads, s: &Scenario, plan: &Plan) -> Verdict
     requires { IsMadeFor (parts_of s.now) loads.old }
     ensures keeps { MatchVerdict result (λ cost. IsFeasible (parts_of s.now) plan.now) (λ broken. IsFeasible (parts_of s.now) plan.now → ⊥) }

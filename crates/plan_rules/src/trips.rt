@@ -43,8 +43,8 @@ fn check_trip(periods: u16, flight: &Flight, number: u32, stops: &[Stop]) -> Res
     check_onward(periods, flight, number, *first, rest)
 }
 
-// Whether the rest of the stops leads from the first one to the flight's last node. Each leg leads to
-// a higher node, so the places in the trip are at most the nodes and fit their type.
+// Whether the rest of the stops leads from the first one to the flight's last node. Each leg leads
+// to a higher node, so the places in the trip are at most the nodes and fit their type.
 fn check_onward(
     periods: u16,
     flight: &Flight,
@@ -69,7 +69,8 @@ fn check_onward(
     Ok(())
 }
 
-// Whether a leg leads from the stop to the next one, and in time; the next one's node is then higher.
+// Whether a leg leads from the stop to the next one, and in time; the next one's node is then
+// higher.
 fn check_step(
     flight: &Flight,
     number: u32,
