@@ -16,8 +16,8 @@
 //! and an arrival delay that leave time for the legs between; it is `NoPlan` where a flight has no
 //! trip at all. Proved: the plan that is kept is feasible and costs what is said (`kept`), and no
 //! feasible plan costs less than the bound (`bound`); which plan and bound they are, exactly
-//! (`first_plan`, `first_bound`); and that `is_day_of_chains` answers true exactly where its definition
-//! holds.
+//! (`first_plan`, `first_bound`); and that `is_day_of_chains` answers true exactly where its
+//! definition holds.
 //!
 //! Time: as much as there are delays of each flight, and what `judge` takes. Memory: the plan and
 //! its loads.

@@ -27,7 +27,8 @@ pub struct Outcome {
 }
 
 /// Plans a day on which no flight has two legs from one node: the earliest trips where they are
-/// feasible, and the least pairs of delays as the bound. It takes memory for the plan and its loads.
+/// feasible, and the least pairs of delays as the bound. It takes memory for the plan and its
+/// loads.
 pub fn plan_chains(alloc: Global, s: &Scenario) -> Result<Outcome, OutOfMemory>
     requires { AreChains (parts_of s.now).flights }
     ensures kept { IfOk result (λ outcome. IfSome outcome.kept (λ kept. IsCosted (parts_of s.now) kept.plan kept.cost)) }

@@ -2,8 +2,8 @@
 ghost use Rattle.std.specs.Prelude.{ℕ, ◌≡◌, ◌<◌, ◌≤◌, ◌+◌, ◌++◌, ◌∷◌, [], List, ℤ, pos, ◌+ℤ◌, ◌≤ℤ◌, All, length, sum_by};
 ghost use Rattle.exact_sums.specs.Sums.{total};
 
-/// Lists one after another add their sums, so does an item at the end; and the sum of two numbers of
-/// each item is the sum of both sums.
+/// Lists one after another add their sums, so does an item at the end; and the sum of two numbers
+/// of each item is the sum of both sums.
 pub fn sums_are_added_up<A>()
     ensures append { (value : A → ℤ) (xs ys : List A) → total value (xs ++ ys) ≡ total value xs +ℤ total value ys }
     ensures push { (value : A → ℤ) (xs : List A) (x : A) → total value (xs ++ x ∷ []) ≡ total value xs +ℤ value x }

@@ -1,9 +1,9 @@
 //! Sums of lists, exact over the whole numbers and the integers, with the laws that every layer
 //! cites. There is no code here but the laws: a bound, a cost and a count are each a sum of these.
 //!
-//! `specs/Sums.antt` has the sums. The range of the numbers from `first` on, `count` of them, is the
-//! list `range_with_len first count` of std, so that a sum over a range is one over a list. A caller
-//! calls a law as a statement to have it in its own proof:
+//! `specs/Sums.antt` has the sums. The range of the numbers from `first` on, `count` of them, is
+//! the list `range_with_len first count` of std, so that a sum over a range is one over a list. A
+//! caller calls a law as a statement to have it in its own proof:
 //!
 //!     pub fn cost_of(first: &[u32], second: &[u32]) -> i128
 //!         ensures { result ≡ total pos (first.now ++ second.now) }

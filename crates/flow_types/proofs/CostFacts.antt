@@ -5,6 +5,7 @@ use Rattle.std.proofs.lemmas.Bool.{cases_lt}
 use Rattle.std.proofs.lemmas.Bool.Decides.{nat_tests}
 use Rattle.std.proofs.lemmas.Int.{ints}
 use Rattle.std.proofs.lemmas.List.{get_or_past}
+use Rattle.std.proofs.lemmas.Option.{slice_get_read}
 use Rattle.exact_sums.proofs.ItemFacts.{All-item}
 use Rattle.flow_types.specs.declared.flight.Cost.{Cost}
 use Rattle.flow_types.specs.declared.flight.Cost.TheVariants.{Linear, Tables}
@@ -54,7 +55,7 @@ credit_within tables mg md d (Tables total credit) all is few =
     let v = table_within tables credit d (slice_get tables credit) all refl in
     record { low = omega (arith, ints, v.low); high = omega (arith, ints, v.high) }
 
--- the same of a flight of a valid scenario
+-- how large the costs of a flight of a valid scenario are
 pub total_at-within : (parts : Parts) (n d : ℕ) (flight : Option Flight) → IsScenario parts → slice_get parts.flights n ≡ flight → d < 65536 → IsWithin 100000000000 (total_at parts.tables flight d)
 total_at-within parts n d None valid here few = record { low = omega (arith, ints); high = omega (arith, ints) }
 total_at-within parts n d (Some flight) valid here few =
@@ -64,3 +65,16 @@ pub credit_at-within : (parts : Parts) (n d : ℕ) (flight : Option Flight) → 
 credit_at-within parts n d None valid here few = record { low = omega (arith, ints); high = omega (arith, ints) }
 credit_at-within parts n d (Some flight) valid here few =
     credit_within parts.tables flight.mg flight.md d flight.cost valid.tables (All-item (IsFlight parts.day.periods parts.places parts.tables) parts.flights n flight valid.flights here).cost few
+
+-- a total and a credit that were read of the flight at a position
+pub total_read : (parts : Parts) (n d : ℕ) (flight : Flight) (total : ℤ) → IsScenario parts → n < length parts.flights → flight ≡ get_or parts.flights n flight
+    → d < 65536 → total ≡ total_of parts.tables flight.cost d → IsWithin 100000000000 total
+total_read parts n d flight total valid within is few value =
+    let most = total_at-within parts n d (Some flight) valid (slice_get_read parts.flights (length parts.flights) n flight refl within is) few in
+    record { low = omega (arith, ints, most.low, value); high = omega (arith, ints, most.high, value) }
+
+pub credit_read : (parts : Parts) (n d : ℕ) (flight : Flight) (credit : ℤ) → IsScenario parts → n < length parts.flights → flight ≡ get_or parts.flights n flight
+    → d < 65536 → credit ≡ credit_of parts.tables flight.cost d → IsWithin 100000000000 credit
+credit_read parts n d flight credit valid within is few value =
+    let most = credit_at-within parts n d (Some flight) valid (slice_get_read parts.flights (length parts.flights) n flight refl within is) few in
+    record { low = omega (arith, ints, most.low, value); high = omega (arith, ints, most.high, value) }

@@ -51,7 +51,7 @@ next_digit bytes i few digits within =
       more = omega arith;
     }
 
--- the same of what is spelled as a number
+-- the next digit of what is spelled as a number
 pub number_parts : (bytes : List ℕ) (i : ℕ) → IsTrue (is_number bytes) → i < length bytes → IsNextDigit bytes i
 number_parts bytes i number within =
     next_digit bytes i (grind (arith, nat_tests)) (grind (arith, nat_tests)) within

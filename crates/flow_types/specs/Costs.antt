@@ -37,7 +37,7 @@ plan_cost tables [] plan = pos 0
 plan_cost tables (flight ∷ flights) [] = pos 0
 plan_cost tables (flight ∷ flights) (trip ∷ plan) = trip_cost tables flight trip +ℤ plan_cost tables flights plan
 
--- the same of a flight, if there is one
+-- totals, credits and costs of a flight that may not be there, none of which costs anything then
 abbrev pub total_at : List CostTable → Option Flight → ℕ → ℤ
 total_at tables None delay = pos 0
 total_at tables (Some flight) delay = total_of tables flight.cost delay

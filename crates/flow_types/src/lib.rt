@@ -1,8 +1,8 @@
-//! What a day of air traffic is: the scenario, trips, plans and bounds, with the limits of each, and
-//! the definitions that every other crate cites.
+//! What a day of air traffic is: the scenario, trips, plans and bounds, with the limits of each,
+//! and the definitions that every other crate cites.
 //!
-//! The parts of a day are plain structs with public fields. `Scenario` holds parts that are valid, and
-//! is known to be so wherever it is lent:
+//! The parts of a day are plain structs with public fields. `Scenario` holds parts that are valid,
+//! and is known to be so wherever it is lent:
 //!
 //!     let Ok(s) = Scenario::new(parts) else { return None };
 //!     let first = &s.flights()[0];
@@ -13,9 +13,10 @@
 //!     }
 //!
 //! The definitions stand in `specs/`, one module a notion: `Limits`, `Routes` and `Valid` (a valid
-//! scenario), `Trips`, `Counts`, `Feasible` (a plan that keeps every rule), `Costs`, `Bounds`, `Words`
-//! (numbers and names in a text). `Scenario::new` is proved to answer `Ok` exactly where the parts are
-//! a valid scenario (`valid`); each look-up is proved to give what its definition gives.
+//! scenario), `Trips`, `Counts`, `Feasible` (a plan that keeps every rule), `Costs`, `Bounds`,
+//! `Words` (numbers and names in a text). `Scenario::new` is proved to answer `Ok` exactly where
+//! the parts are a valid scenario (`valid`); each look-up is proved to give what its definition
+//! gives.
 #![tactic(auto)]
 
 mod bound;

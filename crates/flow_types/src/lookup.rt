@@ -41,11 +41,12 @@ pub fn has_kind(kind: CapKind, places: &[Place], place: u32) -> bool
     }
 }
 
-/// The place of the flight's node, as a position in the list of places; 0 where it has no such node.
+/// The place of the flight's node, as a position in the list of places; 0 where it has no such
+/// node.
 pub fn place_at(flight: &Flight, node: u16) -> u32
     ensures { result ≡ place_at flight.now node }
 {
-    number_at(flight.nodes.items(), node)
+    unsigned_at(flight.nodes.items(), node)
 }
 
 /// How many values the table at the position has, 0 where there is none.
@@ -65,15 +66,15 @@ pub fn capacity_at(places: &[Place], kind: CapKind, place: u32, period: u16) -> 
     match places.get(place as usize) {
         None => 0,
         Some(place) => match kind {
-            CapKind::Dep => number_at(place.first.items(), period),
-            CapKind::Arr => number_at(place.second.items(), period),
-            CapKind::Sector => number_at(place.first.items(), period),
+            CapKind::Dep => unsigned_at(place.first.items(), period),
+            CapKind::Arr => unsigned_at(place.second.items(), period),
+            CapKind::Sector => unsigned_at(place.first.items(), period),
         },
     }
 }
 
 // The number at the position, 0 where there is none.
-fn number_at(numbers: &[u32], position: u16) -> u32
+fn unsigned_at(numbers: &[u32], position: u16) -> u32
     ensures { result ≡ slice_index numbers.now position }
 {
     numbers.get(position as usize).copied().unwrap_or(0)

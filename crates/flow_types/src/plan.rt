@@ -27,7 +27,7 @@ impl Sequence<Stop> {
 }
 
 impl Sequence<Trip> {
-    /// The same plan once more, in blocks of its own.
+    /// A second plan of these trips, in blocks of its own. It takes memory for all of its stops.
     pub fn copy(&self, alloc: Global) -> Result<Plan, OutOfMemory>
         ensures { IfOk result (λ plan. plan ≡ self.now) }
     {

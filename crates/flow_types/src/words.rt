@@ -12,7 +12,7 @@ pub fn parse_number(bytes: &[u8]) -> Option<u64>
     ensures { result ≡ number_of bytes.now }
 {
     if is_number(bytes) {
-        Some(number_at(bytes))
+        Some(spelled_number(bytes))
     } else {
         None
     }
@@ -47,7 +47,7 @@ fn are_digits(bytes: &[u8]) -> bool
 }
 
 // The number that the digits spell.
-fn number_at(bytes: &[u8]) -> u64
+fn spelled_number(bytes: &[u8]) -> u64
     requires { IsTrue (is_number bytes.now) }
     ensures { result ≡ digits_value 10 bytes.now }
 {

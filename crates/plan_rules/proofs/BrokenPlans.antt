@@ -132,7 +132,7 @@ feasible_to parts plan valid feasible =
     (or_nones _ _ (over_to parts kind.Arr (arrivals_at parts.flights plan) feasible.arrivals)
     (over_to parts kind.Sector (occupancy_at parts.flights plan) feasible.sectors)))))
 
--- the same loads break the same capacities
+-- equal loads break equal capacities
 capacity_same : (parts : Parts) (kind : CapKind) (load by : ℕ → ℕ → ℕ) (k t : ℕ) → load k t ≡ by k t → broken_capacity parts kind load k t ≡ broken_capacity parts kind by k t
 capacity_same parts kind load by k t same =
     let capacity = capacity_of parts.places kind k t in

@@ -62,7 +62,7 @@ first_below-found zero k at rule none here less = absurd (omega arith)
 first_below-found (suc n) k at rule none here less =
     found_by n k at rule none here less (λ before. first_below-found n k at rule none here before) (cases_lt k n)
 
--- the same is found
+-- equal finds at each number give equal first finds
 pub first_below-same : (n : ℕ) (at by : ℕ → Option Broken) → ((k : ℕ) → k < n → at k ≡ by k) → first_below n at ≡ first_below n by
 first_below-same zero at by same = refl
 first_below-same (suc n) at by same =

@@ -45,7 +45,7 @@ adds_then m n old mid new first second = record {
       omega arith;
 }
 
--- the same counts, said otherwise
+-- equal counts, said otherwise
 pub adds_same : (m n : ℕ → ℕ → ℕ) (old new : Cells) → ((k t : ℕ) → k < old.places → t < old.periods → m k t ≡ n k t) → Adds m old new → Adds n old new
 adds_same m n old new same adds = record {
   places = adds.places;

@@ -23,7 +23,7 @@ abbrev pub first_below : ℕ → (ℕ → Option Broken) → Option Broken
 first_below zero found = None
 first_below (suc n) found = option_or (first_below n found) (found n)
 
--- the same along a list, of each item and its position
+-- what is found at the first item of a list at which something is, of the item and its position
 abbrev pub found_at : {A : Type 0} → (ℕ → A → Option Broken) → List A → ℕ → Option Broken
 found_at found items k = option_and_then (found k) (slice_get items k)
 
@@ -86,7 +86,8 @@ broken_times number turnaround (Some arrives) None = None
 broken_times number turnaround (Some arrives) (Some leaves) =
     unless (nat_le (arrives + turnaround) leaves) (broken.Turn number arrives leaves)
 
--- the same of the connection of that number, where flights arrive and depart at these times
+-- a turnaround that isn't kept by the connection of that number, where flights arrive and depart at
+-- these times
 abbrev pub broken_turn : (ℕ → Option ℕ) → (ℕ → Option ℕ) → ℕ → Connection → Option Broken
 broken_turn arrival departure number connection =
     broken_times number connection.turnaround (arrival connection.first) (departure connection.second)
@@ -129,6 +130,6 @@ first_broken parts plan =
     (first_over parts kind.Sector (occupancy_at parts.flights plan))))))
 
 -- an answer gives the rule where one is broken, and none where none is
-abbrev pub Finds : {T : Type 0} → Option Broken → Result T Broken → Type 0
-Finds rule (Ok none) = rule ≡ None
-Finds rule (Err found) = rule ≡ Some found
+abbrev pub Names : {T : Type 0} → Option Broken → Result T Broken → Type 0
+Names rule (Ok none) = rule ≡ None
+Names rule (Err found) = rule ≡ Some found

@@ -1,12 +1,13 @@
 //! The rules that a plan may break.
 
-/// The first rule that a plan breaks. The number of trips comes first. Then come the rules of a trip,
-/// flight by flight: its start; stop by stop its window, then whether a leg leads to the next stop and
-/// in time; its ending. Then come turnarounds by connection, and departures, arrivals and sectors, each
-/// by place and then period. `first_broken` in `specs/FirstBroken.antt` says it exactly.
+/// The first rule that a plan breaks. The number of trips comes first. Then come the rules of a
+/// trip, flight by flight: its start; stop by stop its window, then whether a leg leads to the next
+/// stop and in time; its ending. Then come turnarounds by connection, and departures, arrivals and
+/// sectors, each by place and then period. `first_broken` in `specs/FirstBroken.antt` says it
+/// exactly.
 ///
-/// Flights, connections and places are numbers in the scenario's lists; a place in a trip is the number
-/// of a stop. All count from 0.
+/// Flights, connections and places are numbers in the scenario's lists; a place in a trip is the
+/// number of a stop. All count from 0.
 #[derive(Clone, Copy, Debug, PartialEq, Eq)]
 pub enum Broken {
     /// The plan hasn't one trip for each flight: it has `got`, and there are `need` flights.

@@ -4,7 +4,7 @@ ghost use Rattle.std.specs.Option.{option_or};
 ghost use Rattle.flow_types.specs.Costs.{plan_cost};
 ghost use Rattle.flow_types.specs.Feasible.{AreTrips, IsFeasible};
 ghost use Rattle.flow_types.specs.Scenario.{parts_of};
-ghost use Rattle.plan_rules.specs.FirstBroken.{Finds, broken_turn, first_along, first_broken, first_over, first_over_in, over};
+ghost use Rattle.plan_rules.specs.FirstBroken.{Names, broken_turn, first_along, first_broken, first_over, first_over_in, over};
 ghost use Rattle.plan_rules.specs.Judge.{MatchVerdict, first_broken_load};
 ghost use Rattle.plan_rules.specs.Loads.{AreLoads, IsMadeFor, arrival_at, departure_at, load_at, no_trips};
 
@@ -29,7 +29,7 @@ fn check_turns(loads: &Loads, connections: &[Connection]) -> Result<(), Broken>
     requires few { length connections.now < 2 ^ 32 }
     requires arrives { All (λ connection. connection.first < length loads.now.arrives) connections.now }
     requires leaves { All (λ connection. connection.second < length loads.now.leaves) connections.now }
-    ensures { Finds (first_along (broken_turn (arrival_at loads.now) (departure_at loads.now)) connections.now) result }
+    ensures { Names (first_along (broken_turn (arrival_at loads.now) (departure_at loads.now)) connections.now) result }
 {
     for at in 0..connections.len() {
         check_turn(loads, &connections[at], at as u32)?;
@@ -41,7 +41,7 @@ fn check_turns(loads: &Loads, connections: &[Connection]) -> Result<(), Broken>
 fn check_turn(loads: &Loads, connection: &Connection, number: u32) -> Result<(), Broken>
     requires arrives { connection.now.first < length loads.now.arrives }
     requires leaves { connection.now.second < length loads.now.leaves }
-    ensures { Finds (broken_turn (arrival_at loads.now) (departure_at loads.now) number connection.now) result }
+    ensures { Names (broken_turn (arrival_at loads.now) (departure_at loads.now) number connection.now) result }
 {
     let Some(arrives) = loads.arrival(connection.first) else {
         return Ok(());
@@ -62,7 +62,7 @@ fn check_turn(loads: &Loads, connection: &Connection, number: u32) -> Result<(),
 // Whether the capacities of this kind are kept in every place that has them.
 fn check_kind(loads: &Loads, s: &Scenario, kind: CapKind) -> Result<(), Broken>
     requires { IsMadeFor (parts_of s.now) loads.now }
-    ensures { Finds (first_over (parts_of s.now) kind (load_at loads.now kind)) result }
+    ensures { Names (first_over (parts_of s.now) kind (load_at loads.now kind)) result }
 {
     for place in 0..s.places().len() {
         check_place(loads, s, kind, place as u32)?;
@@ -74,7 +74,7 @@ fn check_kind(loads: &Loads, s: &Scenario, kind: CapKind) -> Result<(), Broken>
 fn check_place(loads: &Loads, s: &Scenario, kind: CapKind, place: u32) -> Result<(), Broken>
     requires made { IsMadeFor (parts_of s.now) loads.now }
     requires place { place < length (parts_of s.now).places }
-    ensures { Finds (first_over_in (parts_of s.now) kind (load_at loads.now kind) place) result }
+    ensures { Names (first_over_in (parts_of s.now) kind (load_at loads.now kind) place) result }
 {
     if !has_kind(kind, s.places(), place) {
         return Ok(());
@@ -124,10 +124,10 @@ pub enum Verdict {
     Breaks(Broken),
 }
 
-/// Whether the plan keeps every rule of the scenario, with its cost, or the first rule that it breaks,
-/// in the order that `Broken` says. Every plan is judged: no leg leads to a node that a flight hasn't.
-/// The loads were made for the scenario. After `Keeps` they are the plan's; after `Breaks` they
-/// hold no trips. It takes no memory.
+/// Whether the plan keeps every rule of the scenario, with its cost, or the first rule that it
+/// breaks, in the order that `Broken` says. Every plan is judged: no leg leads to a node that a
+/// flight hasn't. The loads were made for the scenario. After `Keeps` they are the plan's; after
+/// `Breaks` they hold no trips. It takes no memory.
 pub fn judge(loads: &mut Loads, s: &Scenario, plan: &Plan) -> Verdict
     requires { IsMadeFor (parts_of s.now) loads.old }
     ensures keeps { MatchVerdict result (λ cost. IsFeasible (parts_of s.now) plan.now) (λ broken. IsFeasible (parts_of s.now) plan.now → ⊥) }
@@ -151,7 +151,7 @@ pub fn judge(loads: &mut Loads, s: &Scenario, plan: &Plan) -> Verdict
 // Whether the plan keeps every rule. Its trips are in the loads then.
 fn check(loads: &mut Loads, s: &Scenario, plan: &Plan) -> Result<(), Broken>
     requires { AreLoads (parts_of s.now) (no_trips (parts_of s.now)) loads.old }
-    ensures broken { Finds (first_broken (parts_of s.now) plan.now) result }
+    ensures broken { Names (first_broken (parts_of s.now) plan.now) result }
     ensures loads { OnOk result (AreLoads (parts_of s.now) plan.now loads.new) }
     ensures made { IsMadeFor (parts_of s.now) loads.new }
 {
@@ -163,7 +163,7 @@ fn check(loads: &mut Loads, s: &Scenario, plan: &Plan) -> Result<(), Broken>
 // Whether the trips in the loads keep turnarounds and capacities.
 fn check_loads(loads: &Loads, s: &Scenario) -> Result<(), Broken>
     requires { IsMadeFor (parts_of s.now) loads.now }
-    ensures { Finds (first_broken_load (parts_of s.now) loads.now) result }
+    ensures { Names (first_broken_load (parts_of s.now) loads.now) result }
 {
     check_turns(loads, s.connections())?;
     check_kind(loads, s, CapKind::Dep)?;

@@ -24,8 +24,8 @@ pub fn plans_that_break_nothing_are_feasible()
     ensures { (parts : Parts) (plan : List (List Stop)) → IsScenario parts → (first_broken parts plan ≡ None) ↔ IsFeasible parts plan }
 {}
 
-/// The rule that a plan breaks first is broken, with the values that it names, and each one that comes
-/// before it is kept.
+/// The rule that a plan breaks first is broken, with the values that it names, and each one that
+/// comes before it is kept.
 pub fn first_broken_rules_are_first()
     ensures { (parts : Parts) (plan : List (List Stop)) (rule : Broken) → first_broken parts plan ≡ Some rule → IsFirstBroken parts plan rule }
 {}

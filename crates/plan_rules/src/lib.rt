@@ -11,15 +11,16 @@
 //!         Verdict::Breaks(_) => ..,
 //!     }
 //!
-//! `judge` answers `Keeps`, with the plan's cost, exactly where the plan is feasible (`keeps`, `cost`);
-//! the loads then count its trips (`loads`). Otherwise it answers the first rule that the plan breaks,
-//! with its values, and the loads hold no trips (`broken`, `loads`). Trips may be added one by one too
-//! (`Loads::add`), and taken out together (`Loads::clear`). `cost` is the sum of the costs of a plan's
-//! trips. `plans_that_break_nothing_are_feasible` ties the two definitions together.
+//! `judge` answers `Keeps`, with the plan's cost, exactly where the plan is feasible (`keeps`,
+//! `cost`); the loads then count its trips (`loads`). Otherwise it answers the first rule that the
+//! plan breaks, with its values, and the loads hold no trips (`broken`, `loads`). Trips may be
+//! added one by one too (`Loads::add`), and taken out together (`Loads::clear`). `cost` is the sum
+//! of the costs of a plan's trips. `plans_that_break_nothing_are_feasible` ties the two definitions
+//! together.
 //!
 //! Time: `judge` looks at each stop with the legs of its flight, at each period that a flight
-//! spends in a sector, and a few times at each place and period. `Loads` take twelve bytes a place and
-//! period, and eight a flight.
+//! spends in a sector, and a few times at each place and period. `Loads` take twelve bytes a place
+//! and period, and eight a flight.
 #![tactic(auto)]
 
 mod broken;

@@ -3,7 +3,7 @@ ghost use Rattle.std.specs.Prelude.{◌≡◌, ◌==◌, ◌<◌, ◌+◌, ◌^�
 ghost use Rattle.std.specs.Option.{option_or};
 ghost use Rattle.flow_types.specs.Scenario.{parts_of};
 ghost use Rattle.flow_types.specs.Trips.{earliest_of, latest_of};
-ghost use Rattle.plan_rules.specs.FirstBroken.{Finds, broken_number, broken_onward, broken_step, broken_trip, broken_trip_in, broken_window, first_along, is_within_hours, leg_between};
+ghost use Rattle.plan_rules.specs.FirstBroken.{Names, broken_number, broken_onward, broken_step, broken_trip, broken_trip_in, broken_window, first_along, is_within_hours, leg_between};
 ghost use Rattle.plan_rules.specs.Judge.{IsUpward};
 
 use crate::Broken;
@@ -11,7 +11,7 @@ use flow_types::{Flight, Leg, Scenario, Stop, Trip};
 
 /// Whether each flight has one trip, and a trip of its own.
 pub fn check_trips(s: &Scenario, plan: &[Trip]) -> Result<(), Broken>
-    ensures { Finds (option_or (broken_number (length plan.now) (length (parts_of s.now).flights))
+    ensures { Names (option_or (broken_number (length plan.now) (length (parts_of s.now).flights))
         (first_along (broken_trip_in (parts_of s.now).day.periods plan.now) (parts_of s.now).flights)) result }
 {
     let flights = s.flights();
@@ -31,7 +31,7 @@ pub fn check_trips(s: &Scenario, plan: &[Trip]) -> Result<(), Broken>
 // Whether the stops are a trip of the flight.
 fn check_trip(periods: u16, flight: &Flight, number: u32, stops: &[Stop]) -> Result<(), Broken>
     requires { All IsUpward flight.now.legs }
-    ensures { Finds (broken_trip periods number flight.now stops.now) result }
+    ensures { Names (broken_trip periods number flight.now stops.now) result }
 {
     let Some((first, rest)) = stops.split_first() else {
         return Err(Broken::Start { flight: number });
@@ -43,8 +43,8 @@ fn check_trip(periods: u16, flight: &Flight, number: u32, stops: &[Stop]) -> Res
     check_onward(periods, flight, number, *first, rest)
 }
 
-// Whether the rest of the stops leads from the first one to the flight's last node. Each leg leads to
-// a higher node, so the places in the trip are at most the nodes and fit their type.
+// Whether the rest of the stops leads from the first one to the flight's last node. Each leg leads
+// to a higher node, so the places in the trip are at most the nodes and fit their type.
 fn check_onward(
     periods: u16,
     flight: &Flight,
@@ -53,7 +53,7 @@ fn check_onward(
     rest: &[Stop],
 ) -> Result<(), Broken>
     requires { All IsUpward flight.now.legs }
-    ensures { Finds (broken_onward periods number flight.now 0 first rest.now) result }
+    ensures { Names (broken_onward periods number flight.now 0 first rest.now) result }
 {
     let mut stop = first;
     let mut place_in_trip = 0u16;
@@ -69,7 +69,8 @@ fn check_onward(
     Ok(())
 }
 
-// Whether a leg leads from the stop to the next one, and in time; the next one's node is then higher.
+// Whether a leg leads from the stop to the next one, and in time; the next one's node is then
+// higher.
 fn check_step(
     flight: &Flight,
     number: u32,
@@ -78,7 +79,7 @@ fn check_step(
     next: Stop,
 ) -> Result<(), Broken>
     requires { All IsUpward flight.now.legs }
-    ensures broken { Finds (broken_step number place_in_trip stop next (leg_between flight.now.legs stop.node next.node)) result }
+    ensures broken { Names (broken_step number place_in_trip stop next (leg_between flight.now.legs stop.node next.node)) result }
     ensures upward { OnOk result (stop.node < next.node) }
     ensures within { OnOk result (next.node < 2 ^ 16) }
 {
@@ -115,7 +116,7 @@ fn check_window(
     place_in_trip: u16,
     stop: Stop,
 ) -> Result<(), Broken>
-    ensures { Finds (broken_window periods number flight.now place_in_trip stop) result }
+    ensures { Names (broken_window periods number flight.now place_in_trip stop) result }
 {
     if !is_within_hours(periods, flight, stop) {
         return Err(Broken::Window {
@@ -133,7 +134,7 @@ fn is_last(flight: &Flight, node: u16) -> bool
     usize::from(node) + 1 == flight.nodes.items().len()
 }
 
-// The same as a test.
+// Whether its time is neither before the window nor after it.
 fn is_within_hours(periods: u16, flight: &Flight, stop: Stop) -> bool
     ensures { result ≡ is_within_hours periods flight.now stop }
 {

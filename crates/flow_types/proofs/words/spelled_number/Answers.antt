@@ -1,6 +1,6 @@
 use Rattle.std.proofs.Common.{arith}
 use Rattle.flow_types.proofs.WordFacts.{number_parts}
-use Rattle.flow_types.proofs.words.number_at.Goals as goal
+use Rattle.flow_types.proofs.words.spelled_number.Goals as goal
 
 pub overflow_mul-value : goal.overflow_mul-value
 overflow_mul-value c =
