@@ -4,11 +4,12 @@ use Rattle.std.specs.Prelude.{nat_le, slice_get}
 use Rattle.std.specs.Cmp.Lexicographic.{nat_list_eq_equiv}
 use Rattle.std.specs.List.{list_any}
 use Rattle.std.specs.Str.{bytes_eq}
-use Rattle.std.proofs.lemmas.Bool.{false≢true, leb-false, lt-leb}
+use Rattle.std.proofs.lemmas.Bool.{and_parts, false≢true, leb-false, lt-leb, or_parts}
 use Rattle.std.proofs.lemmas.List.Elements.{All-push, All-set}
 use Rattle.std.proofs.lemmas.List.{length-set, map-append}
 use Rattle.std.proofs.lemmas.List.Quantifiers.{all_pairs_push}
 use Rattle.std.proofs.lemmas.List.Sums.{sum_by-cons, sum_by_push}
+use Rattle.std.proofs.lemmas.Option.{same_Some}
 use Rattle.flow_types.specs.Routes.{is_airport, is_sector}
 use Rattle.flow_types.specs.Valid.{is_cost, IsOtherConnection, IsPlace, IsTable, value_count}
 use Rattle.flow_types.specs.declared.day.Day.{Day}
@@ -39,7 +40,7 @@ use Rattle.scenario_reader.specs.declared.capacities.CapChange.{CapChange}
 use Rattle.scenario_reader.specs.declared.tables.Pricing.{Pricing}
 use Rattle.scenario_reader.proofs.ChangeFacts.{All-changed, get_changed, length-changed, map-changed, pairs_changed}
 use Rattle.text_records.proofs.NameFacts.{position-none}
-use Rattle.scenario_reader.proofs.NetworkFacts.{neither, network_grows}
+use Rattle.scenario_reader.proofs.NetworkFacts.{network_grows}
 use Rattle.scenario_reader.proofs.PlaceFacts.{length_new}
 
 -- ---- names that differ
@@ -52,10 +53,10 @@ name_apart : {X : Type 0} (name_of : X → List ℕ) (xs : List X) (name : List 
     → list_any (bytes_eq name) (map name_of xs) ≡ false → k < length xs → name_of (get_or xs k d) ≢ name
 name_apart name_of [] name k d none h = absurd (omega arith)
 name_apart name_of (x ∷ xs) name zero d none h = λ e.
-    let first : bytes_eq name (name_of x) ≡ false = (neither _ _ none).0 in
+    let first : bytes_eq name (name_of x) ≡ false = (or_parts _ _ none).0 in
     let same : bytes_eq name (name_of x) ≡ true = ap (bytes_eq name) e ∙ same_bytes name in
     false≢true (sym first ∙ same)
-name_apart name_of (x ∷ xs) name (suc k) d none h = name_apart name_of xs name k d (neither _ _ none).1 (omega arith)
+name_apart name_of (x ∷ xs) name (suc k) d none h = name_apart name_of xs name k d (or_parts _ _ none).1 (omega arith)
 
 pub names_more : {X : Type 0} (name_of : X → List ℕ) (xs : List X) (x : X) → AllPairs (λ a b. name_of a ≢ name_of b) xs
     → position_of (name_of x) (map name_of xs) ≡ None → AllPairs (λ a b. name_of a ≢ name_of b) (xs ++ x ∷ [])
@@ -216,10 +217,7 @@ total_with_leg (first ∷ flights) (suc k) leg flight h =
 
 room_for : (adds full : Bool) (n total : ℕ) → (adds && (full || nat_le 20000 total)) ≡ false → total ≤ 20000 → total + cond adds 1 0 ≤ 20000
 room_for false full n total h le = omega arith
-room_for true full n total h le = let few : total < 20000 = leb-false 20000 total (neither full (nat_le 20000 total) h).1 in omega arith
-
-some_is : {X : Type 0} (x y : X) → Some x ≡ Some y → x ≡ y
-some_is x y e = cc
+room_for true full n total h le = let few : total < 20000 = leb-false 20000 total (or_parts full (nat_le 20000 total) h).1 in omega arith
 
 parts_with_leg : (draft : DraftParts) (k : ℕ) (leg : PlaceLeg) (flight : FlightDraft) → IsValidDraft draft → slice_get draft.flights k ≡ Some flight
     → IsNewLeg draft.places (node_total draft.flights) flight leg → IsValidDraft (with_flight_leg draft (k, leg))
@@ -230,7 +228,7 @@ parts_with_leg draft k leg flight valid here new = record {
   place_names = valid.place_names;
   flights_few = rw (length-changed (λ f. with_leg f leg) draft.flights k) valid.flights_few;
   flights = All-changed (IsFlightDraft draft.day.periods draft.places draft.tables) (λ f. with_leg f leg) draft.flights k valid.flights
-      (λ f e valid. let same : flight ≡ f = some_is flight f (sym here ∙ e) in
+      (λ f e valid. let same : flight ≡ f = same_Some flight f (sym here ∙ e) in
       flight_with_leg draft.day.periods draft.places draft.tables (node_total draft.flights) f leg valid
       (subst (λ (g : FlightDraft). IsNewLeg draft.places (node_total draft.flights) g leg) same new));
   flight_names = names_changed (λ f. with_leg f leg) (λ f. refl) draft.flights k valid.flight_names;
@@ -305,14 +303,10 @@ parts_with_pricing draft pricing valid new = record {
 
 -- ---- a table more
 
-both : (a b : Bool) → (a && b) ≡ true → (a ≡ true) × (b ≡ true)
-both true b h = (refl, h)
-both false b h = absurd cc
-
 cost_with_table : (tables : List CostTable) (table : CostTable) (mg md : ℕ) (cost : Cost) → is_cost tables mg md cost ≡ true → is_cost (tables ++ table ∷ []) mg md cost ≡ true
 cost_with_table tables table mg md (Linear on_ground airborne) h = h
 cost_with_table tables table mg md (Tables total credit) h =
-    let (first, second) = both (nat_le (md + 1) (value_count (slice_get tables total))) (nat_le (mg + 1) (value_count (slice_get tables credit))) h in
+    let (first, second) = and_parts (nat_le (md + 1) (value_count (slice_get tables total))) (nat_le (mg + 1) (value_count (slice_get tables credit))) h in
     rw (
       found_front (λ o. nat_le (md + 1) (value_count o)) (lt-leb (md + 1) 0 (omega arith)) tables table total first,
       found_front (λ o. nat_le (mg + 1) (value_count o)) (lt-leb (mg + 1) 0 (omega arith)) tables table credit second,
@@ -356,10 +350,10 @@ connection_apart : (connections : List Connection) (connection : Connection) (k 
     → IsOtherConnection (get_or connections k d) connection
 connection_apart [] connection k d none h = absurd (omega arith)
 connection_apart (other ∷ connections) connection zero d none h = λ first second.
-    let one : (other.first == connection.first && other.second == connection.second) ≡ false = (neither _ _ none).0 in
+    let one : (other.first == connection.first && other.second == connection.second) ≡ false = (or_parts _ _ none).0 in
     let same : (other.first == connection.first && other.second == connection.second) ≡ true = rw (eq-eqb _ _ first, eq-eqb _ _ second) refl in
     false≢true (sym one ∙ same)
-connection_apart (other ∷ connections) connection (suc k) d none h = connection_apart connections connection k d (neither _ _ none).1 (omega arith)
+connection_apart (other ∷ connections) connection (suc k) d none h = connection_apart connections connection k d (or_parts _ _ none).1 (omega arith)
 
 parts_with_connection : (draft : DraftParts) (connection : Connection) → IsValidDraft draft → IsMeeting draft.flights connection
     → are_connected draft.connections connection.first connection.second ≡ false → length draft.connections < 4000
@@ -470,7 +464,7 @@ change_within periods places change new = is_some_at (has_kind change.kind) (no_
 
 all_at : {X : Type 0} (P : X → Type 0) (xs : List X) (k : ℕ) (x : X) → All P xs → slice_get xs k ≡ Some x → P x
 all_at P [] k x all e = absurd cc
-all_at P (y ∷ xs) zero x all e = subst P (some_is y x e) (all 0 y (omega arith))
+all_at P (y ∷ xs) zero x all e = subst P (same_Some y x e) (all 0 y (omega arith))
 all_at P (y ∷ xs) (suc k) x all e = all_at P xs k x (λ j d h. all (suc j) d (omega arith)) e
 
 pub reaches : (day : Day) (places : List Place) (flights : List FlightDraft) (tables : List CostTable) (connections : List Connection) (nodes : ℕ) (change : CapChange)

@@ -5,6 +5,7 @@ use Rattle.std.proofs.lemmas.Bool.{eqb-true}
 use Rattle.std.proofs.lemmas.List.{append-nil, drop_all, length-map}
 use Rattle.std.proofs.lemmas.List.Sums.{sum_by-cons}
 use Rattle.std.proofs.Math.Seq.{drop-cons}
+use Rattle.std.proofs.lemmas.Option.{same_Some}
 use Rattle.flow_types.specs.Valid.{destination_of, IsConnection, IsFlight, IsScenario, origin_of}
 use Rattle.flow_types.specs.declared.fault.Cause.TheVariants.{DeadEnd, NoRoute}
 use Rattle.flow_types.specs.declared.fault.Fault.{Fault}
@@ -30,10 +31,7 @@ pub node_found : (nodes : List ℕ) (place k : ℕ) → position (λ node. node 
 node_found nodes place k h = by (ltb (node_of nodes place) (length nodes)) (node_of nodes place) h
   where
     by : (b : Bool) (n : ℕ) → cond b (Some n) None ≡ Some k → k ≡ n
-    by true n e = some_is k n (sym e)
-      where
-        some_is : (x y : ℕ) → Some x ≡ Some y → x ≡ y
-        some_is x y e = cc
+    by true n e = same_Some k n (sym e)
     by false n e = absurd cc
 
 pub node_missing : (nodes : List ℕ) (place : ℕ) → position (λ node. node == place) nodes ≡ None → length nodes ≡ node_of nodes place

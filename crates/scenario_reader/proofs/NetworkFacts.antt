@@ -2,7 +2,7 @@
 use Rattle.std.proofs.Common.{◌≡◌, ◌≢◌, ℕ, zero, suc, ◌+◌, ◌<◌, ◌≤◌, Bool, true, false, cond, eqb, not, ◌||◌, ◌&&◌, List, [], ◌∷◌, ◌++◌, length, get_or, max, refl, sym, ap, subst, arith, ◌∙◌, ◌⊎◌, inl, inr, All, IsTrue, length-append, eq-eqb}
 use Rattle.std.specs.Prelude.{nat_le, slice_get}
 use Rattle.std.specs.List.{list_any}
-use Rattle.std.proofs.lemmas.Bool.{cases_Bool, eqb-true, false≢true, le-leb, leb-false}
+use Rattle.std.proofs.lemmas.Bool.{cases_Bool, eqb-true, false≢true, le-leb, leb-false, or_cases, or_parts}
 use Rattle.std.proofs.lemmas.List.Elements.{All-push}
 use Rattle.std.proofs.lemmas.List.Folds.{list_any-append}
 use Rattle.std.proofs.lemmas.List.Quantifiers.{all_pairs_push}
@@ -18,10 +18,6 @@ use Rattle.scenario_reader.proofs.PlaceFacts.{All-new, among_added, among_new, a
 
 -- ---- tests joined
 
-pub neither : (a b : Bool) → (a || b) ≡ false → (a ≡ false) × (b ≡ false)
-neither true b h = absurd cc
-neither false b h = (refl, h)
-
 pub clash : (b : Bool) → b ≡ true → b ≡ false → ⊥
 clash b holds fails = let one : true ≡ false = sym holds ∙ fails in absurd (false≢true (sym one))
 
@@ -34,10 +30,6 @@ pub not_both_not : (a b : Bool) → (not a && not b) ≡ false → (a ≡ true) 
 not_both_not true b h = inl refl
 not_both_not false true h = inr refl
 not_both_not false false h = absurd cc
-
-pub either : (a b : Bool) → (a || b) ≡ true → (a ≡ true) ⊎ (b ≡ true)
-either true b h = inl refl
-either false b h = inr h
 
 pub left_or : (a b : Bool) → a ≡ true → (a || b) ≡ true
 left_or a b h = rw h refl
@@ -68,7 +60,7 @@ leg_stays : (b c : Bool) (visits reached : List ℕ) (start end to : ℕ) (leg :
     → IsPlaceLeg (with_new b visits start) to (with_new c reached end) leg
 leg_stays b c visits reached start end to leg joins = record {
   start = among_new b visits start leg.from joins.start;
-  end = elim (either (eqb leg.to to) (is_among reached leg.to) joins.end) [
+  end = elim (or_cases (eqb leg.to to) (is_among reached leg.to) joins.end) [
     | inl e ↦ left_or _ _ e
     | inr e ↦ right_or _ _ (among_new c reached end leg.to e)
   ];
@@ -125,11 +117,11 @@ any_some p (leg ∷ legs) h = omega arith
 apart_at : (legs : List PlaceLeg) (from to : ℕ) (k : ℕ) (d : PlaceLeg) → is_joined legs from to ≡ false → k < length legs
     → (get_or legs k d).from ≡ from → (get_or legs k d).to ≢ to
 apart_at [] from to k d none h = absurd (omega arith)
-apart_at (leg ∷ legs) from to zero d none h = λ f t. first (eq-eqb leg.from from f) (eq-eqb leg.to to t) (neither _ _ none).0
+apart_at (leg ∷ legs) from to zero d none h = λ f t. first (eq-eqb leg.from from f) (eq-eqb leg.to to t) (or_parts _ _ none).0
   where
     first : eqb leg.from from ≡ true → eqb leg.to to ≡ true → (eqb leg.from from && eqb leg.to to) ≡ false → ⊥
     first f t e = let no : true ≡ false = rw (f, t) at e in cc
-apart_at (leg ∷ legs) from to (suc k) d none h = apart_at legs from to k d (neither _ _ none).1 (omega arith)
+apart_at (leg ∷ legs) from to (suc k) d none h = apart_at legs from to k d (or_parts _ _ none).1 (omega arith)
 
 -- whether a leg starts from a place that wasn't visited
 abbrev pub adds_visit : FlightDraft → PlaceLeg → Bool
@@ -147,26 +139,26 @@ pub record IsLegKnown (places : List Place) (flight : FlightDraft) (leg : PlaceL
   pub room_to : adds_node flight leg.to ≡ true → length flight.reached < 30
 
 room_left : (n total : ℕ) → (nat_le 32 (n + 2) || nat_le 20000 total) ≡ false → n < 30
-room_left n total h = let few = leb-false 32 (n + 2) (neither _ _ h).0 in omega arith
+room_left n total h = let few = leb-false 32 (n + 2) (or_parts _ _ h).0 in omega arith
 
 pub leg_known : (places : List Place) (total : ℕ) (flight : FlightDraft) (leg : PlaceLeg) → IsNewLeg places total flight leg → IsLegKnown places flight leg
 leg_known places total flight leg new =
-    let back = neither (eqb leg.to flight.from || eqb leg.to leg.from) (is_among flight.passed leg.to) new.onward in
-    let ends = neither (eqb leg.to flight.from) (eqb leg.to leg.from) back.0 in
+    let back = or_parts (eqb leg.to flight.from || eqb leg.to leg.from) (is_among flight.passed leg.to) new.onward in
+    let ends = or_parts (eqb leg.to flight.from) (eqb leg.to leg.from) back.0 in
     record {
       visited_from = λ e. elim (not_both_not _ _ e) [
         | inl same ↦ left_or _ _ (same_back leg.from flight.from same)
         | inr passed ↦ right_or _ _ passed
       ];
       new_from = λ e. (both_not _ _ e).1;
-      reached_from = λ e. elim (either _ _ new.start) [
+      reached_from = λ e. elim (or_cases _ _ new.start) [
         | inl same ↦ absurd (clash _ same (both_not _ _ e).0)
         | inr reached ↦ reached
       ];
       fresh_to = rw (differ_back leg.to flight.from ends.0) back.1;
       other_to = differ_back leg.to leg.from ends.1;
-      sector_to = λ e. elim (either _ _ new.own) [
-        | inl one ↦ elim (either _ _ one) [
+      sector_to = λ e. elim (or_cases _ _ new.own) [
+        | inl one ↦ elim (or_cases _ _ one) [
           | inl sector ↦ sector
           | inr origin ↦ absurd (clash _ origin ends.0)
         ]
@@ -184,7 +176,7 @@ has_leg places flight network place h =
 begins_more : (places : List Place) (total : ℕ) (flight : FlightDraft) (leg : PlaceLeg) → IsNetwork places flight → IsNewLeg places total flight leg
     → IsTrue (starts_leg (flight.legs ++ leg ∷ []) flight.from)
 begins_more places total flight leg network new =
-    elim (either _ _ new.start) [
+    elim (or_cases _ _ new.start) [
       | inl same ↦ any_last (λ l. eqb l.from flight.from) flight.legs leg same
       | inr reached ↦ any_front (λ l. eqb l.from flight.from) flight.legs leg (network.begins (has_leg places flight network leg.from reached))
     ]

@@ -1,15 +1,11 @@
 -- Places among others, and their first positions.
-use Rattle.std.proofs.Common.{◌≡◌, ◌≢◌, ℕ, zero, suc, ◌+◌, ◌<◌, ◌≤◌, Bool, true, false, cond, eqb, not, ◌||◌, List, [], ◌∷◌, ◌++◌, length, get_or, refl, sym, ap, arith, ◌∙◌, ◌⊎◌, inl, inr, All, AllPairs, length-append}
-use Rattle.std.proofs.lemmas.Bool.{cases_lt, eqb-true}
+use Rattle.std.proofs.Common.{◌≡◌, ◌≢◌, ℕ, zero, suc, ◌+◌, ◌<◌, ◌≤◌, Bool, true, false, cond, eqb, not, ◌||◌, List, [], ◌∷◌, ◌++◌, length, get_or, refl, sym, ap, arith, ◌∙◌, inl, inr, All, AllPairs, length-append}
+use Rattle.std.proofs.lemmas.Bool.{cases_lt, eqb-true, or_cases}
 use Rattle.std.proofs.Common.{eq-eqb}
 use Rattle.std.proofs.lemmas.List.Elements.{All-push}
 use Rattle.std.proofs.lemmas.List.Quantifiers.{all_pairs_push}
 use Rattle.scenario_reader.specs.Finish.{node_of}
 use Rattle.scenario_reader.specs.Legs.{is_among, with_new}
-
-either : (a b : Bool) → (a || b) ≡ true → (a ≡ true) ⊎ (b ≡ true)
-either true b h = inl refl
-either false b h = inr h
 
 -- ---- among
 
@@ -55,7 +51,7 @@ not_among_at xs place k d none h e =
 pub holds_among : (P : ℕ → Type 0) (xs : List ℕ) (place : ℕ) → All P xs → is_among xs place ≡ true → P place
 holds_among P [] place all h = absurd cc
 holds_among P (x ∷ xs) place all h =
-    elim (either (eqb x place) (is_among xs place) h) [
+    elim (or_cases (eqb x place) (is_among xs place) h) [
       | inl e ↦ rw (← eqb-true x place e) (all 0 place (omega arith))
       | inr rest ↦ holds_among P xs place (λ k d within. all (suc k) d (omega arith)) rest
     ]

@@ -1,18 +1,18 @@
 -- There is room for the sectors of a leg that a flight may have next.
 use Rattle.std.proofs.Common.{◌≡◌, ℕ, ◌+◌, ◌<◌, ◌≤◌, Bool, true, false, ◌||◌, ◌&&◌, length, List, arith}
 use Rattle.std.specs.Prelude.{nat_le}
-use Rattle.std.proofs.lemmas.Bool.{leb-false}
+use Rattle.std.proofs.lemmas.Bool.{leb-false, or_parts}
 use Rattle.flow_types.specs.declared.place.Place.{Place}
 use Rattle.scenario_reader.specs.Legs.{HasRoom, adds_node, passes_new, with_leg, with_new}
 use Rattle.scenario_reader.specs.Validity.{IsNetwork, IsNewLeg}
 use Rattle.scenario_reader.specs.declared.flight_draft.FlightDraft.{FlightDraft}
 use Rattle.scenario_reader.specs.declared.flight_draft.PlaceLeg.{PlaceLeg}
-use Rattle.scenario_reader.proofs.NetworkFacts.{neither, network_grows}
+use Rattle.scenario_reader.proofs.NetworkFacts.{network_grows}
 use Rattle.scenario_reader.proofs.PlaceFacts.{length_new}
 use Rattle.scenario_reader.proofs.RouteFacts.{passed_few}
 
 not_full : (adds full other : Bool) → (adds && (full || other)) ≡ false → adds ≡ true → full ≡ false
-not_full adds full other none e = (neither full other (rw e at none)).0
+not_full adds full other none e = (or_parts full other (rw e at none)).0
 
 room_before : (b : Bool) (places : List ℕ) (new : ℕ) → length (with_new b places new) ≤ 30 → b ≡ true → length places < 30
 room_before true places new few e = let more = length_new true places new in omega arith

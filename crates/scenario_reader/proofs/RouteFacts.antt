@@ -3,7 +3,7 @@ use Rattle.std.proofs.Common.{◌≡◌, ◌≢◌, ℕ, zero, suc, ◌+◌, ◌
 use Rattle.std.specs.Prelude.{nat_le, slice_get}
 use Rattle.std.specs.List.{list_any}
 use Rattle.std.proofs.Math.Seq.{get_or-append_seam}
-use Rattle.std.proofs.lemmas.Bool.{cases_Bool, cases_lt, eqb-true, false≢true}
+use Rattle.std.proofs.lemmas.Bool.{cases_Bool, cases_lt, eqb-true, false≢true, or_cases}
 use Rattle.std.proofs.lemmas.List.{get_or_append_left, get_or-map, length-map}
 use Rattle.std.proofs.lemmas.List.Elements.{All-map}
 use Rattle.std.proofs.lemmas.List.Quantifiers.{all_pairs_push}
@@ -19,7 +19,7 @@ use Rattle.scenario_reader.specs.Validity.{ends_leg, in_order, starts_leg, start
 use Rattle.scenario_reader.specs.declared.flight_draft.FlightDraft.{FlightDraft}
 use Rattle.scenario_reader.specs.declared.flight_draft.PlaceLeg.{PlaceLeg}
 use Rattle.scenario_reader.proofs.CountFacts.{no_more}
-use Rattle.scenario_reader.proofs.NetworkFacts.{any_some, either, left_or, right_or, starts_stay}
+use Rattle.scenario_reader.proofs.NetworkFacts.{any_some, left_or, right_or, starts_stay}
 use Rattle.scenario_reader.proofs.PlaceFacts.{among_front, among_last, among_more, holds_among, node_at, node_new, node_not_before, node_of_at, node_outside, node_within}
 
 -- no place is an airport and a sector
@@ -72,7 +72,7 @@ among_nodes : (periods : ℕ) (places : List Place) (tables : List CostTable) (f
     → (is_among (nodes_of flight) leg.from ≡ true) × (is_among (nodes_of flight) leg.to ≡ true)
 among_nodes periods places tables flight ended leg joins = (
   among_front (visited flight) (flight.to ∷ []) leg.from joins.start,
-  elim (either (eqb leg.to flight.to) (is_among flight.reached leg.to) joins.end) [
+  elim (or_cases (eqb leg.to flight.to) (is_among flight.reached leg.to) joins.end) [
     | inl last ↦ ap (is_among (nodes_of flight)) (eqb-true leg.to flight.to last) ∙ among_last (visited flight) flight.to
     | inr reached ↦ among_front (visited flight) (flight.to ∷ []) leg.to (among_more flight.from flight.passed leg.to
         (holds_among (λ p. is_among flight.passed p ≡ true) flight.reached leg.to (AllPass-from_list_all (λ p. is_among flight.passed p) flight.reached ended.onward) reached))
@@ -126,7 +126,7 @@ any_map : (p : PlaceLeg → Bool) (q : Leg → Bool) (nodes : List ℕ) (legs : 
     → list_any p legs ≡ true → list_any q (map (leg_between nodes) legs) ≡ true
 any_map p q nodes [] each h = absurd cc
 any_map p q nodes (leg ∷ legs) each h =
-    elim (either (p leg) (list_any p legs) h) [
+    elim (or_cases (p leg) (list_any p legs) h) [
       | inl first ↦ left_or _ _ (each leg first)
       | inr rest ↦ right_or _ _ (any_map p q nodes legs each rest)
     ]

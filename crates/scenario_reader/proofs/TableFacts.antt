@@ -2,6 +2,7 @@
 use Rattle.std.proofs.Common.{◌≡◌, ℕ, zero, suc, ◌+◌, ◌-◌, ◌≤◌, List, [], ◌∷◌, ◌++◌, length, drop, min, Option, Some, None, Result, Ok, Err, ℤ, refl, sym, ap, ◌∙◌, arith, append_assoc}
 use Rattle.std.specs.Prelude.{slice_get}
 use Rattle.std.proofs.lemmas.List.{append-nil, drop_all}
+use Rattle.std.proofs.lemmas.Option.{same_Some}
 use Rattle.text_records.specs.Errors.{◌>>=◌}
 use Rattle.text_records.specs.Fields.{field_in, present_at}
 use Rattle.text_records.specs.Rows.{Fields}
@@ -17,9 +18,6 @@ regroup : (front : List ℤ) (value : ℤ) (read : Result (List ℤ) FieldFault)
 regroup front value (Ok values) = ap (λ (vs : List ℤ). Ok vs) (sym (append_assoc front (value ∷ []) values))
 regroup front value (Err fault) = refl
 
-some_is : (x y : List ℕ) → Some x ≡ Some y → x ≡ y
-some_is x y e = cc
-
 -- the field at a position, and those after it
 pub rest_at : (fields : Fields) (k : ℕ) (bytes : List ℕ) → field_in fields (k + 1) ≡ Ok bytes → drop k fields ≡ bytes ∷ drop (k + 1) fields
 rest_at fields k bytes e =
@@ -33,7 +31,7 @@ rest_at fields k bytes e =
 
     there : (fields : Fields) (k : ℕ) (bytes : List ℕ) → slice_get fields k ≡ Some bytes → drop k fields ≡ bytes ∷ drop (suc k) fields
     there [] k bytes e = absurd cc
-    there (field ∷ fields) zero bytes e = ap (λ (b : List ℕ). b ∷ fields) (some_is field bytes e)
+    there (field ∷ fields) zero bytes e = ap (λ (b : List ℕ). b ∷ fields) (same_Some field bytes e)
     there (field ∷ fields) (suc k) bytes e = there fields k bytes e
 
 pub one_more : (front : List ℤ) (fields : Fields) (k : ℕ) (bytes : List ℕ) (value : ℤ) (total : Result (List ℤ) FieldFault)

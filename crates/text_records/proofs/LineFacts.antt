@@ -125,8 +125,8 @@ both_hold false b e = absurd (false≢true e)
 plain_name : (bytes : List ℕ) → list_all is_name_byte bytes ≡ true → IsPlain bytes
 plain_name [] named = refl
 plain_name (b ∷ bytes) named =
-    let both = both_hold (is_name_byte b) (list_all is_name_byte bytes) named in
-    rw (plain_name_byte b both.0) (plain_name bytes both.1)
+    let and_parts = both_hold (is_name_byte b) (list_all is_name_byte bytes) named in
+    rw (plain_name_byte b and_parts.0) (plain_name bytes and_parts.1)
 
 glyph_plain : (d : ℕ) → d < 10 → needs_byte default_writer (digit_glyph false d) ≡ false
 glyph_plain d few =
@@ -136,12 +136,12 @@ digits_plain : (most n : ℕ) (more : List ℕ) → IsPlain more → IsPlain (di
 digits_plain zero n more plain = plain
 digits_plain (suc most) n more plain =
     let first : IsPlain (digit_glyph false (n % 10) ∷ more) = rw (glyph_plain (n % 10) (omega arith)) plain in
-    either (n / 10 == 0) first (digits_plain most (n / 10) (digit_glyph false (n % 10) ∷ more) first)
+    or_cases (n / 10 == 0) first (digits_plain most (n / 10) (digit_glyph false (n % 10) ∷ more) first)
   where
-    either : (last : Bool) → IsPlain (digit_glyph false (n % 10) ∷ more) → IsPlain (digits_onto most 10 false (n / 10) (digit_glyph false (n % 10) ∷ more))
+    or_cases : (last : Bool) → IsPlain (digit_glyph false (n % 10) ∷ more) → IsPlain (digits_onto most 10 false (n / 10) (digit_glyph false (n % 10) ∷ more))
         → IsPlain (if last then digit_glyph false (n % 10) ∷ more else digits_onto most 10 false (n / 10) (digit_glyph false (n % 10) ∷ more))
-    either true here rest = here
-    either false here rest = rest
+    or_cases true here rest = here
+    or_cases false here rest = rest
 
 -- what is written of a number is plain
 pub plain_decimal : (n : ℕ) → IsPlain (decimal n)

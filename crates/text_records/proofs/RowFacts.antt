@@ -1,5 +1,6 @@
 -- How the records of a text follow one another.
 use Rattle.std.proofs.Common.{◌≡◌, ℕ, zero, suc, ◌+◌, ◌≤◌, ◌<◌, Bool, true, false, cond, eqb, List, [], ◌∷◌, ◌++◌, length, Option, Some, None, refl, ap, arith}
+use Rattle.std.proofs.lemmas.Option.{same_Some}
 use Rattle.csv.specs.Machine.{Read, ends_at_end, field_after, fields_after, is_end, next_record, step, in_field, after_end, ends_with, start_field, start_record}
 use Rattle.csv.specs.Reading.{default_config, is_bom, records_from, records_next, strip_bom}
 use Rattle.csv.specs.declared.parser.Action.{Action}
@@ -48,9 +49,6 @@ pub record IsTaken (bytes : List ℕ) (read : Read) : Type 0 where
   pub shorter : 0 < length bytes → length read.2 < length bytes
   pub start : ends_at_end read.1 ≡ false
 
-some_is : (x y : Read) → Some x ≡ Some y → x ≡ y
-some_is x y e = cc
-
 taken_eq : (bytes : List ℕ) (x y : Read) → x ≡ y → IsTaken bytes x → IsTaken bytes y
 taken_eq bytes x y e t = rw (← e) t
 
@@ -64,7 +62,7 @@ taken [] s fields field read e = at_end (ends_at_end s) e
   where
     at_end : (b : Bool) → cond b (Some (fields ++ (field ∷ []), st.StartRecord, [])) None ≡ Some read → IsTaken [] read
     at_end true e =
-        taken_eq [] (fields ++ (field ∷ []), st.StartRecord, []) read (some_is _ _ e)
+        taken_eq [] (fields ++ (field ∷ []), st.StartRecord, []) read (same_Some _ _ e)
         (record { fits = omega arith; shorter = λ h. absurd (omega arith); start = refl })
     at_end false e = absurd cc
 taken (c ∷ rest) s fields field read e =
@@ -78,7 +76,7 @@ taken (c ∷ rest) s fields field read e =
         → (next_record default_config (step default_config s c).0 (fields_after (step default_config s c).1 fields field) (field_after (step default_config s c).1 c field) rest ≡ Some read → IsTaken rest read)
         → IsTaken (c ∷ rest) read
     by true ends e more =
-        taken_eq (c ∷ rest) (fields_after (step default_config s c).1 fields field, (step default_config s c).0, rest) read (some_is _ _ (rw ends at e))
+        taken_eq (c ∷ rest) (fields_after (step default_config s c).1 fields field, (step default_config s c).0, rest) read (same_Some _ _ (rw ends at e))
         (record { fits = omega arith; shorter = λ h. omega arith; start = leaves s c ends })
     by false ends e more = taken_more c rest read (more (rw ends at e))
 
