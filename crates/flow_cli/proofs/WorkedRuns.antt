@@ -10,6 +10,7 @@ use Rattle.flow_outside.specs.Held.{Held}
 use Rattle.flow_outside.specs.Seen.{FilesSeen, SinkSeen}
 use Rattle.flow_types.specs.declared.fault.Fault.{Fault}
 use Rattle.flow_types.specs.declared.fault.Cause.TheVariants.{BackLeg}
+use Rattle.flow_types.specs.Limits.{most_text_bytes}
 use Rattle.plan_rules.proofs.FirstRules.{first_rule}
 use Rattle.plan_rules.specs.FirstBroken.{first_broken}
 use Rattle.plan_rules.specs.declared.broken.Broken.TheVariants.{Departures}
@@ -21,7 +22,7 @@ use Rattle.flow_cli.specs.Answer.{Ends}
 use Rattle.flow_cli.specs.Faults.{fault_text, too_long_text}
 use Rattle.flow_cli.specs.Judging.{IsVerdict}
 use Rattle.flow_cli.specs.Outside.{change}
-use Rattle.flow_cli.specs.Reading.{IsTextOf, most_bytes}
+use Rattle.flow_cli.specs.Reading.{IsTextOf}
 use Rattle.flow_cli.specs.Words.{usage_text}
 use Rattle.flow_cli.proofs.WorkedCases.{is_day_of_chains, keeps, on_time, optimal_day, optimal_text, two_flights}
 
@@ -29,7 +30,7 @@ one_value : {A : Type 0} {x y : A} → Some x ≡ Some y → x ≡ y
 one_value is = cc
 
 -- what is held under a name is its text
-text_held : (held : Held) (name text : List ℕ) → get held name ≡ Some text → length text ≤ most_bytes → IsTextOf (Some held) name text
+text_held : (held : Held) (name text : List ℕ) → get held name ≡ Some text → length text ≤ most_text_bytes → IsTextOf (Some held) name text
 text_held held name text holds few = record {
   present = subst IsSome (sym holds) refl;
   source = λ told is. one_value (sym holds ∙ is);
@@ -55,7 +56,7 @@ plan_words = codes "plan" ∷ day_name ∷ []
 abbrev judge_words : List (List ℕ)
 judge_words = codes "judge" ∷ day_name ∷ plan_name ∷ []
 
-module _ (text plan : List ℕ) (few : length text ≤ most_bytes) (few_of_plan : length plan ≤ most_bytes) where
+module _ (text plan : List ℕ) (few : length text ≤ most_text_bytes) (few_of_plan : length plan ≤ most_text_bytes) where
   abbrev files : Held
   files = from_entries ((day_name, text) ∷ (plan_name, plan) ∷ [])
 
@@ -186,6 +187,6 @@ run_is_usage = inl (record {
 })
 
 -- A text of a byte too many is refused by its size.
-size_is_printed : too_long_text (most_bytes + 1) ≡ codes "refused,toolong,67108865\n"
+size_is_printed : too_long_text (most_text_bytes + 1) ≡ codes "refused,toolong,67108865\n"
 unfolding digits
 size_is_printed = refl

@@ -9,7 +9,7 @@ use Rattle.flow_types.specs.Trips.{place_at}
 use Rattle.plan_rules.specs.BrokenRules.{stop_at}
 use Rattle.plan_rules.specs.declared.broken.Broken.{Broken}
 use Rattle.plan_rules.specs.declared.broken.Broken.TheVariants as broken
-use Rattle.plan_text.specs.Lines.{name_at}
+use Rattle.plan_text.specs.Lines.{place_name}
 use Rattle.flow_cli.specs.Lines.{field_text, line_text}
 
 -- the cost of a plan that keeps every rule
@@ -26,7 +26,7 @@ abbrev pub flight_field : Parts → ℕ → List ℕ
 flight_field parts position = field_text (flight_name (slice_get parts.flights position))
 
 abbrev pub place_field : Parts → ℕ → List ℕ
-place_field parts position = field_text (name_at (slice_get parts.places position))
+place_field parts position = field_text (place_name (slice_get parts.places position))
 
 -- where a stop of a flight is, the place 0 where there is no flight or no stop
 abbrev pub place_of_stop : Option Flight → Option Stop → ℕ

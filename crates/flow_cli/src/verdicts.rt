@@ -4,14 +4,15 @@ ghost use Rattle.std.specs.Fmt.{decimal};
 ghost use Rattle.flow_types.specs.Scenario.{parts_of};
 ghost use Rattle.flow_types.specs.Trips.{place_at};
 ghost use Rattle.plan_rules.specs.BrokenRules.{stop_at};
-ghost use Rattle.plan_text.specs.Lines.{name_at};
+ghost use Rattle.plan_text.specs.Lines.{place_name};
 ghost use Rattle.flow_cli.specs.Lines.{field_text};
 ghost use Rattle.flow_cli.specs.Verdicts.{broken_fields, broken_text, flight_field, flight_name, keeps_text, over_fields, place_field, place_of_stop, time_of_stop, turn_fields};
 
-use crate::lines::{put, put_field, put_line, put_number};
+use crate::lines::{put_field, put_line, put_number};
 use flow_types::{Connection, Flight, OutOfMemory, Plan, Scenario, Stop};
 use plan_rules::Broken;
 use std::alloc::Global;
+use text_records::put;
 
 /// The line of a plan that keeps every rule, at its cost.
 pub fn keeps_line(alloc: Global, cost: i64) -> Result<Vec<u8>, OutOfMemory>
@@ -287,7 +288,7 @@ fn flight_name(s: &Scenario, position: u32) -> &[u8]
 
 // The name of the place at this position, empty where there is none.
 fn place_name(s: &Scenario, position: u32) -> &[u8]
-    ensures { result.now ≡ name_at (slice_get (parts_of s.now).places position) }
+    ensures { result.now ≡ place_name (slice_get (parts_of s.now).places position) }
 {
     match s.places().get(position as usize) {
         None => b"",
