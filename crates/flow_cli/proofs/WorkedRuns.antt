@@ -10,10 +10,10 @@ use Rattle.flow_outside.specs.Held.{Held}
 use Rattle.flow_outside.specs.Seen.{FilesSeen, SinkSeen}
 use Rattle.flow_types.specs.declared.fault.Fault.{Fault}
 use Rattle.flow_types.specs.declared.fault.Cause.TheVariants.{BackLeg}
+use Rattle.flow_types.specs.declared.place.CapKind.TheVariants.{Dep}
 use Rattle.flow_types.specs.Limits.{most_text_bytes}
 use Rattle.plan_rules.proofs.FirstRules.{first_rule}
-use Rattle.plan_rules.specs.FirstBroken.{first_broken}
-use Rattle.plan_rules.specs.declared.broken.Broken.TheVariants.{Departures}
+use Rattle.plan_rules.specs.FirstBroken.{first_broken, over}
 use Rattle.plan_text.specs.Plans.{plan_of}
 use Rattle.scenario_reader.specs.Reading.{scenario_of}
 use Rattle.flow_cli.specs.declared.status.Status.{Status}
@@ -132,16 +132,16 @@ module _ (text plan : List ℕ) (few : length text ≤ most_text_bytes) (few_of_
   unfolding digits
   run_is_kept read plan_read = judged 2 read (codes "keeps,0\n") Done plan_read (inl (record { feasible = keeps; ends = refl; text = refl }))
 
-  first_is_departures : first_broken (two_flights 1) on_time ≡ Some (Departures 0 0 2 1)
+  first_is_departures : first_broken (two_flights 1) on_time ≡ Some (over Dep 0 0 2 1)
   first_is_departures = refl
 
   run_is_broken : scenario_of text ≡ Ok (two_flights 1) → plan_of (two_flights 1) plan ≡ Ok on_time
       → EndsOn files judge_words (codes "broken,departures,ORIG,0,2,1\n") Broken
   unfolding digits
   run_is_broken read plan_read = judged 1 read (codes "broken,departures,ORIG,0,2,1\n") Broken plan_read (inr (record {
-    rule = Departures 0 0 2 1;
+    rule = over Dep 0 0 2 1;
     first = first_is_departures;
-    broken = first_rule (two_flights 1) on_time (Departures 0 0 2 1) first_is_departures;
+    broken = first_rule (two_flights 1) on_time (over Dep 0 0 2 1) first_is_departures;
     ends = refl;
     text = refl;
   }))

@@ -7,6 +7,8 @@ use Rattle.flow_types.specs.declared.parts.Parts.{Parts}
 use Rattle.flow_types.specs.declared.plan.Stop.{Stop}
 use Rattle.plan_rules.specs.declared.broken.Broken.{Broken}
 use Rattle.plan_rules.specs.declared.broken.Broken.TheVariants as broken
+use Rattle.plan_rules.specs.FirstBroken.{over}
+use Rattle.flow_types.specs.declared.place.CapKind.TheVariants as kind
 use Rattle.flow_types.proofs.WorkedCases.{day_with, places_with, there, trip_at}
 use Rattle.flow_cli.specs.Verdicts.{broken_text, keeps_text}
 
@@ -51,14 +53,14 @@ turn_line : line_of (broken.Turn 0 2 3) ≡ codes "broken,turn,F1,G1,2,3,2\n"
 unfolding digits
 turn_line = refl
 
-departures_line : line_of (broken.Departures 0 7 2 1) ≡ codes "broken,departures,ORIG,7,2,1\n"
+departures_line : line_of (over kind.Dep 0 7 2 1) ≡ codes "broken,departures,ORIG,7,2,1\n"
 unfolding digits
 departures_line = refl
 
-arrivals_line : line_of (broken.Arrivals 1 7 2 1) ≡ codes "broken,arrivals,DEST,7,2,1\n"
+arrivals_line : line_of (over kind.Arr 1 7 2 1) ≡ codes "broken,arrivals,DEST,7,2,1\n"
 unfolding digits
 arrivals_line = refl
 
-sectors_line : line_of (broken.Sectors 2 7 10 9) ≡ codes "broken,sectors,S,7,10,9\n"
+sectors_line : line_of (over kind.Sector 2 7 10 9) ≡ codes "broken,sectors,S,7,10,9\n"
 unfolding digits
 sectors_line = refl
