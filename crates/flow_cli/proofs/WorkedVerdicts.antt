@@ -1,28 +1,16 @@
 -- What is printed of each broken rule of a flight and its aircraft's flight back, byte by byte.
 use Rattle.std.specs.Prelude.{codes}
-use Rattle.std.proofs.Common.{◌≡◌, ℕ, List, [], ◌∷◌, negsuc, refl}
+use Rattle.std.proofs.Common.{◌≡◌, ℕ, List, negsuc, refl}
 use Rattle.std.specs.Fmt.{digits}
-use Rattle.flow_types.specs.declared.flight.Flight.{Flight}
-use Rattle.flow_types.specs.declared.parts.Parts.{Parts}
-use Rattle.flow_types.specs.declared.plan.Stop.{Stop}
+use Rattle.flow_types.specs.declared.place.CapKind.TheVariants as kind
 use Rattle.plan_rules.specs.declared.broken.Broken.{Broken}
 use Rattle.plan_rules.specs.declared.broken.Broken.TheVariants as broken
 use Rattle.plan_rules.specs.FirstBroken.{over}
-use Rattle.flow_types.specs.declared.place.CapKind.TheVariants as kind
-use Rattle.flow_types.proofs.WorkedCases.{day_with, places_with, there, trip_at}
+use Rattle.worked_days.specs.Days.{plan_with, there_and_back, trip_at}
 use Rattle.flow_cli.specs.Verdicts.{broken_text, keeps_text}
 
-abbrev back : Flight
-back = record there { name = codes "G1"; from = 1; to = 0; sd = 3; sa = 5; nodes = 1 ∷ 2 ∷ 0 ∷ [] }
-
-abbrev there_and_back : Parts
-there_and_back = day_with (places_with 1 9 9) back (record { first = 0; second = 1; turnaround = 2 } ∷ [])
-
-abbrev round_trip : List (List Stop)
-round_trip = trip_at 0 2 ∷ trip_at 3 5 ∷ []
-
 abbrev line_of : Broken → List ℕ
-line_of rule = broken_text there_and_back round_trip rule
+line_of rule = broken_text (there_and_back 1 2) (plan_with (trip_at 3 5)) rule
 
 keeps_line : keeps_text (negsuc 4) ≡ codes "keeps,-5\n"
 unfolding digits
