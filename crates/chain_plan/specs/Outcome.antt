@@ -35,5 +35,5 @@ abbrev pub plan_in : Option Costed → Option (List (List Stop))
 plan_in None = None
 plan_in (Some kept) = Some kept.plan
 
-abbrev pub plan_of : Outcome → Option (List (List Stop))
-plan_of outcome = plan_in outcome.kept
+abbrev pub plan_kept : Outcome → Option (List (List Stop))
+plan_kept outcome = plan_in outcome.kept

@@ -4,7 +4,7 @@ ghost use Rattle.flow_types.specs.Bounds.{IsBound};
 ghost use Rattle.flow_types.specs.Feasible.{IsFeasible};
 ghost use Rattle.flow_types.specs.Scenario.{parts_of};
 ghost use Rattle.chain_plan.specs.Chains.{AreChains, HasEarliest, earliest_plan};
-ghost use Rattle.chain_plan.specs.Outcome.{IsCosted, IsFirstBound, IsFirstPlan, plan_of};
+ghost use Rattle.chain_plan.specs.Outcome.{IsCosted, IsFirstBound, IsFirstPlan, plan_kept};
 
 use crate::earliest::{earliest_trip, has_earliest};
 use crate::pairs::least_pair;
@@ -33,7 +33,7 @@ pub fn plan_chains(alloc: Global, s: &Scenario) -> Result<Outcome, OutOfMemory>
     requires { AreChains (parts_of s.now).flights }
     ensures kept { IfOk result (λ outcome. IfSome outcome.kept (λ kept. IsCosted (parts_of s.now) kept.plan kept.cost)) }
     ensures bound { IfOk result (λ outcome. IsBound (parts_of s.now) outcome.bound) }
-    ensures first_plan { IfOk result (λ outcome. IsFirstPlan (parts_of s.now) (plan_of outcome)) }
+    ensures first_plan { IfOk result (λ outcome. IsFirstPlan (parts_of s.now) (plan_kept outcome)) }
     ensures first_bound { IfOk result (λ outcome. IsFirstBound (parts_of s.now) outcome.bound) }
 {
     match first_bound(s) {

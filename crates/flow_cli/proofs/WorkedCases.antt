@@ -8,26 +8,21 @@ use Rattle.std.specs.Fmt.{digits}
 use Rattle.flow_types.specs.declared.bound.Bound.TheVariants.{AtLeast, NoPlan}
 use Rattle.flow_types.specs.declared.flight.Flight.{Flight}
 use Rattle.flow_types.specs.declared.parts.Parts.{Parts}
-use Rattle.flow_types.specs.declared.place.CapKind.TheVariants as kind
 use Rattle.flow_types.specs.declared.plan.Stop.{Stop}
-use Rattle.flow_types.specs.Capacities.{capacity_of}
-use Rattle.flow_types.specs.Counts.{departures_at, arrivals_at, occupancy_at}
 use Rattle.flow_types.specs.Bounds.{IsBound}
-use Rattle.flow_types.specs.Feasible.{IsFeasible}
+use Rattle.flow_types.specs.Feasible.{IsFeasible, KeepsTurn}
 use Rattle.flow_types.specs.Routes.{IsChain}
 use Rattle.flow_types.specs.Valid.{IsFlight}
-use Rattle.flow_types.proofs.WorkedCases.{airport_within, beside, beside_is, day_with, places_with, plan_with, sector_within, there, there_is, trip_at, within}
-use Rattle.flow_types.proofs.WorkedScenario.{all_two, is_scenario, one_way_on, route_is}
+use Rattle.flow_types.specs.Limits.{most_capacity}
+use Rattle.exact_sums.proofs.ShortLists.{all_two}
+use Rattle.worked_days.specs.Days.{beside, places_with, plan_with, there, trip_at, two_flights}
+use Rattle.worked_days.proofs.WorkedDay.{AreEnds, beside_is, feasible_is, one_way_on, route_is, there_is, two_flights-valid}
 use Rattle.chain_plan.specs.Chains.{AreChains, HasEarliest, IsDayOfChains, IsLeastPair, is_linear}
 use Rattle.chain_plan.proofs.BoundFacts.{none_feasible, pairs_below}
 use Rattle.flow_cli.specs.declared.status.Status.TheVariants.{Done, Infeasible, OpenGap}
 use Rattle.flow_cli.specs.Planning.{IsPlannedDay}
 use Rattle.flow_cli.specs.Texts.{report_text}
 use Rattle.flow_cli.specs.Words.{Judged, Planned, asked}
-
--- the day of two flights, of which so many may leave in a period
-abbrev pub two_flights : ℕ → Parts
-two_flights leave = day_with (places_with leave 9 9) beside []
 
 abbrev pub on_time : List (List Stop)
 on_time = plan_with (trip_at 0 2)
@@ -43,23 +38,23 @@ abbrev infeasible_text : List ℕ
 infeasible_text = codes "status,infeasible\ncost,none\nbound,none\nnodes,1\n"
 
 -- Both keep the schedule.
-report_of_optimal : report_text (two_flights 2) (Some on_time) (AtLeast (pos 0)) 1 ≡ optimal_text
+report_of_optimal : report_text (two_flights 2 9 9) (Some on_time) (AtLeast (pos 0)) 1 ≡ optimal_text
 unfolding digits
 report_of_optimal = refl
 
 -- One departs a period late, at a cost of 1: the bound 1 makes that optimal, and lesser ones open.
-report_of_late : report_text (two_flights 1) (Some (plan_with (trip_at 1 3))) (AtLeast (pos 1)) 12
+report_of_late : report_text (two_flights 1 9 9) (Some (plan_with (trip_at 1 3))) (AtLeast (pos 1)) 12
     ≡ codes "status,optimal\ncost,1\nbound,1\nnodes,12\ntrip,F1,ORIG,0,S,0,DEST,2\ntrip,F2,ORIG,1,S,1,DEST,3\n"
 unfolding digits
 report_of_late = refl
 
-report_of_open : report_text (two_flights 1) (Some (plan_with (trip_at 1 3))) (AtLeast (negsuc 7)) 1
+report_of_open : report_text (two_flights 1 9 9) (Some (plan_with (trip_at 1 3))) (AtLeast (negsuc 7)) 1
     ≡ codes "status,open\ncost,1\nbound,-8\nnodes,1\ntrip,F1,ORIG,0,S,0,DEST,2\ntrip,F2,ORIG,1,S,1,DEST,3\n"
 unfolding digits
 report_of_open = refl
 
 -- No plan was found; no plan exists.
-report_of_none_found : report_text (two_flights 1) None (AtLeast (pos 0)) 1 ≡ none_found_text
+report_of_none_found : report_text (two_flights 1 9 9) None (AtLeast (pos 0)) 1 ≡ none_found_text
 unfolding digits
 report_of_none_found = refl
 
@@ -103,17 +98,9 @@ an_option_for_a_plan : asked (codes "judge" ∷ codes "day.csv" ∷ codes "-" �
 an_option_for_a_plan = refl
 
 -- The plan of the earliest trips keeps every rule where two may leave in a period.
-pub keeps : IsFeasible (two_flights 2) on_time
+pub keeps : IsFeasible (two_flights 2 9 9) on_time
 keeps =
-    let places = (two_flights 2).places in
-    let flights = (two_flights 2).flights in
-    record {
-      trips = (there_is, (beside_is 0 2 (omega arith) (omega arith) (omega arith), tt));
-      turns = λ k d less. absurd (omega (arith, less));
-      departures = λ k t is period. within 3 8 (departures_at flights on_time) (capacity_of places kind.Dep) refl k t (airport_within places k is) period;
-      arrivals = λ k t is period. within 3 8 (arrivals_at flights on_time) (capacity_of places kind.Arr) refl k t (airport_within places k is) period;
-      sectors = λ k t is period. within 3 8 (occupancy_at flights on_time) (capacity_of places kind.Sector) refl k t (sector_within places k is) period;
-    }
+    feasible_is (two_flights 2 9 9) on_time (there_is, (beside_is 0 2 (omega arith) (omega arith) (omega arith), tt)) (All-nil (KeepsTurn on_time)) refl refl refl
 
 -- The least pair of each flight costs nothing, so no plan costs less.
 least_of : (name : List ℕ) → IsLeastPair 8 [] (record there { name = name }) (pos 0)
@@ -125,30 +112,30 @@ least_of name = record {
 has_of : (name : List ℕ) → HasEarliest 8 (record there { name = name })
 has_of name = omega arith
 
-both_have : All (HasEarliest 8) (two_flights 2).flights
+both_have : All (HasEarliest 8) (two_flights 2 9 9).flights
 both_have = all_two (HasEarliest 8) there beside (has_of (codes "F1")) (has_of (codes "F2"))
 
-both_least : AllZip (IsLeastPair 8 []) (two_flights 2).flights (pos 0 ∷ pos 0 ∷ [])
+both_least : AllZip (IsLeastPair 8 []) (two_flights 2 9 9).flights (pos 0 ∷ pos 0 ∷ [])
 both_least = (least_of (codes "F1"), (least_of (codes "F2"), tt))
 
-are_chains : AreChains (two_flights 2).flights
+are_chains : AreChains (two_flights 2 9 9).flights
 are_chains = all_two (λ (flight : Flight). IsChain flight.legs) there beside one_way_on one_way_on
 
-pub is_day_of_chains : IsDayOfChains (two_flights 2)
+pub is_day_of_chains : IsDayOfChains (two_flights 2 9 9)
 is_day_of_chains = record {
   apart = refl;
   chains = are_chains;
   linear = all_two (λ (flight : Flight). IsTrue (is_linear flight.cost)) there beside refl refl;
 }
 
-module _ (leave : ℕ) (few : leave ≤ 1000000) where
-  no_cheaper : IsBound (two_flights leave) (AtLeast (pos 0))
+module _ (leave : ℕ) (few : leave ≤ most_capacity) where
+  no_cheaper : IsBound (two_flights leave 9 9) (AtLeast (pos 0))
   no_cheaper plan feasible =
-      pairs_below (places_with leave 9 9) [] 8 (two_flights leave).flights plan (pos 0 ∷ pos 0 ∷ [])
-      (is_scenario leave 9 9 few (omega arith) (omega arith)).flights are_chains feasible.trips both_least
+      pairs_below (places_with leave 9 9) [] 8 (two_flights leave 9 9).flights plan (pos 0 ∷ pos 0 ∷ [])
+      (two_flights-valid leave 9 9 few (omega arith) (omega arith)).flights are_chains feasible.trips both_least
 
 -- So the day is planned as is printed: the plan is optimal.
-pub optimal_day : IsPlannedDay (two_flights 2) (record { text = optimal_text; status = Done })
+pub optimal_day : IsPlannedDay (two_flights 2 9 9) (record { text = optimal_text; status = Done })
 optimal_day = record {
   plan = Some on_time;
   bound = AtLeast (pos 0);
@@ -161,7 +148,7 @@ optimal_day = record {
 }
 
 -- Where one may leave in a period, both can't keep the schedule: the answer is open, without a plan.
-open_day : IsPlannedDay (two_flights 1) (record { text = none_found_text; status = OpenGap })
+open_day : IsPlannedDay (two_flights 1 9 9) (record { text = none_found_text; status = OpenGap })
 open_day = record {
   plan = None;
   bound = AtLeast (pos 0);
@@ -178,7 +165,10 @@ abbrev too_far : Flight
 too_far = record there { sa = 1; mg = 0; md = 0 }
 
 abbrev day_too_far : Parts
-day_too_far = record (two_flights 1) { flights = too_far ∷ [] }
+day_too_far = record (two_flights 1 9 9) { flights = too_far ∷ [] }
+
+outward : AreEnds 0 1
+outward = record { origin = omega arith; destination = omega arith; apart = λ is. omega (arith, is) }
 
 is_flight : IsFlight 8 (places_with 1 9 9) [] too_far
 is_flight = record {
@@ -190,7 +180,7 @@ is_flight = record {
   origin = refl;
   destination = refl;
   apart = λ is. omega (arith, is);
-  route = route_is 1 9 9 (omega arith) (omega arith) (omega arith) (codes "F1") refl;
+  route = route_is 1 9 9 (omega arith) (omega arith) (omega arith) (codes "F1") refl 0 1 0 outward (omega arith);
   cost = refl;
 }
 

@@ -10,9 +10,10 @@ use Rattle.flow_outside.specs.Held.{Held}
 use Rattle.flow_outside.specs.Seen.{FilesSeen, SinkSeen}
 use Rattle.flow_types.specs.declared.fault.Fault.{Fault}
 use Rattle.flow_types.specs.declared.fault.Cause.TheVariants.{BackLeg}
+use Rattle.flow_types.specs.declared.place.CapKind.TheVariants.{Dep}
+use Rattle.flow_types.specs.Limits.{most_text_bytes}
 use Rattle.plan_rules.proofs.FirstRules.{first_rule}
-use Rattle.plan_rules.specs.FirstBroken.{first_broken}
-use Rattle.plan_rules.specs.declared.broken.Broken.TheVariants.{Departures}
+use Rattle.plan_rules.specs.FirstBroken.{first_broken, over}
 use Rattle.plan_text.specs.Plans.{plan_of}
 use Rattle.scenario_reader.specs.Reading.{scenario_of}
 use Rattle.flow_cli.specs.declared.status.Status.{Status}
@@ -21,15 +22,16 @@ use Rattle.flow_cli.specs.Answer.{Ends}
 use Rattle.flow_cli.specs.Faults.{fault_text, too_long_text}
 use Rattle.flow_cli.specs.Judging.{IsVerdict}
 use Rattle.flow_cli.specs.Outside.{change}
-use Rattle.flow_cli.specs.Reading.{IsTextOf, most_bytes}
+use Rattle.flow_cli.specs.Reading.{IsTextOf}
 use Rattle.flow_cli.specs.Words.{usage_text}
-use Rattle.flow_cli.proofs.WorkedCases.{is_day_of_chains, keeps, on_time, optimal_day, optimal_text, two_flights}
+use Rattle.worked_days.specs.Days.{two_flights}
+use Rattle.flow_cli.proofs.WorkedCases.{is_day_of_chains, keeps, on_time, optimal_day, optimal_text}
 
 one_value : {A : Type 0} {x y : A} → Some x ≡ Some y → x ≡ y
 one_value is = cc
 
 -- what is held under a name is its text
-text_held : (held : Held) (name text : List ℕ) → get held name ≡ Some text → length text ≤ most_bytes → IsTextOf (Some held) name text
+text_held : (held : Held) (name text : List ℕ) → get held name ≡ Some text → length text ≤ most_text_bytes → IsTextOf (Some held) name text
 text_held held name text holds few = record {
   present = subst IsSome (sym holds) refl;
   source = λ told is. one_value (sym holds ∙ is);
@@ -55,7 +57,7 @@ plan_words = codes "plan" ∷ day_name ∷ []
 abbrev judge_words : List (List ℕ)
 judge_words = codes "judge" ∷ day_name ∷ plan_name ∷ []
 
-module _ (text plan : List ℕ) (few : length text ≤ most_bytes) (few_of_plan : length plan ≤ most_bytes) where
+module _ (text plan : List ℕ) (few : length text ≤ most_text_bytes) (few_of_plan : length plan ≤ most_text_bytes) where
   abbrev files : Held
   files = from_entries ((day_name, text) ∷ (plan_name, plan) ∷ [])
 
@@ -66,11 +68,11 @@ module _ (text plan : List ℕ) (few : length text ≤ most_bytes) (few_of_plan 
   plan_text = text_held files plan_name plan (get-from_entries nat_list_cmp_total ((day_name, text) ∷ (plan_name, plan) ∷ []) plan_name) few_of_plan
 
   -- a day of chains is planned
-  run_is_planned : scenario_of text ≡ Ok (two_flights 2) → EndsOn files plan_words optimal_text Done
+  run_is_planned : scenario_of text ≡ Ok (two_flights 2 9 9) → EndsOn files plan_words optimal_text Done
   run_is_planned read = inl (record {
     answer = record { text = optimal_text; status = Done };
     of_words = inl (record {
-      parts = two_flights 2;
+      parts = two_flights 2 9 9;
       day = record { bytes = text; text = day_text; read = read };
       chains = is_day_of_chains;
       planned = optimal_day;
@@ -110,13 +112,13 @@ module _ (text plan : List ℕ) (few : length text ≤ most_bytes) (few_of_plan 
   })
 
   -- a plan that keeps every rule, and the same plan where one may leave in a period
-  module _ (leave : ℕ) (read : scenario_of text ≡ Ok (two_flights leave)) where
-    judged : (printed : List ℕ) (status : Status) → plan_of (two_flights leave) plan ≡ Ok on_time → IsVerdict (two_flights leave) on_time (record { text = printed; status = status })
+  module _ (leave : ℕ) (read : scenario_of text ≡ Ok (two_flights leave 9 9)) where
+    judged : (printed : List ℕ) (status : Status) → plan_of (two_flights leave 9 9) plan ≡ Ok on_time → IsVerdict (two_flights leave 9 9) on_time (record { text = printed; status = status })
         → EndsOn files judge_words printed status
     judged printed status plan_read verdict = inl (record {
       answer = record { text = printed; status = status };
       of_words = inl (record {
-        parts = two_flights leave;
+        parts = two_flights leave 9 9;
         day = record { bytes = text; text = day_text; read = read };
         judged = inl (record { bytes = plan; source = plan_text; plan = on_time; read = plan_read; verdict = verdict });
       });
@@ -126,32 +128,32 @@ module _ (text plan : List ℕ) (few : length text ≤ most_bytes) (few_of_plan 
       unfailed = refl;
     })
 
-  run_is_kept : scenario_of text ≡ Ok (two_flights 2) → plan_of (two_flights 2) plan ≡ Ok on_time
+  run_is_kept : scenario_of text ≡ Ok (two_flights 2 9 9) → plan_of (two_flights 2 9 9) plan ≡ Ok on_time
       → EndsOn files judge_words (codes "keeps,0\n") Done
   unfolding digits
   run_is_kept read plan_read = judged 2 read (codes "keeps,0\n") Done plan_read (inl (record { feasible = keeps; ends = refl; text = refl }))
 
-  first_is_departures : first_broken (two_flights 1) on_time ≡ Some (Departures 0 0 2 1)
+  first_is_departures : first_broken (two_flights 1 9 9) on_time ≡ Some (over Dep 0 0 2 1)
   first_is_departures = refl
 
-  run_is_broken : scenario_of text ≡ Ok (two_flights 1) → plan_of (two_flights 1) plan ≡ Ok on_time
+  run_is_broken : scenario_of text ≡ Ok (two_flights 1 9 9) → plan_of (two_flights 1 9 9) plan ≡ Ok on_time
       → EndsOn files judge_words (codes "broken,departures,ORIG,0,2,1\n") Broken
   unfolding digits
   run_is_broken read plan_read = judged 1 read (codes "broken,departures,ORIG,0,2,1\n") Broken plan_read (inr (record {
-    rule = Departures 0 0 2 1;
+    rule = over Dep 0 0 2 1;
     first = first_is_departures;
-    broken = first_rule (two_flights 1) on_time (Departures 0 0 2 1) first_is_departures;
+    broken = first_rule (two_flights 1 9 9) on_time (over Dep 0 0 2 1) first_is_departures;
     ends = refl;
     text = refl;
   }))
 
   -- a text that is no plan of the day
-  no_plan_of : scenario_of text ≡ Ok (two_flights 1) → plan_of (two_flights 1) plan ≡ Err fault
+  no_plan_of : scenario_of text ≡ Ok (two_flights 1 9 9) → plan_of (two_flights 1 9 9) plan ≡ Err fault
       → EndsOn files judge_words (codes "refused,11,4,BackLeg\n") BadPlan
   no_plan_of read plan_read = inl (record {
     answer = record { text = codes "refused,11,4,BackLeg\n"; status = BadPlan };
     of_words = inl (record {
-      parts = two_flights 1;
+      parts = two_flights 1 9 9;
       day = record { bytes = text; text = day_text; read = read };
       judged = inr (inl (record { bytes = plan; source = plan_text; fault = fault; read = plan_read; ends = refl; text = sym fault_is_printed }));
     });
@@ -186,6 +188,6 @@ run_is_usage = inl (record {
 })
 
 -- A text of a byte too many is refused by its size.
-size_is_printed : too_long_text (most_bytes + 1) ≡ codes "refused,toolong,67108865\n"
+size_is_printed : too_long_text (most_text_bytes + 1) ≡ codes "refused,toolong,67108865\n"
 unfolding digits
 size_is_printed = refl

@@ -1,26 +1,16 @@
 -- What is printed of each broken rule of a flight and its aircraft's flight back, byte by byte.
 use Rattle.std.specs.Prelude.{codes}
-use Rattle.std.proofs.Common.{◌≡◌, ℕ, List, [], ◌∷◌, negsuc, refl}
+use Rattle.std.proofs.Common.{◌≡◌, ℕ, List, negsuc, refl}
 use Rattle.std.specs.Fmt.{digits}
-use Rattle.flow_types.specs.declared.flight.Flight.{Flight}
-use Rattle.flow_types.specs.declared.parts.Parts.{Parts}
-use Rattle.flow_types.specs.declared.plan.Stop.{Stop}
+use Rattle.flow_types.specs.declared.place.CapKind.TheVariants as kind
 use Rattle.plan_rules.specs.declared.broken.Broken.{Broken}
 use Rattle.plan_rules.specs.declared.broken.Broken.TheVariants as broken
-use Rattle.flow_types.proofs.WorkedCases.{day_with, places_with, there, trip_at}
+use Rattle.plan_rules.specs.FirstBroken.{over}
+use Rattle.worked_days.specs.Days.{plan_with, there_and_back, trip_at}
 use Rattle.flow_cli.specs.Verdicts.{broken_text, keeps_text}
 
-abbrev back : Flight
-back = record there { name = codes "G1"; from = 1; to = 0; sd = 3; sa = 5; nodes = 1 ∷ 2 ∷ 0 ∷ [] }
-
-abbrev there_and_back : Parts
-there_and_back = day_with (places_with 1 9 9) back (record { first = 0; second = 1; turnaround = 2 } ∷ [])
-
-abbrev round_trip : List (List Stop)
-round_trip = trip_at 0 2 ∷ trip_at 3 5 ∷ []
-
 abbrev line_of : Broken → List ℕ
-line_of rule = broken_text there_and_back round_trip rule
+line_of rule = broken_text (there_and_back 1 2) (plan_with (trip_at 3 5)) rule
 
 keeps_line : keeps_text (negsuc 4) ≡ codes "keeps,-5\n"
 unfolding digits
@@ -51,14 +41,14 @@ turn_line : line_of (broken.Turn 0 2 3) ≡ codes "broken,turn,F1,G1,2,3,2\n"
 unfolding digits
 turn_line = refl
 
-departures_line : line_of (broken.Departures 0 7 2 1) ≡ codes "broken,departures,ORIG,7,2,1\n"
+departures_line : line_of (over kind.Dep 0 7 2 1) ≡ codes "broken,departures,ORIG,7,2,1\n"
 unfolding digits
 departures_line = refl
 
-arrivals_line : line_of (broken.Arrivals 1 7 2 1) ≡ codes "broken,arrivals,DEST,7,2,1\n"
+arrivals_line : line_of (over kind.Arr 1 7 2 1) ≡ codes "broken,arrivals,DEST,7,2,1\n"
 unfolding digits
 arrivals_line = refl
 
-sectors_line : line_of (broken.Sectors 2 7 10 9) ≡ codes "broken,sectors,S,7,10,9\n"
+sectors_line : line_of (over kind.Sector 2 7 10 9) ≡ codes "broken,sectors,S,7,10,9\n"
 unfolding digits
 sectors_line = refl

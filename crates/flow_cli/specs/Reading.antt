@@ -5,14 +5,11 @@ use Rattle.flow_outside.specs.Held.{Held, Told, HasName}
 use Rattle.flow_outside.specs.Seen.{FilesSeen}
 use Rattle.flow_types.specs.declared.fault.Fault.{Fault}
 use Rattle.flow_types.specs.declared.parts.Parts.{Parts}
+use Rattle.flow_types.specs.Limits.{most_text_bytes}
 use Rattle.scenario_reader.specs.Reading.{scenario_of}
 use Rattle.flow_cli.specs.declared.status.Status.TheVariants.{BadScenario, ReadFault, TooLong}
 use Rattle.flow_cli.specs.Faults.{fault_text, too_long_text}
 use Rattle.flow_cli.specs.Outside.{Change, Printed}
-
--- the most bytes of a text
-abbrev pub most_bytes : ℕ
-most_bytes = 67108864
 
 -- only an answer that a read failed raises the count of faults
 abbrev pub IsQuiet : Change FilesSeen → Printed → Type 0
@@ -22,7 +19,7 @@ IsQuiet files answer = (answer.status ≡ ReadFault → ⊥) → files.now.fault
 pub record IsTextOf (held : Option Held) (name bytes : List ℕ) : Type 0 where
   pub present : HasName held name
   pub source : Told held name (λ told. bytes ≡ told)
-  pub within : length bytes ≤ most_bytes
+  pub within : length bytes ≤ most_text_bytes
 
 -- the name is there and holds more bytes than a text may have
 pub record IsTooMany (held : Option Held) (name : List ℕ) (answer : Printed) : Type 0 where
@@ -30,7 +27,7 @@ pub record IsTooMany (held : Option Held) (name : List ℕ) (answer : Printed) :
   pub ends : answer.status ≡ TooLong
   pub size : ℕ
   pub source : Told held name (λ told. size ≡ length told)
-  pub above : most_bytes < size
+  pub above : most_text_bytes < size
   pub text : answer.text ≡ too_long_text size
 
 -- the name isn't there, or a call failed

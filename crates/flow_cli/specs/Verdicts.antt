@@ -9,7 +9,8 @@ use Rattle.flow_types.specs.Trips.{place_at}
 use Rattle.plan_rules.specs.BrokenRules.{stop_at}
 use Rattle.plan_rules.specs.declared.broken.Broken.{Broken}
 use Rattle.plan_rules.specs.declared.broken.Broken.TheVariants as broken
-use Rattle.plan_text.specs.Lines.{name_at}
+use Rattle.plan_rules.specs.declared.broken.Overload.{Overload}
+use Rattle.plan_text.specs.Lines.{place_name}
 use Rattle.flow_cli.specs.Lines.{field_text, line_text}
 
 -- the cost of a plan that keeps every rule
@@ -26,7 +27,7 @@ abbrev pub flight_field : Parts → ℕ → List ℕ
 flight_field parts position = field_text (flight_name (slice_get parts.flights position))
 
 abbrev pub place_field : Parts → ℕ → List ℕ
-place_field parts position = field_text (name_at (slice_get parts.places position))
+place_field parts position = field_text (place_name (slice_get parts.places position))
 
 -- where a stop of a flight is, the place 0 where there is no flight or no stop
 abbrev pub place_of_stop : Option Flight → Option Stop → ℕ
@@ -56,9 +57,10 @@ turn_fields parts (Some connection) arrives leaves =
     ++ (field_text (decimal arrives) ++ (field_text (decimal leaves) ++ field_text (decimal connection.turnaround))))
 
 -- the fields of a capacity that is passed
-abbrev pub over_fields : Parts → ℕ → ℕ → ℕ → ℕ → List ℕ
-over_fields parts place period load capacity =
-    place_field parts place ++ (field_text (decimal period) ++ (field_text (decimal load) ++ field_text (decimal capacity)))
+abbrev pub over_fields : Parts → Overload → List ℕ
+over_fields parts over =
+    place_field parts over.place
+    ++ (field_text (decimal over.period) ++ (field_text (decimal over.load) ++ field_text (decimal over.capacity)))
 
 -- the fields that say which rule is broken, and where
 abbrev pub broken_fields : Parts → List (List Stop) → Broken → List ℕ
@@ -75,12 +77,12 @@ broken_fields parts plan (broken.Least flight stop least) =
 broken_fields parts plan (broken.Ending flight) = field_text (codes "ending") ++ flight_field parts flight
 broken_fields parts plan (broken.Turn connection arrives leaves) =
     field_text (codes "turn") ++ turn_fields parts (slice_get parts.connections connection) arrives leaves
-broken_fields parts plan (broken.Departures place period load capacity) =
-    field_text (codes "departures") ++ over_fields parts place period load capacity
-broken_fields parts plan (broken.Arrivals place period load capacity) =
-    field_text (codes "arrivals") ++ over_fields parts place period load capacity
-broken_fields parts plan (broken.Sectors place period load capacity) =
-    field_text (codes "sectors") ++ over_fields parts place period load capacity
+broken_fields parts plan (broken.Departures over) =
+    field_text (codes "departures") ++ over_fields parts over
+broken_fields parts plan (broken.Arrivals over) =
+    field_text (codes "arrivals") ++ over_fields parts over
+broken_fields parts plan (broken.Sectors over) =
+    field_text (codes "sectors") ++ over_fields parts over
 
 -- the line of a broken rule
 abbrev pub broken_text : Parts → List (List Stop) → Broken → List ℕ

@@ -5,14 +5,7 @@ ghost use Rattle.flow_cli.specs.Lines.{field_text, line_text};
 
 use flow_types::OutOfMemory;
 use std::alloc::Global;
-
-/// Adds bytes at the end.
-pub fn put(out: &mut Vec<u8>, bytes: &[u8]) -> Result<(), OutOfMemory>
-    ensures { OnOk result (out.new.items ≡ out.old.items ++ bytes.now) }
-{
-    out.extend_from_slice(bytes)?;
-    Ok(())
-}
+use text_records::put;
 
 /// Adds a line: what it says, and its word.
 pub fn put_line(out: &mut Vec<u8>, label: &[u8], word: &[u8]) -> Result<(), OutOfMemory>

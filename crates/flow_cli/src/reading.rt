@@ -10,12 +10,9 @@ use crate::answer::{Answer, EarlyEnd};
 use crate::faults::{fault_line, too_long_line};
 use crate::status::Status;
 use flow_outside::{Files, LoadFault, load};
-use flow_types::Scenario;
+use flow_types::{MOST_TEXT_BYTES, Scenario};
 use scenario_reader::{Refusal, read_scenario};
 use std::alloc::Global;
-
-// The most bytes of a text: 64 MiB.
-const MOST_BYTES: u64 = 67_108_864;
 
 /// The text under the name, or the answer that says why it isn't read.
 pub fn text_of<F: Files>(alloc: Global, files: &mut F, name: &str) -> Result<Vec<u8>, EarlyEnd>
@@ -25,7 +22,7 @@ pub fn text_of<F: Files>(alloc: Global, files: &mut F, name: &str) -> Result<Vec
     ensures unfailed { OnOk result ((F.seen files.new).faults ≡ (F.seen files.old).faults) }
     ensures kept { AreKept (F.seen files.old) (F.seen files.new) }
 {
-    match load(alloc, files, name, MOST_BYTES) {
+    match load(alloc, files, name, MOST_TEXT_BYTES) {
         Ok(text) => Ok(text),
         Err(LoadFault::Read) => Err(EarlyEnd::Answered(Answer::of(
             alloc,

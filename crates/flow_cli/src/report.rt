@@ -1,19 +1,20 @@
 //! What is printed of a day that was planned.
 ghost use Rattle.std.specs.Prelude.{◌≡◌, ◌++◌, Option, None, Some, IfOk, IfSome, OnOk, codes, option_map};
 ghost use Rattle.std.specs.Fmt.{decimal};
-ghost use Rattle.chain_plan.specs.Outcome.{IsCosted, plan_of};
+ghost use Rattle.chain_plan.specs.Outcome.{IsCosted, plan_kept};
 ghost use Rattle.chain_plan.specs.declared.outcome.Costed.{Costed};
 ghost use Rattle.flow_types.specs.Scenario.{parts_of};
 ghost use Rattle.flow_cli.specs.Lines.{line_text};
 ghost use Rattle.flow_cli.specs.Status.{status_of};
 ghost use Rattle.flow_cli.specs.Texts.{bound_word, claim_text, cost_word, report_text, status_word, trips_text};
 
-use crate::lines::{put, put_line};
+use crate::lines::put_line;
 use crate::status::Status;
 use chain_plan::Outcome;
 use flow_types::{Bound, OutOfMemory, Plan, Scenario, Trip};
 use plan_text::trip_line;
 use std::alloc::Global;
+use text_records::put;
 
 /// The status of a plan's cost, if there is one, beside the bound.
 pub fn status_of(cost: Option<i64>, bound: Bound) -> Status
@@ -129,7 +130,7 @@ pub fn plan_report(
     nodes: u64,
 ) -> Result<Vec<u8>, OutOfMemory>
     requires { IfSome outcome.now.kept (λ kept. IsCosted (parts_of s.now) kept.plan kept.cost) }
-    ensures { IfOk result (λ text. text.items ≡ report_text (parts_of s.now) (plan_of outcome.now) outcome.now.bound nodes) }
+    ensures { IfOk result (λ text. text.items ≡ report_text (parts_of s.now) (plan_kept outcome.now) outcome.now.bound nodes) }
 {
     let mut out = Vec::new(alloc);
     match &outcome.kept {

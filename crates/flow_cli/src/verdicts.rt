@@ -2,16 +2,16 @@
 ghost use Rattle.std.specs.Prelude.{◌≡◌, ◌++◌, [], Some, IfOk, OnOk, codes, slice_get};
 ghost use Rattle.std.specs.Fmt.{decimal};
 ghost use Rattle.flow_types.specs.Scenario.{parts_of};
-ghost use Rattle.flow_types.specs.Trips.{place_at};
 ghost use Rattle.plan_rules.specs.BrokenRules.{stop_at};
-ghost use Rattle.plan_text.specs.Lines.{name_at};
+ghost use Rattle.plan_text.specs.Lines.{place_name};
 ghost use Rattle.flow_cli.specs.Lines.{field_text};
 ghost use Rattle.flow_cli.specs.Verdicts.{broken_fields, broken_text, flight_field, flight_name, keeps_text, over_fields, place_field, place_of_stop, time_of_stop, turn_fields};
 
-use crate::lines::{put, put_field, put_line, put_number};
-use flow_types::{Connection, Flight, OutOfMemory, Plan, Scenario, Stop};
-use plan_rules::Broken;
+use crate::lines::{put_field, put_line, put_number};
+use flow_types::{Connection, OutOfMemory, Plan, Scenario, Stop, place_at};
+use plan_rules::{Broken, Overload};
 use std::alloc::Global;
+use text_records::put;
 
 /// The line of a plan that keeps every rule, at its cost.
 pub fn keeps_line(alloc: Global, cost: i64) -> Result<Vec<u8>, OutOfMemory>
@@ -49,11 +49,7 @@ fn put_broken(
     ensures { OnOk result (out.new.items ≡ out.old.items ++ broken_fields (parts_of s.now) plan.now broken) }
 {
     match broken {
-        Broken::Trips { got, need } => {
-            put_field(out, b"trips")?;
-            put_number(alloc, out, got)?;
-            put_number(alloc, out, u64::from(need))
-        }
+        Broken::Trips { got, need } => put_trip_count(alloc, out, got, need),
         Broken::Start { flight } => put_rule(out, b"start", s, flight),
         Broken::Window {
             flight,
@@ -74,49 +70,19 @@ fn put_broken(
             arrives,
             leaves,
         } => put_turn(alloc, out, s, connection, arrives, leaves),
-        Broken::Departures {
-            place,
-            period,
-            load,
-            capacity,
-        } => {
-            let over = Over {
-                place,
-                period,
-                load,
-                capacity,
-            };
-            put_over(alloc, out, s, b"departures", over)
-        }
-        Broken::Arrivals {
-            place,
-            period,
-            load,
-            capacity,
-        } => {
-            let over = Over {
-                place,
-                period,
-                load,
-                capacity,
-            };
-            put_over(alloc, out, s, b"arrivals", over)
-        }
-        Broken::Sectors {
-            place,
-            period,
-            load,
-            capacity,
-        } => {
-            let over = Over {
-                place,
-                period,
-                load,
-                capacity,
-            };
-            put_over(alloc, out, s, b"sectors", over)
-        }
+        Broken::Departures(over) => put_over(alloc, out, s, b"departures", over),
+        Broken::Arrivals(over) => put_over(alloc, out, s, b"arrivals", over),
+        Broken::Sectors(over) => put_over(alloc, out, s, b"sectors", over),
     }
+}
+
+// Adds how many trips there are, and how many flights.
+fn put_trip_count(alloc: Global, out: &mut Vec<u8>, got: u64, need: u32) -> Result<(), OutOfMemory>
+    ensures { OnOk result (out.new.items ≡ out.old.items ++ (field_text (codes "trips") ++ (field_text (decimal got) ++ field_text (decimal need)))) }
+{
+    put_field(out, b"trips")?;
+    put_number(alloc, out, got)?;
+    put_number(alloc, out, u64::from(need))
 }
 
 // Adds the word for a rule, and the flight whose trip breaks it.
@@ -216,24 +182,15 @@ fn put_times(
     put_number(alloc, out, u64::from(connection.turnaround))
 }
 
-// A capacity that is passed.
-#[derive(Clone, Copy)]
-struct Over {
-    place: u32,
-    period: u16,
-    load: u32,
-    capacity: u32,
-}
-
 // Adds the word for a rule, and the capacity that is passed.
 fn put_over(
     alloc: Global,
     out: &mut Vec<u8>,
     s: &Scenario,
     rule: &[u8],
-    over: Over,
+    over: Overload,
 ) -> Result<(), OutOfMemory>
-    ensures { OnOk result (out.new.items ≡ out.old.items ++ (field_text rule.now ++ over_fields (parts_of s.now) over.place over.period over.load over.capacity)) }
+    ensures { OnOk result (out.new.items ≡ out.old.items ++ (field_text rule.now ++ over_fields (parts_of s.now) over)) }
 {
     put_field(out, rule)?;
     put_place(out, s, over.place)?;
@@ -287,7 +244,7 @@ fn flight_name(s: &Scenario, position: u32) -> &[u8]
 
 // The name of the place at this position, empty where there is none.
 fn place_name(s: &Scenario, position: u32) -> &[u8]
-    ensures { result.now ≡ name_at (slice_get (parts_of s.now).places position) }
+    ensures { result.now ≡ place_name (slice_get (parts_of s.now).places position) }
 {
     match s.places().get(position as usize) {
         None => b"",
@@ -313,18 +270,6 @@ fn place_of_stop(s: &Scenario, flight: u32, stop: Option<Stop>) -> u32
         (Some(flight), Some(stop)) => place_at(flight, stop.node),
         _ => 0,
     }
-}
-
-// The place of a node of a flight, 0 where there is none.
-fn place_at(flight: &Flight, node: u16) -> u32
-    ensures { result ≡ place_at flight.now node }
-{
-    flight
-        .nodes
-        .items()
-        .get(node as usize)
-        .copied()
-        .unwrap_or(0)
 }
 
 // The period of the stop, 0 where there is none.

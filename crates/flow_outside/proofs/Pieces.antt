@@ -1,7 +1,7 @@
 -- A text, piece by piece.
-use Rattle.std.proofs.Common.{◌≡◌, ℕ, ◌+◌, ◌≤◌, List, ◌++◌, length, take, drop, Option, None, Some, refl, sym, ap, ◌∙◌, arith, append_assoc, length-append, length-drop, length-take-le, take-add, take_at}
+use Rattle.std.proofs.Common.{◌≡◌, ℕ, ◌+◌, ◌-◌, ◌≤◌, List, ◌++◌, length, take, drop, Option, None, Some, refl, sym, ap, ◌∙◌, arith, append_assoc, length-append, length-drop, length-take-le, take-add, take_at}
 use Rattle.std.proofs.Math.Seq.{take-append-add}
-use Rattle.std.proofs.lemmas.List.{take-append-le}
+use Rattle.std.proofs.lemmas.List.{take-append-le, take_rest}
 use borrow.Rule.Slice.PartMut.{put_mid, post_of}
 use Rattle.flow_outside.specs.Held.{ReadsPart}
 use Rattle.flow_outside.specs.Written.{appended}
@@ -25,3 +25,11 @@ pub appended-front : (written : Option (List ℕ)) (bytes : List ℕ) (a n : ℕ
 appended-front None bytes a n = refl
 appended-front (Some written) bytes a n =
     ap Some (append_assoc written (take a bytes) (take n (drop a bytes)) ∙ ap (λ xs. written ++ xs) (sym (take-add a n bytes)))
+
+-- what was appended so far is a front of the bytes, and the next of what is left makes a longer one
+pub front_more : (before mid now : Option (List ℕ)) (bytes : List ℕ) (put count : ℕ) → mid ≡ appended before (take put bytes) → now ≡ appended mid (take count (take (length bytes - put) (drop put bytes)))
+    → now ≡ appended before (take (put + count) bytes)
+front_more before mid now bytes put count front next =
+    next
+    ∙ ap (λ (written : Option (List ℕ)). appended written (take count (take (length bytes - put) (drop put bytes)))) front
+    ∙ rw take_rest (appended-front before bytes put count)

@@ -14,6 +14,7 @@ pub struct WriteFault;
 /// Appends all the bytes. `WriteFault` comes only where the output's count of faults rose; a part
 /// from the front of the bytes was then appended, and not all of them. After `Ok` the count stays.
 /// It takes no memory.
+#[tactic(auto, using(crate::proofs::Pieces::front_more))]
 pub fn put_all<S: Sink>(sink: &mut S, bytes: &[u8]) -> Result<(), WriteFault>
     ensures all { OnOk result ((S.seen sink.new).written ≡ appended (S.seen sink.old).written bytes.now) }
     ensures part { OnErr result (AppendsPart (S.seen sink.old).written (S.seen sink.new).written bytes.now) }

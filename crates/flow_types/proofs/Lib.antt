@@ -2,5 +2,3 @@ pub mod CostFacts
 pub mod PairFacts
 pub mod PlaceFacts
 pub mod WordFacts
-pub mod WorkedCases
-pub mod WorkedScenario

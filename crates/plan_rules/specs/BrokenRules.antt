@@ -70,12 +70,12 @@ IsBroken parts plan (Ending number) =
     (last : ℕ) × HasStop parts plan number last (λ flight stop. (stop_at plan number (last + 1) ≡ None) × (stop.node + 1 ≢ length flight.nodes))
 IsBroken parts plan (Turn number arrives leaves) =
     (connection : Connection) × (slice_get parts.connections number ≡ Some connection) × IsTooSoon plan connection arrives leaves
-IsBroken parts plan (Departures place period load capacity) =
-    IsOver parts kind.Dep (departures_at parts.flights plan) place period load capacity
-IsBroken parts plan (Arrivals place period load capacity) =
-    IsOver parts kind.Arr (arrivals_at parts.flights plan) place period load capacity
-IsBroken parts plan (Sectors place period load capacity) =
-    IsOver parts kind.Sector (occupancy_at parts.flights plan) place period load capacity
+IsBroken parts plan (Departures over) =
+    IsOver parts kind.Dep (departures_at parts.flights plan) over.place over.period over.load over.capacity
+IsBroken parts plan (Arrivals over) =
+    IsOver parts kind.Arr (arrivals_at parts.flights plan) over.place over.period over.load over.capacity
+IsBroken parts plan (Sectors over) =
+    IsOver parts kind.Sector (occupancy_at parts.flights plan) over.place over.period over.load over.capacity
 
 -- there are as many trips as flights, and those before the flight of that number are trips
 pub record AreTripsBefore (parts : Parts) (plan : List (List Stop)) (number : ℕ) : Type 0 where
@@ -113,17 +113,17 @@ KeepsBefore parts plan (Ending number) = AreTripsBefore parts plan number × ((n
 KeepsBefore parts plan (Turn number arrives leaves) =
     AreTrips parts.day.periods parts.flights plan
     × ((k : ℕ) (connection : Connection) → k < number → slice_get parts.connections k ≡ Some connection → KeepsTurn plan connection)
-KeepsBefore parts plan (Departures place period load capacity) =
+KeepsBefore parts plan (Departures over) =
     AreTrips parts.day.periods parts.flights plan × All (KeepsTurn plan) parts.connections
-    × KeepsKindBefore parts kind.Dep (departures_at parts.flights plan) place period
-KeepsBefore parts plan (Arrivals place period load capacity) =
+    × KeepsKindBefore parts kind.Dep (departures_at parts.flights plan) over.place over.period
+KeepsBefore parts plan (Arrivals over) =
     AreTrips parts.day.periods parts.flights plan × All (KeepsTurn plan) parts.connections
     × KeepsKind parts kind.Dep (departures_at parts.flights plan)
-    × KeepsKindBefore parts kind.Arr (arrivals_at parts.flights plan) place period
-KeepsBefore parts plan (Sectors place period load capacity) =
+    × KeepsKindBefore parts kind.Arr (arrivals_at parts.flights plan) over.place over.period
+KeepsBefore parts plan (Sectors over) =
     AreTrips parts.day.periods parts.flights plan × All (KeepsTurn plan) parts.connections
     × KeepsKind parts kind.Dep (departures_at parts.flights plan) × KeepsKind parts kind.Arr (arrivals_at parts.flights plan)
-    × KeepsKindBefore parts kind.Sector (occupancy_at parts.flights plan) place period
+    × KeepsKindBefore parts kind.Sector (occupancy_at parts.flights plan) over.place over.period
 
 -- the rule is broken, and it is the first one
 abbrev pub IsFirstBroken : Parts → List (List Stop) → Broken → Type 0

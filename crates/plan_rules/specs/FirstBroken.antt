@@ -101,9 +101,9 @@ departure_in plan flight = option_and_then departure_of (slice_get plan flight)
 
 -- more than the capacity of this kind, by the name of the rule
 abbrev pub over : CapKind → ℕ → ℕ → ℕ → ℕ → Broken
-over kind.Dep place period load capacity = broken.Departures place period load capacity
-over kind.Arr place period load capacity = broken.Arrivals place period load capacity
-over kind.Sector place period load capacity = broken.Sectors place period load capacity
+over kind.Dep place period load capacity = broken.Departures (record { place = place; period = period; load = load; capacity = capacity })
+over kind.Arr place period load capacity = broken.Arrivals (record { place = place; period = period; load = load; capacity = capacity })
+over kind.Sector place period load capacity = broken.Sectors (record { place = place; period = period; load = load; capacity = capacity })
 
 abbrev pub broken_capacity : Parts → CapKind → (ℕ → ℕ → ℕ) → ℕ → ℕ → Option Broken
 broken_capacity parts kind load place t =

@@ -1,5 +1,14 @@
 //! The rules that a plan may break.
 
+/// A place and a period in which there are more flights than may be.
+#[derive(Clone, Copy, Debug, PartialEq, Eq)]
+pub struct Overload {
+    pub place: u32,
+    pub period: u16,
+    pub load: u32,
+    pub capacity: u32,
+}
+
 /// The first rule that a plan breaks. The number of trips comes first. Then come the rules of a
 /// trip, flight by flight: its start; stop by stop its window, then whether a leg leads to the next
 /// stop and in time; its ending. Then come turnarounds by connection, and departures, arrivals and
@@ -46,24 +55,9 @@ pub enum Broken {
         leaves: u16,
     },
     /// More flights depart than may.
-    Departures {
-        place: u32,
-        period: u16,
-        load: u32,
-        capacity: u32,
-    },
+    Departures(Overload),
     /// More flights arrive than may.
-    Arrivals {
-        place: u32,
-        period: u16,
-        load: u32,
-        capacity: u32,
-    },
+    Arrivals(Overload),
     /// More flights are inside the sector than may be.
-    Sectors {
-        place: u32,
-        period: u16,
-        load: u32,
-        capacity: u32,
-    },
+    Sectors(Overload),
 }

@@ -10,7 +10,7 @@ ghost use Rattle.plan_rules.specs.Loads.{AreLoads, IsMadeFor, arrival_at, depart
 
 use crate::costs::cost;
 use crate::trips::check_trips;
-use crate::{Broken, Loads};
+use crate::{Broken, Loads, Overload};
 use flow_types::{CapKind, Connection, Plan, Scenario, Trip, has_kind};
 
 // Adds the plan's trips, one for each flight, to loads that have none.
@@ -93,25 +93,16 @@ fn check_place(loads: &Loads, s: &Scenario, kind: CapKind, place: u32) -> Result
 fn over(kind: CapKind, place: u32, period: u16, load: u32, capacity: u32) -> Broken
     ensures { result ≡ over kind place period load capacity }
 {
+    let over = Overload {
+        place,
+        period,
+        load,
+        capacity,
+    };
     match kind {
-        CapKind::Dep => Broken::Departures {
-            place,
-            period,
-            load,
-            capacity,
-        },
-        CapKind::Arr => Broken::Arrivals {
-            place,
-            period,
-            load,
-            capacity,
-        },
-        CapKind::Sector => Broken::Sectors {
-            place,
-            period,
-            load,
-            capacity,
-        },
+        CapKind::Dep => Broken::Departures(over),
+        CapKind::Arr => Broken::Arrivals(over),
+        CapKind::Sector => Broken::Sectors(over),
     }
 }
 

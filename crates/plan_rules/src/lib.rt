@@ -32,7 +32,7 @@ mod loads;
 mod trip_counts;
 mod trips;
 
-pub use broken::Broken;
+pub use broken::{Broken, Overload};
 pub use costs::cost;
 pub use judging::{Verdict, judge};
 pub use laws::{

@@ -15,7 +15,7 @@ use Rattle.flow_types.specs.Valid.{IsScenario}
 use Rattle.text_records.specs.Rows.{Fields}
 use Rattle.text_records.proofs.LineFacts.{ArePlain, ArePlainLines, IsPlain, line_of, more_fields, plain_decimal, plain_if_name}
 use Rattle.plan_text.specs.Kinds.{kind_of}
-use Rattle.plan_text.specs.Lines.{name_at, stop_text, stops_text, trip_text}
+use Rattle.plan_text.specs.Lines.{place_name, stop_text, stops_text, trip_text}
 use Rattle.plan_text.specs.Plans.{none_read, record_step, records_step, trip_step, trips_of}
 use Rattle.plan_text.specs.Trips.{TripsRead}
 use Rattle.plan_text.specs.declared.kind.Kind.TheVariants as kind
@@ -85,7 +85,7 @@ trips_of_all (trip ∷ plan) = ap (λ (trips : List (List Stop)). trip ∷ trips
 stops_line : (places : List Place) (flight : Flight) (stops : List Stop) → stops_text places flight stops ≡ more_fields (stop_fields places flight stops)
 stops_line places flight [] = refl
 stops_line places flight (stop ∷ stops) =
-    let name = name_at (slice_get places (place_at flight stop.node)) in
+    let name = place_name (slice_get places (place_at flight stop.node)) in
     ap (λ (bytes : List ℕ). stop_text places flight stop ++ bytes) (stops_line places flight stops)
     ∙ ap (λ (bytes : List ℕ). 44 ∷ bytes) (append_assoc name (44 ∷ decimal stop.time) (more_fields (stop_fields places flight stops)))
 
@@ -101,7 +101,7 @@ module _ (parts : Parts) (valid : IsScenario parts) where
   plain_stops k flight there (stop ∷ stops) trips =
       let found = place_there parts.day.periods parts.places parts.tables flight (is_flight parts valid k flight there) stop.node trips.0.node in
       let named : IsPlain found.0.name = plain_if_name found.0.name (is_place parts valid k flight there (place_at flight stop.node) found.0 found.1).name in
-      let name : IsPlain (name_at (slice_get parts.places (place_at flight stop.node))) = subst (λ (place : Option Place). IsPlain (name_at place)) (sym found.1) named in
+      let name : IsPlain (place_name (slice_get parts.places (place_at flight stop.node))) = subst (λ (place : Option Place). IsPlain (place_name place)) (sym found.1) named in
       (name, (plain_decimal stop.time, plain_stops k flight there stops trips.1))
 
   pub plain_trips : (before flights : List Flight) (plan : List (List Stop)) → parts.flights ≡ before ++ flights → AreTrips parts.day.periods flights plan

@@ -16,7 +16,7 @@ use Rattle.flow_types.specs.Trips.{IsOnward, IsTrip, IsWithinHours, latest_of, p
 use Rattle.flow_types.specs.Valid.{IsFlight, IsPlace, IsScenario}
 use Rattle.text_records.specs.Names.{position_of}
 use Rattle.text_records.specs.Rows.{Fields}
-use Rattle.plan_text.specs.Lines.{name_at}
+use Rattle.plan_text.specs.Lines.{place_name}
 use Rattle.plan_text.specs.Names.{flight_names, node_named}
 use Rattle.plan_text.specs.Trips.{TripsRead, flight_in, stop_in, stops_from, trip_of}
 use Rattle.plan_text.proofs.WrittenTrips.{name_back, named_at, node_back, number_in_back}
@@ -95,7 +95,7 @@ module _ (periods : ℕ) (places : List Place) (tables : List _) (flight : Fligh
 
 abbrev pub stop_fields : List Place → Flight → List Stop → Fields
 stop_fields places flight [] = []
-stop_fields places flight (stop ∷ stops) = name_at (slice_get places (place_at flight stop.node)) ∷ decimal stop.time ∷ stop_fields places flight stops
+stop_fields places flight (stop ∷ stops) = place_name (slice_get places (place_at flight stop.node)) ∷ decimal stop.time ∷ stop_fields places flight stops
 
 abbrev pub trip_fields : List Place → Flight → List Stop → Fields
 trip_fields places flight stops = codes "trip" ∷ flight.name ∷ stop_fields places flight stops
@@ -136,12 +136,12 @@ module _ (parts : Parts) (valid : IsScenario parts) (k : ℕ) (flight : Flight) 
     node_there place here =
         rw (named_at (λ (p : Place). p.name) parts.places at place valid.place_names here) (node_back flight.nodes stop.node is_flight.route.different trips.node)
 
-    stop_back : slice_get fields (number - 1) ≡ Some (name_at (slice_get parts.places at)) → slice_get fields (number + 1 - 1) ≡ Some (decimal stop.time)
+    stop_back : slice_get fields (number - 1) ≡ Some (place_name (slice_get parts.places at)) → slice_get fields (number + 1 - 1) ≡ Some (decimal stop.time)
         → stop_in parts flight.nodes fields number ≡ Ok stop
     unfolding stop_in
     stop_back name time =
         let found = place_there parts.day.periods parts.places parts.tables flight is_flight stop.node trips.node in
-        let named : slice_get fields (number - 1) ≡ Some found.0.name = name ∙ ap (λ (p : Option Place). Some (name_at p)) found.1 in
+        let named : slice_get fields (number - 1) ≡ Some found.0.name = name ∙ ap (λ (p : Option Place). Some (place_name p)) found.1 in
         let last : stop.time ≤ parts.day.periods - 1 = let early = trips.time in omega (arith, early) in
         let small : stop.time < 10 ^ 18 = let early = trips.time in let most = valid.day.periods_to in omega (arith, early, most) in
         rw (name_back fields number found.0.name named (is_place at found.0 found.1).name, node_there found.0 found.1, number_in_back fields (number + 1) stop.time (parts.day.periods - 1) time small last) refl
@@ -154,7 +154,7 @@ module _ (parts : Parts) (valid : IsScenario parts) (k : ℕ) (flight : Flight) 
   stops_back [] front (suc most) trips few =
       rw (lt-ltb (length (front ++ [])) (length front + 1) (omega (arith, length-append front []))) refl
   stops_back (stop ∷ stops) front (suc most) trips few =
-      let name = name_at (slice_get parts.places (place_at flight stop.node)) in
+      let name = place_name (slice_get parts.places (place_at flight stop.node)) in
       let rest = stop_fields parts.places flight stops in
       let fields = front ++ name ∷ decimal stop.time ∷ rest in
       let within : length front + 1 ≤ length fields = omega (arith, length-append front (name ∷ decimal stop.time ∷ rest)) in

@@ -6,9 +6,9 @@ use Rattle.csv.proofs.OnLiterals.{csv_on_literals}
 use Rattle.flow_types.specs.declared.fault.Cause.TheVariants as cause
 use Rattle.flow_types.specs.declared.fault.Fault.{Fault}
 use Rattle.flow_types.specs.declared.plan.Stop.{Stop}
-use Rattle.flow_types.proofs.WorkedCases.{there, trip_at, two_flights}
 use Rattle.text_records.specs.Fields.{name_in, number_in}
 use Rattle.text_records.specs.Errors.{fault_at}
+use Rattle.worked_days.specs.Days.{stop_at, there, trip_at, two_flights}
 use Rattle.plan_text.specs.Lines.{trip_text}
 use Rattle.plan_text.specs.Plans.{plan_from, plan_of, record_step, records_step, trip_step}
 use Rattle.plan_text.specs.Trips.{flight_in, stop_in, stops_from, trip_of}
@@ -18,9 +18,6 @@ unfoldable text_on_literals : Unit {0}
 unfolding csv_on_literals name_in number_in flight_in stop_in stops_from trip_of trip_step record_step records_step plan_from
 text_on_literals = tt
 
-abbrev stop : ℕ → ℕ → Stop
-stop node time = record { node = node; time = time }
-
 -- so many stops in the sector
 abbrev pairs : ℕ → List ℕ
 pairs zero = []
@@ -28,7 +25,7 @@ pairs (suc n) = codes ",S,1" ++ pairs n
 
 -- the plan that a text tells of the day of the flights F1 and F2, of 8 periods
 abbrev read : List ℕ → Result (List (List Stop)) Fault
-read text = plan_of two_flights text
+read text = plan_of (two_flights 1 9 9) text
 
 both_trips : read (codes "status,optimal\ncost,0\nbound,0\nnodes,1\ntrip,F1,ORIG,0,S,0,DEST,2\ntrip,F2,ORIG,1,S,1,DEST,7\n") ≡ Ok (trip_at 0 2 ∷ trip_at 1 7 ∷ [])
 unfolding text_on_literals
@@ -46,7 +43,7 @@ an_empty_trip : read (codes "trip,F1\n") ≡ Ok ([] ∷ [] ∷ [])
 unfolding text_on_literals
 an_empty_trip = refl
 
-stops_in_any_order : read (codes "trip,F2,DEST,007,DEST,0\n") ≡ Ok ([] ∷ (stop 2 7 ∷ stop 2 0 ∷ []) ∷ [])
+stops_in_any_order : read (codes "trip,F2,DEST,007,DEST,0\n") ≡ Ok ([] ∷ (stop_at 2 7 ∷ stop_at 2 0 ∷ []) ∷ [])
 unfolding text_on_literals
 stops_in_any_order = refl
 
@@ -126,7 +123,7 @@ the_first_record_first : read (codes "trip,F1,ORIG,8\ncosts,1\n") ≡ Err (fault
 unfolding text_on_literals
 the_first_record_first = refl
 
-as_many_stops_as_there_may_be : read (codes "trip,F1" ++ (pairs 32 ++ codes "\n")) ≡ Ok (replicate 32 (stop 1 1) ∷ [] ∷ [])
+as_many_stops_as_there_may_be : read (codes "trip,F1" ++ (pairs 32 ++ codes "\n")) ≡ Ok (replicate 32 (stop_at 1 1) ∷ [] ∷ [])
 unfolding text_on_literals
 as_many_stops_as_there_may_be = refl
 
@@ -140,9 +137,9 @@ a_bad_period_before_a_field_too_many = refl
 
 -- ---- lines
 
-a_line : trip_text two_flights.places there (trip_at 0 2) ≡ codes "trip,F1,ORIG,0,S,0,DEST,2\n"
+a_line : trip_text (two_flights 1 9 9).places there (trip_at 0 2) ≡ codes "trip,F1,ORIG,0,S,0,DEST,2\n"
 unfolding digits
 a_line = refl
 
-an_empty_line : trip_text two_flights.places there [] ≡ codes "trip,F1\n"
+an_empty_line : trip_text (two_flights 1 9 9).places there [] ≡ codes "trip,F1\n"
 an_empty_line = refl

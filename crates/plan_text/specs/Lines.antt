@@ -7,14 +7,14 @@ use Rattle.flow_types.specs.declared.plan.Stop.{Stop}
 use Rattle.flow_types.specs.Trips.{place_at}
 
 -- the name of a place, empty where there is none
-abbrev pub name_at : Option Place → List ℕ
-name_at None = []
-name_at (Some place) = place.name
+abbrev pub place_name : Option Place → List ℕ
+place_name None = []
+place_name (Some place) = place.name
 
 -- a place and a period for each stop
 abbrev pub stop_text : List Place → Flight → Stop → List ℕ
 stop_text places flight stop =
-    codes "," ++ (name_at (slice_get places (place_at flight stop.node)) ++ (codes "," ++ decimal stop.time))
+    codes "," ++ (place_name (slice_get places (place_at flight stop.node)) ++ (codes "," ++ decimal stop.time))
 
 abbrev pub stops_text : List Place → Flight → List Stop → List ℕ
 stops_text places flight [] = []

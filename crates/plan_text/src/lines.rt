@@ -2,22 +2,15 @@
 ghost use Rattle.std.specs.Prelude.{◌≡◌, ◌<◌, ◌++◌, IfOk, IfSome, OnOk, length, slice_get};
 ghost use Rattle.flow_types.specs.Scenario.{flight_at, parts_of};
 ghost use Rattle.flow_types.specs.Trips.{place_at};
-ghost use Rattle.plan_text.specs.Lines.{name_at, stop_text, stops_text, trip_text};
+ghost use Rattle.plan_text.specs.Lines.{place_name, stop_text, stops_text, trip_text};
 
 use flow_types::{Flight, OutOfMemory, Place, Scenario, Stop, place_at};
 use std::alloc::Global;
-
-// Adds bytes at the end.
-fn put(out: &mut Vec<u8>, bytes: &[u8]) -> Result<(), OutOfMemory>
-    ensures { OnOk result (out.new.items ≡ out.old.items ++ bytes.now) }
-{
-    out.extend_from_slice(bytes)?;
-    Ok(())
-}
+use text_records::put;
 
 // The name of the place at the node of the flight, empty where there is none.
-fn name_at<'a>(places: &'a [Place], flight: &Flight, node: u16) -> &'a [u8]
-    ensures { result.now ≡ name_at (slice_get places.now (place_at flight.now node)) }
+fn place_name<'a>(places: &'a [Place], flight: &Flight, node: u16) -> &'a [u8]
+    ensures { result.now ≡ place_name (slice_get places.now (place_at flight.now node)) }
 {
     match places.get(place_at(flight, node) as usize) {
         None => b"",
@@ -36,7 +29,7 @@ fn put_stop(
     ensures { OnOk result (out.new.items ≡ out.old.items ++ stop_text places.now flight.now stop) }
 {
     put(out, b",")?;
-    put(out, name_at(places, flight, stop.node))?;
+    put(out, place_name(places, flight, stop.node))?;
     put(out, b",")?;
     put(out, stop.time.to_string(alloc)?.as_bytes())
 }

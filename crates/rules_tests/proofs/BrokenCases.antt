@@ -1,6 +1,7 @@
 -- What plans of the worked days break first, computed.
 use Rattle.std.proofs.Common.{◌≡◌, [], ◌∷◌, Some, None, refl}
-use Rattle.plan_rules.specs.FirstBroken.{first_broken}
+use Rattle.flow_types.specs.declared.place.CapKind.TheVariants as kind
+use Rattle.plan_rules.specs.FirstBroken.{first_broken, over}
 use Rattle.plan_rules.specs.declared.broken.Broken.TheVariants as broken
 use Rattle.worked_days.specs.Days.{plan_with, stop_at, there_and_back, trip_at, two_flights}
 
@@ -55,23 +56,23 @@ turn = refl
 turn_is_kept : first_broken (there_and_back 1 2) (plan_with (trip_at 4 6)) ≡ None
 turn_is_kept = refl
 
-departs_without_capacity : first_broken (there_and_back 0 2) (plan_with (trip_at 4 6)) ≡ Some (broken.Departures 0 0 1 0)
+departs_without_capacity : first_broken (there_and_back 0 2) (plan_with (trip_at 4 6)) ≡ Some (over kind.Dep 0 0 1 0)
 departs_without_capacity = refl
 
 -- Both flights on time, where one may depart, arrive and be inside: the departures come first, then
 -- the arrivals, then the sector's first period.
-departures : first_broken (two_flights 1 1 1) (plan_with (trip_at 0 2)) ≡ Some (broken.Departures 0 0 2 1)
+departures : first_broken (two_flights 1 1 1) (plan_with (trip_at 0 2)) ≡ Some (over kind.Dep 0 0 2 1)
 departures = refl
 
-arrivals : first_broken (two_flights 9 1 1) (plan_with (trip_at 0 2)) ≡ Some (broken.Arrivals 1 2 2 1)
+arrivals : first_broken (two_flights 9 1 1) (plan_with (trip_at 0 2)) ≡ Some (over kind.Arr 1 2 2 1)
 arrivals = refl
 
-sectors : first_broken (two_flights 9 9 1) (plan_with (trip_at 0 2)) ≡ Some (broken.Sectors 2 0 2 1)
+sectors : first_broken (two_flights 9 9 1) (plan_with (trip_at 0 2)) ≡ Some (over kind.Sector 2 0 2 1)
 sectors = refl
 
 -- The second enters the sector in the period in which the first leaves it, and a period before.
 no_sector : first_broken (two_flights 9 9 1) (plan_with (trip_at 2 4)) ≡ None
 no_sector = refl
 
-sector_later : first_broken (two_flights 9 9 1) (plan_with (trip_at 1 4)) ≡ Some (broken.Sectors 2 1 2 1)
+sector_later : first_broken (two_flights 9 9 1) (plan_with (trip_at 1 4)) ≡ Some (over kind.Sector 2 1 2 1)
 sector_later = refl

@@ -4,7 +4,7 @@
 //! They stand above `flow_cli`, so that it isn't proved again with them:
 //!
 //!     let mut files = MemoryFiles::new(alloc);
-//!     files.add("day.csv", DAY)?;
+//!     files.add("day.csv", TWO_FLIGHTS)?;
 //!     files.fail(2)?;
 //!     let mut out = MemorySink::new(alloc, 1_000, 16)?;
 //!     assert_eq!(rt; run(alloc, &words, &mut files, &mut out), Status::ReadFault);

@@ -3,22 +3,18 @@ use flow_cli::{Status, run};
 use flow_outside::{MemoryFiles, MemorySink};
 use std::alloc::Global;
 use std::test::Fail;
+use worked_days::{ON_TIME, TWO_FLIGHTS};
 
-const DAY: &[u8] = b"day,2011-03-14T06:00,15,8
-airport,ORIG,1,9
-airport,DEST,9,9
-sector,S,9
-flight,F1,ORIG,DEST,0,2,4,5,1,2
-leg,F1,ORIG,S,0
-leg,F1,S,DEST,2
-";
-
-const REPORT: &str = "status,optimal
-cost,0
+// Both flights can't keep the schedule, since one may leave in a period: no plan is found.
+const REPORT: &str = "status,open
+cost,none
 bound,0
 nodes,1
-trip,F1,ORIG,0,S,0,DEST,2
 ";
+
+const VERDICT: &str = "broken,departures,ORIG,0,2,1\n";
+
+const FAULT: &str = "fault,read\n";
 
 // Words that are separated by spaces.
 fn words_of(alloc: Global, line: &str) -> Result<Vec<String>, Fail> {
@@ -36,59 +32,29 @@ fn a_call_that_fails_is_answered(rt: HostRuntime) -> Result<(), Fail> {
     // written, and the status. Each text is asked for its size once and read once, and 16 bytes are
     // written in a call.
     let rows = [
-        ("plan day.csv", 0, 0, REPORT, Status::Done),
-        ("plan day.csv", 1, 0, "fault,read\n", Status::ReadFault),
-        ("plan day.csv", 2, 0, "fault,read\n", Status::ReadFault),
-        ("plan day.csv", 3, 0, REPORT, Status::Done),
+        ("plan day.csv", 0, 0, REPORT, Status::OpenGap),
+        ("plan day.csv", 1, 0, FAULT, Status::ReadFault),
+        ("plan day.csv", 2, 0, FAULT, Status::ReadFault),
+        ("plan day.csv", 3, 0, REPORT, Status::OpenGap),
         ("plan day.csv", 0, 1, "", Status::WriteFault),
         ("plan day.csv", 0, 3, &REPORT[..32], Status::WriteFault),
-        (
-            "judge day.csv plan.csv",
-            0,
-            0,
-            "broken,ending,F1\n",
-            Status::Broken,
-        ),
-        (
-            "judge day.csv plan.csv",
-            2,
-            0,
-            "fault,read\n",
-            Status::ReadFault,
-        ),
-        (
-            "judge day.csv plan.csv",
-            3,
-            0,
-            "fault,read\n",
-            Status::ReadFault,
-        ),
-        (
-            "judge day.csv plan.csv",
-            4,
-            0,
-            "fault,read\n",
-            Status::ReadFault,
-        ),
+        ("judge day.csv plan.csv", 0, 0, VERDICT, Status::Broken),
+        ("judge day.csv plan.csv", 2, 0, FAULT, Status::ReadFault),
+        ("judge day.csv plan.csv", 3, 0, FAULT, Status::ReadFault),
+        ("judge day.csv plan.csv", 4, 0, FAULT, Status::ReadFault),
         (
             "judge day.csv plan.csv",
             0,
             2,
-            "broken,ending,F1",
+            &VERDICT[..16],
             Status::WriteFault,
         ),
-        (
-            "judge day.csv none.csv",
-            0,
-            0,
-            "fault,read\n",
-            Status::ReadFault,
-        ),
+        ("judge day.csv none.csv", 0, 0, FAULT, Status::ReadFault),
     ];
     for (line, read, write, written, status) in rows {
         let mut files = MemoryFiles::new(alloc);
-        files.add("day.csv", DAY)?;
-        files.add("plan.csv", b"trip,F1,ORIG,0\n")?;
+        files.add("day.csv", TWO_FLIGHTS)?;
+        files.add("plan.csv", ON_TIME)?;
         files.fail(read)?;
         let mut out = MemorySink::new(alloc, 1_000, 16)?;
         out.fail(write)?;

@@ -1,5 +1,5 @@
 //! Texts of records: their records one at a time, fields that are names or numbers, and names by their
-//! positions. Both readers of texts stand on it.
+//! positions; and the step by which texts are written. All that reads or writes a text stands on it.
 //!
 //! ```text
 //! let mut rows = Rows::of_text(alloc, text);
@@ -22,7 +22,7 @@
 //! as its definition is answers the first fault.
 //!
 //! A `NameIndex` is the names that were told so far, seen as the list; `known_in` and `new_name` read
-//! the fields that name what is known and what is new.
+//! the fields that name what is known and what is new. `put` adds bytes to a text that is written.
 //!
 //! Memory: 8 KiB, the longest record, at 8 bytes a field besides its bytes, in blocks that grow by
 //! doubling, and a copy of each name. Time: the length of the text, and a look-up by hash for each name.
@@ -32,8 +32,10 @@ mod error;
 mod fields;
 mod names;
 mod rows;
+mod writing;
 
 pub use error::{FieldFault, RecordError, Refusal, refusal_of};
 pub use fields::{ends_after, field_in, name_in, number_in};
 pub use names::{NameIndex, known_at, known_in, new_name};
 pub use rows::Rows;
+pub use writing::put;
