@@ -5,13 +5,14 @@ use Rattle.flow_types.specs.declared.parts.Parts.{Parts}
 use Rattle.flow_types.specs.declared.plan.Stop.{Stop}
 use Rattle.std.proofs.lemmas.List.{length-map, length-replicate, length-set}
 use Rattle.text_records.specs.Fields.{field_in}
-use Rattle.text_records.specs.Errors.{◌>>=◌, refusal_of, fault_of, in_record, Refuses, Stops}
+use Rattle.text_records.specs.Errors.{refusal_of, fault_of, in_record, Refuses, Stops}
 use Rattle.text_records.specs.Rows.{Fields}
 use Rattle.text_records.specs.declared.error.FieldFault.{FieldFault}
 use Rattle.text_records.specs.declared.error.Refusal.{Refusal}
 use Rattle.text_records.specs.declared.error.Refusal.TheVariants as refusal
 use Rattle.text_records.specs.declared.error.RecordError.{RecordError}
 use Rattle.text_records.specs.declared.error.RecordError.TheVariants as error
+use Rattle.text_records.proofs.StepFacts.{bound}
 use Rattle.plan_text.specs.Kinds.{kind_of}
 use Rattle.plan_text.specs.Plans.{none_read, plan_from, record_step, records_step, step_of, trip_step, trips_of, with_trip}
 use Rattle.plan_text.specs.Trips.{TripsRead, trip_of}
@@ -55,11 +56,6 @@ module _ (parts : Parts) (rows : List Fields) where
   plan_refused (refusal.Text fault) refuses = rw refuses refl
 
 -- ---- one trip a flight
-
--- what the answer is where it is one
-bound : {A B E : Type 0} (r : Result A E) (f : A → Result B E) (y : B) → (r >>= f) ≡ Ok y → (x : A) × (r ≡ Ok x) × (f x ≡ Ok y)
-bound (Ok x) f y e = (x, refl, e)
-bound (Err fault) f y e = absurd cc
 
 in_record_ok : (at : ℕ) (r : Result TripsRead FieldFault) (next : TripsRead) → in_record at r ≡ Ok next → r ≡ Ok next
 in_record_ok at (Ok x) next e = cc

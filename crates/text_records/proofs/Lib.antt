@@ -3,3 +3,4 @@ pub mod FieldFacts
 pub mod ReaderFacts
 pub mod NameFacts
 pub mod LineFacts
+pub mod StepFacts
