@@ -1,5 +1,16 @@
 //! Reads the text of a plan, and writes the line of a trip.
 //!
+//! ```text
+//! // The line of the first trip of a text.
+//! fn first_line(alloc: Global, s: &Scenario, text: &[u8]) -> Result<Vec<u8>, Refusal> {
+//!     let plan = read_plan(alloc, s, text)?;
+//!     match plan.items().first() {
+//!         Some(trip) => Ok(trip_line(alloc, s, 0, trip.items())?),
+//!         None => Ok(Vec::new(alloc)),
+//!     }
+//! }
+//! ```
+//!
 //! A plan's text is records of comma-separated fields, of which only `trip` says anything: a flight, and
 //! a place and a period for each of its stops. `plan_of` in `specs/` says what a text means: a fold of
 //! one step a record over the records that `csv` gives, where each step checks field by field, so that
@@ -8,9 +19,10 @@
 //! which no clause says when it comes. `trip_line` is proved to write the line of `trip_text`, byte by
 //! byte.
 //!
-//! Memory: the text, the plan, and the names of the scenario's flights and places while they are looked
-//! up; nothing grows with the number or the length of records that are passed over. Time: the length of
-//! the text, a look-up by hash for each name, and for each place the at most 32 nodes of its flight.
+//! Memory: the text, the longest record, the plan, and the names of the scenario's flights and places
+//! while they are looked up; nothing grows with the number of records that are passed over. Time: the
+//! length of the text, a look-up by hash for each name, and for each place the at most 32 nodes of its
+//! flight.
 #![tactic(auto)]
 
 ghost use Rattle.std.specs.Prelude.{◌≡◌, ◌≤◌, Ok, Err, IfOk, length};
