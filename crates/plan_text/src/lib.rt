@@ -1,16 +1,17 @@
 //! Reads the text of a plan, and writes the line of a trip.
 //!
-//! A plan's text is records of comma-separated fields, of which only `trip` says anything: a flight, and
-//! a place and a period for each of its stops. `plan_of` in `specs/` says what a text means: a fold of
-//! one step a record over the records that `csv` gives, where each step checks field by field, so that
-//! what it answers is the plan or the first fault, by record, then field, then cause. `read_plan` is
-//! proved to answer exactly that (clauses `plan` and `fault`). Want of memory is the third answer, of
-//! which no clause says when it comes. `trip_line` is proved to write the line of `trip_text`, byte by
-//! byte.
+//! A plan's text is records of comma-separated fields, of which only `trip` says anything: a
+//! flight, and a place and a period for each of its stops. `plan_of` in `specs/` says what a text
+//! means: a fold of one step a record over the records that `csv` gives, where each step checks
+//! field by field, so that what it answers is the plan or the first fault, by record, then field,
+//! then cause. `read_plan` is proved to answer exactly that (clauses `plan` and `fault`). Want of
+//! memory is the third answer, of which no clause says when it comes. `trip_line` is proved to
+//! write the line of `trip_text`, byte by byte.
 //!
-//! Memory: the text, the plan, and the names of the scenario's flights and places while they are looked
-//! up; nothing grows with the number or the length of records that are passed over. Time: the length of
-//! the text, a look-up by hash for each name, and for each place the at most 32 nodes of its flight.
+//! Memory: the text, the plan, and the names of the scenario's flights and places while they are
+//! looked up; nothing grows with the number or the length of records that are passed over. Time:
+//! the length of the text, a look-up by hash for each name, and for each place the at most 32 nodes
+//! of its flight.
 #![tactic(auto)]
 
 ghost use Rattle.std.specs.Prelude.{◌≡◌, ◌≤◌, Ok, Err, IfOk, length};
@@ -33,9 +34,9 @@ pub use lines::trip_line;
 use std::alloc::Global;
 pub use text_records::Refusal;
 
-/// The plan of a text of at most 64 MiB for a scenario: one trip a flight, in the order of the flights,
-/// empty where the text doesn't name the flight. That the trips keep the rules isn't asked. It takes
-/// memory for the plan, for the longest record and for the names of the scenario.
+/// The plan of a text of at most 64 MiB for a scenario: one trip a flight, in the order of the
+/// flights, empty where the text doesn't name the flight. That the trips keep the rules isn't
+/// asked. It takes memory for the plan, for the longest record and for the names of the scenario.
 pub fn read_plan(alloc: Global, s: &Scenario, text: &[u8]) -> Result<Plan, Refusal>
     requires { length text.now ≤ most_text_bytes }
     // What is read is the plan of the text.
