@@ -16,7 +16,8 @@ use Rattle.flow_cli.specs.Reading.{IsDayOf, IsFailed, IsTooMany}
 rose_since : (before mid now : ℕ) → before ≤ mid → Rose mid now → Rose before now
 rose_since before mid now later rose few = let after = rose few in omega arith
 
--- What holds of the files of a moment holds of those of an earlier one, from which on they were kept.
+-- What holds of the files of a moment holds of those of an earlier one, from which on they were
+-- kept.
 module _ (before mid now : FilesSeen) (kept : AreKept before mid) (parts : Parts) (plan : List ℕ) where
   failed_since : (answer : Printed) → IsFailed (change mid now) plan answer → IsFailed (change before now) plan answer
   failed_since answer fault =

@@ -1,5 +1,5 @@
--- The lines of trips that are left: one less after each, and none where the flights or the trips are at
--- their end.
+-- The lines of trips that are left: one less after each, and none where the flights or the trips
+-- are at their end.
 use Rattle.std.proofs.Common.{◌≡◌, ◌⊎◌, ℕ, suc, ◌+◌, ◌<◌, ◌≤◌, List, [], ◌∷◌, ◌++◌, length, drop, get_or, slice_get, min, Option, None, Some, IfSome, refl, ap, subst, ◌∙◌, inl, inr, add-one, append_assoc, arith}
 use Rattle.std.proofs.lemmas.Bool.{cases_lt}
 use Rattle.std.proofs.lemmas.Option.{slice_get_cases}

@@ -62,8 +62,8 @@ report_of_infeasible : (parts : Parts) → report_text parts None NoPlan 1 ≡ i
 unfolding digits
 report_of_infeasible parts = refl
 
--- The words ask for a plan where they are `plan` and one name, and for a verdict where they are `judge`
--- and two.
+-- The words ask for a plan where they are `plan` and one name, and for a verdict where they are
+-- `judge` and two.
 a_day_to_plan : asked (codes "plan" ∷ codes "day.csv" ∷ []) ≡ Some (Planned (codes "day.csv"))
 a_day_to_plan = refl
 
@@ -147,7 +147,8 @@ optimal_day = record {
   first_bound = (both_have, (pos 0 ∷ pos 0 ∷ [], both_least, refl));
 }
 
--- Where one may leave in a period, both can't keep the schedule: the answer is open, without a plan.
+-- Where one may leave in a period, both can't keep the schedule: the answer is open, without a
+-- plan.
 open_day : IsPlannedDay (two_flights 1 9 9) (record { text = none_found_text; status = OpenGap })
 open_day = record {
   plan = None;

@@ -1,5 +1,5 @@
--- Whole runs, from the words and the files to the bytes that are written, of any texts that say what is
--- said of them here.
+-- Whole runs, from the words and the files to the bytes that are written, of any texts that say
+-- what is said of them here.
 use Rattle.std.specs.Prelude.{codes}
 use Rattle.std.proofs.Common.{◌≡◌, ℕ, ◌+◌, ◌≤◌, List, [], ◌∷◌, length, Some, Ok, Err, IsSome, refl, sym, subst, ◌∙◌, inl, inr}
 use Rattle.std.specs.Cmp.Lexicographic.{nat_list_cmp_total}

@@ -40,8 +40,8 @@ abbrev pub time_of_stop : Option Stop → ℕ
 time_of_stop None = 0
 time_of_stop (Some stop) = stop.time
 
--- the field of the place at which the flight at this position has its stop at this position, and of the
--- period in which it enters that
+-- the field of the place at which the flight at this position has its stop at this position, and of
+-- the period in which it enters that
 abbrev pub stop_field : Parts → List (List Stop) → ℕ → ℕ → List ℕ
 stop_field parts plan position stop =
     place_field parts (place_of_stop (slice_get parts.flights position) (stop_at plan position stop))

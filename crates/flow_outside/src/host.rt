@@ -20,8 +20,8 @@ pub struct HostFiles<R> {
     store_faults: u64,
 }
 
-/// The standard output, which doesn't tell what was written. Each error raises the count by one, and
-/// nothing else changes it; contracts see the count.
+/// The standard output, which doesn't tell what was written. Each error raises the count by one,
+/// and nothing else changes it; contracts see the count.
 #[derive(Drop)]
 pub struct HostSink<R> {
     rt: R,

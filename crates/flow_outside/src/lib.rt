@@ -13,13 +13,13 @@
 //!
 //!     copy(alloc, &mut HostFiles::new(&rt), &mut HostSink::new(&rt), "day.csv")
 //!
-//! Tests hand in [`MemoryFiles`] and [`MemorySink`], which tell what they hold and fail at the calls
-//! that were named; a program hands in [`HostFiles`] and [`HostSink`].
+//! Tests hand in [`MemoryFiles`] and [`MemorySink`], which tell what they hold and fail at the
+//! calls that were named; a program hands in [`HostFiles`] and [`HostSink`].
 //!
-//! Nobody can rule a fault of a device out, so each object counts its faults. A call answers a fault
-//! only where the object's count rose in that call, and leaves the count as it was after any other
-//! answer: a body can neither blame the device by itself nor hide a fault. A count is 64 bits wide
-//! and stops at its last value, where a fault needs no rise.
+//! Nobody can rule a fault of a device out, so each object counts its faults. A call answers a
+//! fault only where the object's count rose in that call, and leaves the count as it was after any
+//! other answer: a body can neither blame the device by itself nor hide a fault. A count is 64 bits
+//! wide and stops at its last value, where a fault needs no rise.
 //!
 //! What is proved, by these clauses:
 //!
@@ -34,8 +34,8 @@
 //! - The system's files and output: each call raises its count by one at a fault, and else no count
 //!   changes (`after`). What they read and write is trusted.
 //!
-//! No clause says what a call takes in memory. `load` takes the text's length, once; `MemoryFiles` a
-//! copy of each text, `MemorySink` its room; `put_all`, `HostFiles` and `HostSink` none.
+//! No clause says what a call takes in memory. `load` takes the text's length, once; `MemoryFiles`
+//! a copy of each text, `MemorySink` its room; `put_all`, `HostFiles` and `HostSink` none.
 #![tactic(auto)]
 
 mod files;

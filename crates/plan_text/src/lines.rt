@@ -66,9 +66,9 @@ fn put_trip(
     put(out, b"\n")
 }
 
-/// The line of a flight's trip, with its line feed: `trip,<flight>,<place>,<period>,..`. The flight is
-/// one of the scenario's by its position. The stops may be in any order, and one at a node that the flight
-/// hasn't is written without a name. It takes memory for the line.
+/// The line of a flight's trip, with its line feed: `trip,<flight>,<place>,<period>,..`. The flight
+/// is one of the scenario's by its position. The stops may be in any order, and one at a node that
+/// the flight hasn't is written without a name. It takes memory for the line.
 pub fn trip_line(
     alloc: Global,
     s: &Scenario,

@@ -28,9 +28,9 @@ fn words_of(alloc: Global, line: &str) -> Result<Vec<String>, Fail> {
 #[test]
 fn a_call_that_fails_is_answered(rt: HostRuntime) -> Result<(), Fail> {
     let alloc = rt.alloc();
-    // The words, the call on the files and the one on the output that fail (0 for none), what stands
-    // written, and the status. Each text is asked for its size once and read once, and 16 bytes are
-    // written in a call.
+    // The words, the call on the files and the one on the output that fail (0 for none), what
+    // stands written, and the status. Each text is asked for its size once and read once, and 16
+    // bytes are written in a call.
     let rows = [
         ("plan day.csv", 0, 0, REPORT, Status::OpenGap),
         ("plan day.csv", 1, 0, FAULT, Status::ReadFault),

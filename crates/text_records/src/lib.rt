@@ -1,5 +1,6 @@
-//! Texts of records: their records one at a time, fields that are names or numbers, and names by their
-//! positions; and the step by which texts are written. All that reads or writes a text stands on it.
+//! Texts of records: their records one at a time, fields that are names or numbers, and names by
+//! their positions; and the step by which texts are written. All that reads or writes a text stands
+//! on it.
 //!
 //! ```text
 //! let mut rows = Rows::of_text(alloc, text);
@@ -11,21 +12,23 @@
 //! }
 //! ```
 //!
-//! `Rows` are seen as the list of the records that are left, each the list of its fields; the records
-//! of a text are those of `csv`'s definitions, and `csv` reads them. `next_row` fills one `ByteRecord`
-//! with each in turn.
+//! `Rows` are seen as the list of the records that are left, each the list of its fields; the
+//! records of a text are those of `csv`'s definitions, and `csv` reads them. `next_row` fills one
+//! `ByteRecord` with each in turn.
 //!
-//! There are three errors, by what fails: a `FieldFault` is a field and a cause, a `RecordError` such a
-//! fault or want of memory, and a `Refusal` the first fault of a whole text, or want of memory. Each
-//! function's clause says that it gives exactly what its definition of the same name in `specs/` gives
-//! (`Finds`, and `Gives` and `Reads` where memory may be wanting), so a reader whose steps are chained
-//! as its definition is answers the first fault.
+//! There are three errors, by what fails: a `FieldFault` is a field and a cause, a `RecordError`
+//! such a fault or want of memory, and a `Refusal` the first fault of a whole text, or want of
+//! memory. Each function's clause says that it gives exactly what its definition of the same name
+//! in `specs/` gives (`Finds`, and `Gives` and `Reads` where memory may be wanting), so a reader
+//! whose steps are chained as its definition is answers the first fault.
 //!
-//! A `NameIndex` is the names that were told so far, seen as the list; `known_in` and `new_name` read
-//! the fields that name what is known and what is new. `put` adds bytes to a text that is written.
+//! A `NameIndex` is the names that were told so far, seen as the list; `known_in` and `new_name`
+//! read the fields that name what is known and what is new. `put` adds bytes to a text that is
+//! written.
 //!
 //! Memory: 8 KiB, the longest record, at 8 bytes a field besides its bytes, in blocks that grow by
-//! doubling, and a copy of each name. Time: the length of the text, and a look-up by hash for each name.
+//! doubling, and a copy of each name. Time: the length of the text, and a look-up by hash for each
+//! name.
 #![tactic(auto)]
 
 mod error;

@@ -44,9 +44,9 @@ impl<'a> Rows<'a> {
         }
     }
 
-    /// Puts the next record into `row`, if there is one. It takes memory for the record: its bytes, and
-    /// 8 bytes a field, in blocks that grow by doubling. Where there is none, nothing is left, and what
-    /// `row` holds isn't said.
+    /// Puts the next record into `row`, if there is one. It takes memory for the record: its bytes,
+    /// and 8 bytes a field, in blocks that grow by doubling. Where there is none, nothing is left,
+    /// and what `row` holds isn't said.
     pub fn next_row(&mut self, row: &mut ByteRecord) -> Result<bool, OutOfMemory>
         ensures takes { IfOk result (λ found. TakesRow found self.old (fields_of row.new) self.new) }
         ensures ends { result ≡ Ok false → self.new ≡ [] }

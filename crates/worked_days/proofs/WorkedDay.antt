@@ -28,8 +28,8 @@ use Rattle.worked_days.specs.Days.{all_day, back, beside, day_with, flight_with,
 
 -- ---- the days are scenarios
 
--- two names that are one have one letter at each place; the letters below are `O`, `D`, `S`, `F`, `G`, `1`
--- and `2`
+-- two names that are one have one letter at each place; the letters below are `O`, `D`, `S`, `F`,
+-- `G`, `1` and `2`
 by_letter : {a b : List ℕ} (k : ℕ) → a ≡ b → slice_index a k ≡ slice_index b k
 by_letter k is = ap (λ (name : List ℕ). slice_index name k) is
 
