@@ -41,6 +41,7 @@ use Rattle.scenario_reader.proofs.ChangeFacts.{All-changed, get_changed, length-
 use Rattle.text_records.proofs.NameFacts.{position-none}
 use Rattle.scenario_reader.proofs.NetworkFacts.{neither, network_grows}
 use Rattle.scenario_reader.proofs.PlaceFacts.{length_new}
+use Rattle.scenario_reader.proofs.Steps.{both, some_is}
 
 -- ---- names that differ
 
@@ -218,10 +219,7 @@ room_for : (adds full : Bool) (n total : ℕ) → (adds && (full || nat_le 20000
 room_for false full n total h le = omega arith
 room_for true full n total h le = let few : total < 20000 = leb-false 20000 total (neither full (nat_le 20000 total) h).1 in omega arith
 
-some_is : {X : Type 0} (x y : X) → Some x ≡ Some y → x ≡ y
-some_is x y e = cc
-
-parts_with_leg : (draft : DraftParts) (k : ℕ) (leg : PlaceLeg) (flight : FlightDraft) → IsValidDraft draft → slice_get draft.flights k ≡ Some flight
+pub parts_with_leg : (draft : DraftParts) (k : ℕ) (leg : PlaceLeg) (flight : FlightDraft) → IsValidDraft draft → slice_get draft.flights k ≡ Some flight
     → IsNewLeg draft.places (node_total draft.flights) flight leg → IsValidDraft (with_flight_leg draft (k, leg))
 parts_with_leg draft k leg flight valid here new = record {
   day = valid.day;
@@ -282,7 +280,7 @@ total_with_cost (flight ∷ flights) zero cost = sum_by-cons node_count (with_co
 total_with_cost (flight ∷ flights) (suc k) cost =
     rw (sum_by-cons node_count flight (with_cost_at flights k cost), sum_by-cons node_count flight flights, total_with_cost flights k cost) refl
 
-parts_with_pricing : (draft : DraftParts) (pricing : Pricing) → IsValidDraft draft → IsPricing draft.flights draft.tables pricing → IsValidDraft (with_pricing draft pricing)
+pub parts_with_pricing : (draft : DraftParts) (pricing : Pricing) → IsValidDraft draft → IsPricing draft.flights draft.tables pricing → IsValidDraft (with_pricing draft pricing)
 parts_with_pricing draft pricing valid new = record {
   day = valid.day;
   places_few = valid.places_few;
@@ -305,10 +303,6 @@ parts_with_pricing draft pricing valid new = record {
 
 -- ---- a table more
 
-both : (a b : Bool) → (a && b) ≡ true → (a ≡ true) × (b ≡ true)
-both true b h = (refl, h)
-both false b h = absurd cc
-
 cost_with_table : (tables : List CostTable) (table : CostTable) (mg md : ℕ) (cost : Cost) → is_cost tables mg md cost ≡ true → is_cost (tables ++ table ∷ []) mg md cost ≡ true
 cost_with_table tables table mg md (Linear on_ground airborne) h = h
 cost_with_table tables table mg md (Tables total credit) h =
@@ -330,7 +324,7 @@ flight_with_table periods places tables table flight valid = record {
   network = valid.network;
 }
 
-parts_with_table : (draft : DraftParts) (table : CostTable) → IsValidDraft draft → IsTable table → position_of table.name (table_names draft.tables) ≡ None
+pub parts_with_table : (draft : DraftParts) (table : CostTable) → IsValidDraft draft → IsTable table → position_of table.name (table_names draft.tables) ≡ None
     → length draft.tables < 1000 → IsValidDraft (with_table draft table)
 parts_with_table draft table valid one fresh room = record {
   day = valid.day;
@@ -361,7 +355,7 @@ connection_apart (other ∷ connections) connection zero d none h = λ first sec
     false≢true (sym one ∙ same)
 connection_apart (other ∷ connections) connection (suc k) d none h = connection_apart connections connection k d (neither _ _ none).1 (omega arith)
 
-parts_with_connection : (draft : DraftParts) (connection : Connection) → IsValidDraft draft → IsMeeting draft.flights connection
+pub parts_with_connection : (draft : DraftParts) (connection : Connection) → IsValidDraft draft → IsMeeting draft.flights connection
     → are_connected draft.connections connection.first connection.second ≡ false → length draft.connections < 4000
     → IsValidDraft (with_connection draft connection)
 parts_with_connection draft connection valid one once room = record {
@@ -431,7 +425,7 @@ airport_unchanged change place = rw (kind_unchanged change change.kind place) re
 sector_unchanged : (change : CapChange) (place : Place) → is_sector (Some (with_change change place)) ≡ is_sector (Some place)
 sector_unchanged change place = rw (kind_unchanged change change.kind place) refl
 
-parts_with_change : (draft : DraftParts) (change : CapChange) → IsValidDraft draft → IsCapChange draft.day.periods draft.places change → IsValidDraft (with_cap_change draft change)
+pub parts_with_change : (draft : DraftParts) (change : CapChange) → IsValidDraft draft → IsCapChange draft.day.periods draft.places change → IsValidDraft (with_cap_change draft change)
 parts_with_change draft change valid new = record {
   day = valid.day;
   places_few = rw (length-changed (with_change change) draft.places change.place) valid.places_few;

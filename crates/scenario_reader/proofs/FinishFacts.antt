@@ -6,7 +6,6 @@ use Rattle.std.proofs.lemmas.List.{append-nil, drop_all, length-map}
 use Rattle.std.proofs.lemmas.List.Sums.{sum_by-cons}
 use Rattle.std.proofs.Math.Seq.{drop-cons}
 use Rattle.flow_types.specs.Valid.{destination_of, IsConnection, IsFlight, IsScenario, origin_of}
-use Rattle.flow_types.specs.declared.fault.Cause.TheVariants.{DeadEnd, NoRoute}
 use Rattle.flow_types.specs.declared.fault.Fault.{Fault}
 use Rattle.flow_types.specs.declared.flight.Flight.{Flight}
 use Rattle.flow_types.specs.declared.flight.CostTable.{CostTable}
@@ -23,6 +22,7 @@ use Rattle.scenario_reader.specs.declared.flight_draft.FlightDraft.{FlightDraft}
 use Rattle.text_records.proofs.NameFacts.{position-none}
 use Rattle.scenario_reader.proofs.PlaceFacts.{node_outside}
 use Rattle.scenario_reader.proofs.RouteFacts.{flight_is, passed_few}
+use Rattle.scenario_reader.proofs.Steps.{bound, given, needed, ok_is, some_is}
 
 -- ---- a node by its position
 
@@ -31,9 +31,6 @@ node_found nodes place k h = by (ltb (node_of nodes place) (length nodes)) (node
   where
     by : (b : Bool) (n : ℕ) → cond b (Some n) None ≡ Some k → k ≡ n
     by true n e = some_is k n (sym e)
-      where
-        some_is : (x y : ℕ) → Some x ≡ Some y → x ≡ y
-        some_is x y e = cc
     by false n e = absurd cc
 
 pub node_missing : (nodes : List ℕ) (place : ℕ) → position (λ node. node == place) nodes ≡ None → length nodes ≡ node_of nodes place
@@ -86,17 +83,6 @@ all_done front flights i total le so_far =
 
 -- ---- the scenario
 
--- the value of a step that did not fail
-bind_ok : {A B : Type 0} (read : Result A Fault) (next : A → Result B Fault) (y : B) → (read >>= next) ≡ Ok y → (x : A) × (read ≡ Ok x) × (next x ≡ Ok y)
-bind_ok (Ok x) next y e = (x, refl, e)
-bind_ok (Err fault) next y e = absurd cc
-
-abbrev done : {A : Type 0} → A → Result A Fault
-done x = Ok x
-
-ok_is : {A : Type 0} (x y : A) → done x ≡ done y → x ≡ y
-ok_is x y e = cc
-
 -- a valid flight came to its end as this one
 pub record IsFinished (flight : FlightDraft) (found : Flight) : Type 0 where
   pub route : has_route flight ≡ true
@@ -105,18 +91,10 @@ pub record IsFinished (flight : FlightDraft) (found : Flight) : Type 0 where
 
 finished_is : (flight : FlightDraft) (found : Flight) → finished_flight flight ≡ Ok found → IsFinished flight found
 unfolding finished_flight
-finished_is flight found e = by (has_route flight) refl e
-  where
-    onward : (b : Bool) → leads_on flight ≡ b → has_route flight ≡ true
-        → cond b (done (flight_with flight (nodes_of flight))) (Err (record { at = flight.at; field = 1; cause = DeadEnd })) ≡ Ok found → IsFinished flight found
-    onward true leads route e = record { route = route; onward = leads; is = ok_is _ _ e }
-    onward false leads route e = absurd cc
-
-    by : (b : Bool) → has_route flight ≡ b
-        → cond b (cond (leads_on flight) (done (flight_with flight (nodes_of flight))) (Err (record { at = flight.at; field = 1; cause = DeadEnd })))
-        (Err (record { at = flight.at; field = 1; cause = NoRoute })) ≡ Ok found → IsFinished flight found
-    by true route e = onward (leads_on flight) refl route e
-    by false route e = absurd cc
+finished_is flight found e =
+    let route = needed (has_route flight) _ found _ e in
+    let onward = given (leads_on flight) (flight_with flight (nodes_of flight)) found _ route.1 in
+    record { route = route.0; onward = onward.0; is = onward.1 }
 
 -- each of these became the one beside it
 abbrev Become : List FlightDraft → List Flight → Type 0
@@ -129,8 +107,8 @@ become : (flights : List FlightDraft) (founds : List Flight) → finished_flight
 unfolding finished_flights
 become [] founds e = subst (λ (fs : List Flight). Become [] fs) (ok_is [] founds e) tt
 become (flight ∷ flights) founds e =
-    let first = bind_ok (finished_flight flight) (λ f. finished_flights flights >>= λ others. Ok (f ∷ others)) founds e in
-    let rest = bind_ok (finished_flights flights) (λ others. Ok (first.0 ∷ others)) founds first.2 in
+    let first = bound (finished_flight flight) (λ f. finished_flights flights >>= λ others. Ok (f ∷ others)) founds e in
+    let rest = bound (finished_flights flights) (λ others. Ok (first.0 ∷ others)) founds first.2 in
     subst (λ (fs : List Flight). Become (flight ∷ flights) fs) (ok_is (first.0 ∷ rest.0) founds rest.2)
     (finished_is flight first.0 first.1, become flights rest.0 rest.1)
 
@@ -209,7 +187,8 @@ first_there None y h = absurd cc
 first_there (Some a) None h = absurd cc
 first_there (Some a) (Some b) h = (λ e. cc, λ e. cc)
 
-within_list : {X : Type 0} (xs : List X) (k : ℕ) → (slice_get xs k ≡ None → ⊥) → k < length xs
+-- what is there stands within the list
+pub within_list : {X : Type 0} (xs : List X) (k : ℕ) → (slice_get xs k ≡ None → ⊥) → k < length xs
 within_list [] k some = absurd (some refl)
 within_list (x ∷ xs) zero some = omega arith
 within_list (x ∷ xs) (suc k) some = let less = within_list xs k some in omega arith

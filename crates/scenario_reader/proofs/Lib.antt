@@ -9,4 +9,10 @@ pub mod FinishFacts
 pub mod RoomFacts
 pub mod TableFacts
 pub mod ReadingFacts
+pub mod Steps
+pub mod ValidFields
+pub mod ValidRecords
+pub mod ValidLegs
+pub mod ValidTables
+pub mod ValidTexts
 mod Worked

@@ -7,6 +7,7 @@ use Rattle.text_records.specs.Fields.{field_in, present_at}
 use Rattle.text_records.specs.Rows.{Fields}
 use Rattle.text_records.specs.declared.error.FieldFault.{FieldFault}
 use Rattle.scenario_reader.specs.Tables.{value_in, values_from}
+use Rattle.scenario_reader.proofs.Steps.{some_is}
 
 -- the values so far, and then the others
 abbrev pub with_values : List ℤ → Result (List ℤ) FieldFault → Result (List ℤ) FieldFault
@@ -16,9 +17,6 @@ regroup : (front : List ℤ) (value : ℤ) (read : Result (List ℤ) FieldFault)
     → with_values front (read >>= λ values. Ok (value ∷ values)) ≡ with_values (front ++ value ∷ []) read
 regroup front value (Ok values) = ap (λ (vs : List ℤ). Ok vs) (sym (append_assoc front (value ∷ []) values))
 regroup front value (Err fault) = refl
-
-some_is : (x y : List ℕ) → Some x ≡ Some y → x ≡ y
-some_is x y e = cc
 
 -- the field at a position, and those after it
 pub rest_at : (fields : Fields) (k : ℕ) (bytes : List ℕ) → field_in fields (k + 1) ≡ Ok bytes → drop k fields ≡ bytes ∷ drop (k + 1) fields

@@ -1,21 +1,32 @@
 //! Reads the text of a scenario: the day, its places and their capacities, its flights with their
 //! legs and costs, and its connections.
 //!
+//! A caller hands over the bytes of a text, and gets its scenario or why there is none:
+//!
+//!     match read_scenario(alloc, &text) {
+//!         Ok(s) => println!("{} flights", s.flights().len()),
+//!         Err(Refusal::Text(fault)) => println!("record {}, field {}", fault.at, fault.field),
+//!         Err(Refusal::OutOfMemory) => println!("out of memory"),
+//!     }
+//!
 //! A text is records of comma-separated fields, one kind of record a line (`day`, `airport`,
 //! `sector`, `cap`, `flight`, `leg`, `connect`, `table`, `cost`, `note`). `scenario_of` in `specs/`
-//! says what a text means: a fold of one step a record over the records that `csv` gives, where each
-//! step checks field by field, so that what it answers is the scenario or the first fault, by record,
-//! then field, then cause. `read_scenario` is proved to answer exactly that (clauses `scenario` and
-//! `fault`). Want of memory is the third answer, of which no clause says when it comes.
+//! says what a text means: a fold of one step a record over the records that `csv` gives, where
+//! each step checks field by field, so that what it answers is the scenario or the first fault, by
+//! record, then field, then cause. `read_scenario` is proved to answer exactly that (clauses
+//! `scenario` and `fault`). Want of memory is the third answer, of which no clause says when it
+//! comes.
 //!
 //! The scenario that is built is known to be valid without a second test: every draft keeps the
 //! rules (`IsValidDraft`), and a network whose destination is reached and that has no dead end is a
-//! route.
+//! route. `texts_that_read_are_valid` says so of the definition alone: whatever `scenario_of` makes
+//! of a text is a valid scenario.
 //!
 //! Memory: the text, the scenario, and as much again as the names and legs of its flights while
-//! they are read; nothing grows with the number or the length of records that add nothing. Time: the
-//! length of the text, a look-up by hash for each name, for each leg the at most 64 legs and 32 nodes
-//! of its flight, for each change of capacities its periods, and for each connection those before it.
+//! they are read; nothing grows with the number or the length of records that add nothing. Time:
+//! the length of the text, a look-up by hash for each name, for each leg the at most 64 legs and 32
+//! nodes of its flight, for each change of capacities its periods, and for each connection those
+//! before it.
 #![tactic(auto)]
 
 ghost use Rattle.std.specs.Prelude.{◌≡◌, ◌≤◌, Ok, Err, IfOk, length};
@@ -32,6 +43,7 @@ mod finish;
 mod flight_draft;
 mod flights;
 mod kind;
+mod laws;
 mod legs;
 mod named_list;
 mod places;
@@ -42,18 +54,20 @@ mod tables;
 
 use crate::reading::scenario_of;
 use flow_types::Scenario;
+pub use laws::texts_that_read_are_valid;
 use std::alloc::Global;
 pub use text_records::Refusal;
 
 /// The scenario of a text of at most 64 MiB, or its first fault: by record, then field, then in the
-/// order of `Cause`. It takes memory for the scenario, for the longest record, and as much again as the
-/// names and legs of its flights while it is read.
+/// order of `Cause`. It takes memory for the scenario, for the longest record, and as much again as
+/// the names and legs of its flights while it is read.
 pub fn read_scenario(alloc: Global, text: &[u8]) -> Result<Scenario, Refusal>
     requires { length text.now ≤ most_text_bytes }
     // What is read is the scenario of the text.
     ensures scenario { IfOk result (λ s. scenario_of text.now ≡ Ok (parts_of s)) }
     // A fault that is told is the text's first.
-    ensures fault { (fault : TheFault) → result ≡ Err (Refusal.Text fault) → scenario_of text.now ≡ Err fault }
+    ensures fault { (fault : TheFault) → result ≡ Err (Refusal.Text fault)
+        → scenario_of text.now ≡ Err fault }
 {
     scenario_of(alloc, text)
 }
