@@ -12,9 +12,11 @@ use Rattle.flow_types.specs.declared.fault.Fault.{Fault}
 use Rattle.flow_types.specs.declared.fault.Cause.TheVariants.{BackLeg}
 use Rattle.flow_types.specs.declared.place.CapKind.TheVariants.{Dep}
 use Rattle.flow_types.specs.Limits.{most_text_bytes}
+use Rattle.flow_types.specs.declared.parts.Parts.{Parts}
 use Rattle.plan_rules.proofs.FirstRules.{first_rule}
 use Rattle.plan_rules.specs.FirstBroken.{first_broken, over}
 use Rattle.plan_text.specs.Plans.{plan_of}
+use Rattle.scenario_reader.proofs.ValidTexts.{text_is}
 use Rattle.scenario_reader.specs.Reading.{scenario_of}
 use Rattle.flow_cli.specs.declared.status.Status.{Status}
 use Rattle.flow_cli.specs.declared.status.Status.TheVariants.{BadPlan, BadScenario, Broken, Done, ReadFault, Usage}
@@ -22,7 +24,7 @@ use Rattle.flow_cli.specs.Answer.{Ends}
 use Rattle.flow_cli.specs.Faults.{fault_text, too_long_text}
 use Rattle.flow_cli.specs.Judging.{IsVerdict}
 use Rattle.flow_cli.specs.Outside.{change}
-use Rattle.flow_cli.specs.Reading.{IsTextOf}
+use Rattle.flow_cli.specs.Reading.{IsDayOf, IsTextOf}
 use Rattle.flow_cli.specs.Words.{usage_text}
 use Rattle.worked_days.specs.Days.{two_flights}
 use Rattle.flow_cli.proofs.WorkedCases.{is_day_of_chains, keeps, on_time, optimal_day, optimal_text}
@@ -67,13 +69,17 @@ module _ (text plan : List ℕ) (few : length text ≤ most_text_bytes) (few_of_
   plan_text : IsTextOf (Some files) plan_name plan
   plan_text = text_held files plan_name plan (get-from_entries nat_list_cmp_total ((day_name, text) ∷ (plan_name, plan) ∷ []) plan_name) few_of_plan
 
+  -- the day of the text, where it reads
+  day_held : (parts : Parts) → scenario_of text ≡ Ok parts → IsDayOf (Some files) day_name parts
+  day_held parts read = record { bytes = text; text = day_text; read = read; valid = text_is text parts read }
+
   -- a day of chains is planned
   run_is_planned : scenario_of text ≡ Ok (two_flights 2 9 9) → EndsOn files plan_words optimal_text Done
   run_is_planned read = inl (record {
     answer = record { text = optimal_text; status = Done };
     of_words = inl (record {
       parts = two_flights 2 9 9;
-      day = record { bytes = text; text = day_text; read = read };
+      day = day_held (two_flights 2 9 9) read;
       chains = is_day_of_chains;
       planned = optimal_day;
     });
@@ -119,7 +125,7 @@ module _ (text plan : List ℕ) (few : length text ≤ most_text_bytes) (few_of_
       answer = record { text = printed; status = status };
       of_words = inl (record {
         parts = two_flights leave 9 9;
-        day = record { bytes = text; text = day_text; read = read };
+        day = day_held (two_flights leave 9 9) read;
         judged = inl (record { bytes = plan; source = plan_text; plan = on_time; read = plan_read; verdict = verdict });
       });
       quiet = λ other. refl;
@@ -154,7 +160,7 @@ module _ (text plan : List ℕ) (few : length text ≤ most_text_bytes) (few_of_
     answer = record { text = codes "refused,11,4,BackLeg\n"; status = BadPlan };
     of_words = inl (record {
       parts = two_flights 1 9 9;
-      day = record { bytes = text; text = day_text; read = read };
+      day = day_held (two_flights 1 9 9) read;
       judged = inr (inl (record { bytes = plan; source = plan_text; fault = fault; read = plan_read; ends = refl; text = sym fault_is_printed }));
     });
     quiet = λ other. refl;

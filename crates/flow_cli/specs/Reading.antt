@@ -4,6 +4,7 @@ use Rattle.flow_outside.specs.Counts.{Rose}
 use Rattle.flow_outside.specs.Held.{Held, Told, HasName}
 use Rattle.flow_outside.specs.Seen.{FilesSeen}
 use Rattle.flow_types.specs.declared.fault.Fault.{Fault}
+use Rattle.flow_types.specs.Valid.{IsScenario}
 use Rattle.flow_types.specs.declared.parts.Parts.{Parts}
 use Rattle.flow_types.specs.Limits.{most_text_bytes}
 use Rattle.scenario_reader.specs.Reading.{scenario_of}
@@ -40,11 +41,12 @@ pub record IsFailed (files : Change FilesSeen) (name : List ℕ) (answer : Print
 abbrev pub IsUnread : Change FilesSeen → List ℕ → Printed → Type 0
 IsUnread files name answer = IsTooMany files.before.held name answer ⊎ IsFailed files name answer
 
--- the name holds the text of this scenario
+-- the name holds the text of this scenario, which is a valid one
 pub record IsDayOf (held : Option Held) (name : List ℕ) (parts : Parts) : Type 0 where
   pub bytes : List ℕ
   pub text : IsTextOf held name bytes
   pub read : scenario_of bytes ≡ Ok parts
+  pub valid : IsScenario parts
 
 -- the name holds a text that is no scenario: what is printed is its first fault
 pub record IsNoDay (held : Option Held) (name : List ℕ) (answer : Printed) : Type 0 where

@@ -1,15 +1,13 @@
 //! Reads the text of a plan, and writes the line of a trip.
 //!
-//! ```text
-//! // The line of the first trip of a text.
-//! fn first_line(alloc: Global, s: &Scenario, text: &[u8]) -> Result<Vec<u8>, Refusal> {
-//!     let plan = read_plan(alloc, s, text)?;
-//!     match plan.items().first() {
-//!         Some(trip) => Ok(trip_line(alloc, s, 0, trip.items())?),
-//!         None => Ok(Vec::new(alloc)),
+//!     // The line of the first trip of a text.
+//!     fn first_line(alloc: Global, s: &Scenario, text: &[u8]) -> Result<Vec<u8>, Refusal> {
+//!         let plan = read_plan(alloc, s, text)?;
+//!         match plan.items().first() {
+//!             Some(trip) => Ok(trip_line(alloc, s, 0, trip.items())?),
+//!             None => Ok(Vec::new(alloc)),
+//!         }
 //!     }
-//! }
-//! ```
 //!
 //! A plan's text is records of comma-separated fields, of which only `trip` says anything: a flight, and
 //! a place and a period for each of its stops. `plan_of` in `specs/` says what a text means: a fold of

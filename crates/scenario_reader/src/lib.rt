@@ -1,16 +1,14 @@
 //! Reads the text of a scenario: the day, its places and their capacities, its flights with their
 //! legs and costs, and its connections.
 //!
-//! ```text
-//! // How many flights the day of a text has, or where the text has its first fault.
-//! fn flights_of(alloc: Global, text: &[u8]) -> Result<usize, Refusal> {
-//!     match read_scenario(alloc, text) {
-//!         Ok(scenario) => Ok(scenario.flights().len()),
-//!         Err(Refusal::Text(fault)) => Err(Refusal::Text(fault)),
-//!         Err(Refusal::OutOfMemory) => Err(Refusal::OutOfMemory),
+//!     // How many flights the day of a text has, or where the text has its first fault.
+//!     fn flights_of(alloc: Global, text: &[u8]) -> Result<usize, Refusal> {
+//!         match read_scenario(alloc, text) {
+//!             Ok(scenario) => Ok(scenario.flights().len()),
+//!             Err(Refusal::Text(fault)) => Err(Refusal::Text(fault)),
+//!             Err(Refusal::OutOfMemory) => Err(Refusal::OutOfMemory),
+//!         }
 //!     }
-//! }
-//! ```
 //!
 //! A text is records of comma-separated fields, one kind of record a line (`day`, `airport`,
 //! `sector`, `cap`, `flight`, `leg`, `connect`, `table`, `cost`, `note`). `scenario_of` in `specs/`

@@ -2,15 +2,13 @@
 //! their positions; and the step by which texts are written. All that reads or writes a text stands
 //! on it.
 //!
-//! ```text
-//! let mut rows = Rows::of_text(alloc, text);
-//! let mut row = ByteRecord::new(alloc);
-//! while rows.next_row(&mut row)? {
-//!     let name = name_in(&row, 2)?;
-//!     let period = number_in(&row, 3, 0, 511)?;
-//!     ends_after(&row, 3)?;
-//! }
-//! ```
+//!     let mut rows = Rows::of_text(alloc, text);
+//!     let mut row = ByteRecord::new(alloc);
+//!     while rows.next_row(&mut row)? {
+//!         let name = name_in(&row, 2)?;
+//!         let period = number_in(&row, 3, 0, 511)?;
+//!         ends_after(&row, 3)?;
+//!     }
 //!
 //! `Rows` are seen as the list of the records that are left, each the list of its fields; the
 //! records of a text are those of `csv`'s definitions, and `csv` reads them. `next_row` fills one
