@@ -50,12 +50,17 @@ abbrev pub earliest_from : Flight → ℕ → ℕ → ℕ → List Stop
 earliest_from flight node time zero = []
 earliest_from flight node time (suc more) =
     record { node = node + 1; time = arrive flight.sa more (time + least_from flight.legs node) }
-    ∷ earliest_from flight (node + 1) (arrive flight.sa more (time + least_from flight.legs node)) more
+    ∷ earliest_from flight (node + 1)
+    (arrive flight.sa more (time + least_from flight.legs node)) more
 
 -- The earliest trip: it departs on schedule, waits nowhere, and arrives no earlier than scheduled.
 abbrev pub earliest_trip : Flight → List Stop
 earliest_trip flight =
-    record { node = 0; time = flight.sd } ∷ earliest_from flight 0 flight.sd (length flight.nodes - 1)
+    record {
+      node = 0;
+      time =
+          flight.sd;
+    } ∷ earliest_from flight 0 flight.sd (length flight.nodes - 1)
 
 abbrev pub earliest_plan : List Flight → List (List Stop)
 earliest_plan flights = map earliest_trip flights
@@ -79,6 +84,8 @@ pair_cost tables flight on_ground delay =
     total_of tables flight.cost delay -ℤ credit_of tables flight.cost on_ground
 
 -- the least cost of a pair
-pub record IsLeastPair (periods : ℕ) (tables : List CostTable) (flight : Flight) (least : ℤ) : Type 0 where
-  pub reached : (g : ℕ) × (d : ℕ) × IsPair periods flight g d × (pair_cost tables flight g d ≡ least)
+pub record IsLeastPair (periods : ℕ) (tables : List CostTable) (flight : Flight)
+    (least : ℤ) : Type 0 where
+  pub reached : (g : ℕ) × (d : ℕ) × IsPair periods flight g d
+      × (pair_cost tables flight g d ≡ least)
   pub below : (g d : ℕ) → IsPair periods flight g d → least ≤ℤ pair_cost tables flight g d

@@ -17,11 +17,13 @@ abbrev pub IsFirstBound : Parts → Bound → Type 0
 IsFirstBound parts NoPlan = Any (λ flight. HasEarliest parts.day.periods flight → ⊥) parts.flights
 IsFirstBound parts (AtLeast least) =
     All (HasEarliest parts.day.periods) parts.flights
-    × ((pairs : List ℤ) × AllZip (IsLeastPair parts.day.periods parts.tables) parts.flights pairs × (least ≡ total (λ pair. pair) pairs))
+    × ((pairs : List ℤ) × AllZip (IsLeastPair parts.day.periods parts.tables) parts.flights pairs
+    × (least ≡ total (λ pair. pair) pairs))
 
 -- the earliest trips where each flight has one and they keep every rule, else no plan
 abbrev pub IsFirstPlan : Parts → Option (List (List Stop)) → Type 0
-IsFirstPlan parts None = All (HasEarliest parts.day.periods) parts.flights → IsFeasible parts (earliest_plan parts.flights) → ⊥
+IsFirstPlan parts None = All (HasEarliest parts.day.periods) parts.flights
+    → IsFeasible parts (earliest_plan parts.flights) → ⊥
 IsFirstPlan parts (Some plan) =
     All (HasEarliest parts.day.periods) parts.flights × (plan ≡ earliest_plan parts.flights)
 

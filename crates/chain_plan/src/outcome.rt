@@ -31,7 +31,8 @@ pub struct Outcome {
 /// loads.
 pub fn plan_chains(alloc: Global, s: &Scenario) -> Result<Outcome, OutOfMemory>
     requires { AreChains (parts_of s.now).flights }
-    ensures kept { IfOk result (λ outcome. IfSome outcome.kept (λ kept. IsCosted (parts_of s.now) kept.plan kept.cost)) }
+    ensures kept { IfOk result
+        (λ outcome. IfSome outcome.kept (λ kept. IsCosted (parts_of s.now) kept.plan kept.cost)) }
     ensures bound { IfOk result (λ outcome. IsBound (parts_of s.now) outcome.bound) }
     ensures first_plan { IfOk result (λ outcome. IsFirstPlan (parts_of s.now) (plan_kept outcome)) }
     ensures first_bound { IfOk result (λ outcome. IsFirstBound (parts_of s.now) outcome.bound) }
@@ -70,8 +71,11 @@ fn first_bound(s: &Scenario) -> Bound
 // The earliest trips, where they keep every rule.
 fn kept_plan(alloc: Global, s: &Scenario) -> Result<Option<Costed>, OutOfMemory>
     requires { All (HasEarliest (parts_of s.now).day.periods) (parts_of s.now).flights }
-    ensures kept { IfOk result (λ o. IfSome o (λ kept. IsCosted (parts_of s.now) kept.plan kept.cost)) }
-    ensures first { IfOk result (λ o. MatchOption o (IsFeasible (parts_of s.now) (earliest_plan (parts_of s.now).flights) → ⊥) (λ kept. kept.plan ≡ earliest_plan (parts_of s.now).flights)) }
+    ensures kept { IfOk result
+        (λ o. IfSome o (λ kept. IsCosted (parts_of s.now) kept.plan kept.cost)) }
+    ensures first { IfOk result
+        (λ o. MatchOption o (IsFeasible (parts_of s.now) (earliest_plan (parts_of s.now).flights)
+        → ⊥) (λ kept. kept.plan ≡ earliest_plan (parts_of s.now).flights)) }
 {
     let plan = earliest_plan(alloc, s)?;
     let mut loads = Loads::new(alloc, s)?;

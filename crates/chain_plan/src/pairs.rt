@@ -48,7 +48,9 @@ fn most_credit(s: &Scenario, number: u32, most: Option<i64>, from: u16, to: u16)
 // The cost of the arrival delay with the best of the ground delays that leave time for it.
 fn candidate(s: &Scenario, number: u32, delay: u16, most: Option<i64>) -> Option<i128>
     requires number { number < length (parts_of s.now).flights }
-    ensures value { MatchOption most (result ≡ None) (λ m. result ≡ Some (total_at (parts_of s.now).tables (flight_at s.now number) delay -ℤ m)) }
+    ensures value { MatchOption most (result ≡ None)
+        (λ m. result ≡ Some (total_at (parts_of s.now).tables
+        (flight_at s.now number) delay -ℤ m)) }
     ensures within { IfSome result (λ r. (neg_ℤ (pos (2 ^ 65)) ≤ℤ r) × (r ≤ℤ pos (2 ^ 65))) }
 {
     match most {
@@ -62,7 +64,8 @@ pub fn least_pair(s: &Scenario, number: u32, flight: &Flight) -> i128
     requires number { number < length (parts_of s.now).flights }
     requires flight { flight_at s.now number ≡ Some flight.now }
     requires has { HasEarliest (parts_of s.now).day.periods flight.now }
-    ensures least { IsLeastPair (parts_of s.now).day.periods (parts_of s.now).tables flight.now result }
+    ensures least { IsLeastPair (parts_of s.now).day.periods
+        (parts_of s.now).tables flight.now result }
     ensures low { neg_ℤ (pos (2 ^ 65)) ≤ℤ result }
     ensures high { result ≤ℤ pos (2 ^ 65) }
 {

@@ -5,18 +5,22 @@ use Rattle.std.proofs.lemmas.List.Sums.{sum_by-cons}
 use Rattle.exact_sums.specs.Sums.{total}
 
 module _ {A : Type 0} where
-  pub total-append : (value : A → ℤ) (xs ys : List A) → total value (xs ++ ys) ≡ total value xs +ℤ total value ys
+  pub total-append : (value : A → ℤ) (xs ys : List A)
+      → total value (xs ++ ys) ≡ total value xs +ℤ total value ys
   total-append value [] ys = omega (arith, ints)
   total-append value (x ∷ xs) ys = omega (arith, ints, total-append value xs ys)
 
-  pub total-push : (value : A → ℤ) (xs : List A) (x : A) → total value (xs ++ x ∷ []) ≡ total value xs +ℤ value x
+  pub total-push : (value : A → ℤ) (xs : List A) (x : A)
+      → total value (xs ++ x ∷ []) ≡ total value xs +ℤ value x
   total-push value xs x = omega (arith, ints, total-append value xs (x ∷ []))
 
-  pub total-both : (f g : A → ℤ) (xs : List A) → total (λ x. f x +ℤ g x) xs ≡ total f xs +ℤ total g xs
+  pub total-both : (f g : A → ℤ) (xs : List A)
+      → total (λ x. f x +ℤ g x) xs ≡ total f xs +ℤ total g xs
   total-both f g [] = refl
   total-both f g (x ∷ xs) = omega (arith, ints, total-both f g xs)
 
-  pub total-natural : (value : A → ℕ) (xs : List A) → total (λ x. pos (value x)) xs ≡ pos (sum_by value xs)
+  pub total-natural : (value : A → ℕ) (xs : List A)
+      → total (λ x. pos (value x)) xs ≡ pos (sum_by value xs)
   total-natural value [] = refl
   total-natural value (x ∷ xs) = omega (arith, ints, total-natural value xs, sum_by-cons value x xs)
 

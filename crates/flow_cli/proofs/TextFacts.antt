@@ -16,33 +16,46 @@ no_flights places [] = refl
 no_flights places (trip ∷ plan) = refl
 
 module _ (places : List Place) (flights : List Flight) (plan : List (List Stop)) (at : ℕ) where
-  pub none_left : min (length flights) (length plan) ≤ at → trips_text places (drop at flights) (drop at plan) ≡ []
+  pub none_left : min (length flights) (length plan) ≤ at
+      → trips_text places (drop at flights) (drop at plan) ≡ []
   none_left past = by_cases (cases_lt at (length plan)) where
-    by_cases : (at < length plan) ⊎ (length plan ≤ at) → trips_text places (drop at flights) (drop at plan) ≡ []
+    by_cases : (at < length plan) ⊎ (length plan ≤ at)
+        → trips_text places (drop at flights) (drop at plan) ≡ []
     by_cases (inr over) = ap (trips_text places (drop at flights)) (drop_of_length-le plan over)
     by_cases (inl within) =
-        ap (λ fs. trips_text places fs (drop at plan)) (drop_of_length-le flights (omega arith)) ∙ no_flights places (drop at plan)
+        ap (λ fs. trips_text places fs (drop at plan)) (drop_of_length-le flights (omega arith))
+        ∙ no_flights places (drop at plan)
 
 -- One line more: what is left after it is what was left before it, without that line.
-module _ (places : List Place) (flights : List Flight) (plan : List (List Stop)) (at : ℕ) (trip : List Stop) (out line new : List ℕ) where
+module _ (places : List Place) (flights : List Flight) (plan : List (List Stop)) (at : ℕ)
+    (trip : List Stop) (out line new : List ℕ) where
   abbrev IsLine : Option Flight → Type 0
   IsLine flight = IfSome flight (λ flight. line ≡ trip_text places flight trip)
 
   abbrev StillWhole : Type 0
-  StillWhole = new ++ trips_text places (drop (at + 1) flights) (drop (at + 1) plan) ≡ out ++ trips_text places (drop at flights) (drop at plan)
+  StillWhole = new ++ trips_text places (drop (at + 1) flights) (drop (at + 1) plan) ≡ out
+      ++ trips_text places (drop at flights) (drop at plan)
 
-  one_of : (flight : Flight) → at < length flights → at < length plan → slice_get flights at ≡ Some flight → get_or flights at flight ≡ flight
+  one_of : (flight : Flight) → at < length flights → at < length plan
+      → slice_get flights at ≡ Some flight → get_or flights at flight ≡ flight
       → trip ≡ get_or plan at trip → IsLine (slice_get flights at) → new ≡ out ++ line → StillWhole
   one_of flight less within here is_flight is_trip is_line put =
       let text : line ≡ trip_text places flight trip = subst IsLine here is_line in
-      let ends : new ≡ out ++ trip_text places flight trip = put ∙ ap (λ (bytes : List ℕ). out ++ bytes) text in
-      let first : drop at flights ≡ flight ∷ drop (suc at) flights = rw is_flight at (drop-cons flights at flight less) in
-      let next : drop at plan ≡ trip ∷ drop (suc at) plan = rw (← is_trip) at (drop-cons plan at trip within) in
-      rw (ends, add-one, first, next) (append_assoc out (trip_text places flight trip) (trips_text places (drop (suc at) flights) (drop (suc at) plan)))
+      let ends : new ≡ out ++ trip_text places flight trip =
+      put ∙ ap (λ (bytes : List ℕ). out ++ bytes) text in
+      let first : drop at flights ≡ flight ∷ drop (suc at) flights =
+      rw is_flight at (drop-cons flights at flight less) in
+      let next : drop at plan ≡ trip ∷ drop (suc at) plan =
+      rw (← is_trip) at (drop-cons plan at trip within) in
+      rw (ends, add-one, first, next)
+      (append_assoc out (trip_text places flight trip)
+      (trips_text places (drop (suc at) flights) (drop (suc at) plan)))
 
-  pub one_more : at < min (length flights) (length plan) → trip ≡ get_or plan at trip → IsLine (slice_get flights at) → new ≡ out ++ line → StillWhole
+  pub one_more : at < min (length flights) (length plan) → trip ≡ get_or plan at trip
+      → IsLine (slice_get flights at) → new ≡ out ++ line → StillWhole
   one_more less is_trip is_line put = by_cases (slice_get_cases flights at).1 where
-    by_cases : ((flight : Flight) × (at < length flights) × (slice_get flights at ≡ Some flight) × (get_or flights at flight ≡ flight))
+    by_cases : ((flight : Flight) × (at < length flights) × (slice_get flights at ≡ Some flight)
+        × (get_or flights at flight ≡ flight))
         ⊎ ((length flights ≤ at) × (slice_get flights at ≡ None)) → StillWhole
     by_cases (inl found) = one_of found.0 found.1 (omega arith) found.2 found.3 is_trip is_line put
     by_cases (inr past) = let over = past.0 in absurd (omega arith)

@@ -38,17 +38,20 @@ abbrev infeasible_text : List ℕ
 infeasible_text = codes "status,infeasible\ncost,none\nbound,none\nnodes,1\n"
 
 -- Both keep the schedule.
-report_of_optimal : report_text (two_flights 2 9 9) (Some on_time) (AtLeast (pos 0)) 1 ≡ optimal_text
+report_of_optimal : report_text (two_flights 2 9 9) (Some on_time) (AtLeast (pos 0)) 1
+    ≡ optimal_text
 unfolding digits
 report_of_optimal = refl
 
 -- One departs a period late, at a cost of 1: the bound 1 makes that optimal, and lesser ones open.
-report_of_late : report_text (two_flights 1 9 9) (Some (plan_with (trip_at 1 3))) (AtLeast (pos 1)) 12
+report_of_late : report_text (two_flights 1 9 9) (Some (plan_with (trip_at 1 3)))
+    (AtLeast (pos 1)) 12
     ≡ codes "status,optimal\ncost,1\nbound,1\nnodes,12\ntrip,F1,ORIG,0,S,0,DEST,2\ntrip,F2,ORIG,1,S,1,DEST,3\n"
 unfolding digits
 report_of_late = refl
 
-report_of_open : report_text (two_flights 1 9 9) (Some (plan_with (trip_at 1 3))) (AtLeast (negsuc 7)) 1
+report_of_open : report_text (two_flights 1 9 9) (Some (plan_with (trip_at 1 3)))
+    (AtLeast (negsuc 7)) 1
     ≡ codes "status,open\ncost,1\nbound,-8\nnodes,1\ntrip,F1,ORIG,0,S,0,DEST,2\ntrip,F2,ORIG,1,S,1,DEST,3\n"
 unfolding digits
 report_of_open = refl
@@ -67,7 +70,8 @@ report_of_infeasible parts = refl
 a_day_to_plan : asked (codes "plan" ∷ codes "day.csv" ∷ []) ≡ Some (Planned (codes "day.csv"))
 a_day_to_plan = refl
 
-a_plan_to_judge : asked (codes "judge" ∷ codes "day.csv" ∷ codes "plan.csv" ∷ []) ≡ Some (Judged (codes "day.csv") (codes "plan.csv"))
+a_plan_to_judge : asked (codes "judge" ∷ codes "day.csv" ∷ codes "plan.csv" ∷ [])
+    ≡ Some (Judged (codes "day.csv") (codes "plan.csv"))
 a_plan_to_judge = refl
 
 no_words : asked [] ≡ None
@@ -100,12 +104,23 @@ an_option_for_a_plan = refl
 -- The plan of the earliest trips keeps every rule where two may leave in a period.
 pub keeps : IsFeasible (two_flights 2 9 9) on_time
 keeps =
-    feasible_is (two_flights 2 9 9) on_time (there_is, (beside_is 0 2 (omega arith) (omega arith) (omega arith), tt)) (All-nil (KeepsTurn on_time)) refl refl refl
+    feasible_is (two_flights 2 9 9) on_time
+    (there_is, (beside_is 0 2 (omega arith) (omega arith) (omega arith), tt))
+    (All-nil (KeepsTurn on_time)) refl refl refl
 
 -- The least pair of each flight costs nothing, so no plan costs less.
 least_of : (name : List ℕ) → IsLeastPair 8 [] (record there { name = name }) (pos 0)
 least_of name = record {
-  reached = (0, 0, record { departs = omega arith; arrives = omega arith; time = omega arith }, refl);
+  reached = (
+    0,
+    0,
+    record {
+      departs = omega arith;
+      arrives = omega arith;
+      time = omega arith;
+    },
+    refl,
+  );
   below = λ g d pair. omega (arith, ints, pair.time);
 }
 
@@ -131,8 +146,10 @@ is_day_of_chains = record {
 module _ (leave : ℕ) (few : leave ≤ most_capacity) where
   no_cheaper : IsBound (two_flights leave 9 9) (AtLeast (pos 0))
   no_cheaper plan feasible =
-      pairs_below (places_with leave 9 9) [] 8 (two_flights leave 9 9).flights plan (pos 0 ∷ pos 0 ∷ [])
-      (two_flights-valid leave 9 9 few (omega arith) (omega arith)).flights are_chains feasible.trips both_least
+      pairs_below (places_with leave 9 9) [] 8 (two_flights leave 9 9).flights plan
+      (pos 0 ∷ pos 0 ∷ [])
+      (two_flights-valid leave 9 9 few (omega arith) (omega arith)).flights are_chains
+      feasible.trips both_least
 
 -- So the day is planned as is printed: the plan is optimal.
 pub optimal_day : IsPlannedDay (two_flights 2 9 9) (record { text = optimal_text; status = Done })
@@ -157,7 +174,8 @@ open_day = record {
   ends = refl;
   feasible = tt;
   below = no_cheaper 1 (omega arith);
-  first_plan = λ has feasible. let both : 2 ≤ 1 = feasible.departures 0 0 refl (omega arith) in absurd (omega (arith, both));
+  first_plan = λ has feasible. let both : 2 ≤ 1 = feasible.departures 0 0 refl (omega arith) in
+      absurd (omega (arith, both));
   first_bound = (both_have, (pos 0 ∷ pos 0 ∷ [], both_least, refl));
 }
 
@@ -169,7 +187,11 @@ abbrev day_too_far : Parts
 day_too_far = record (two_flights 1 9 9) { flights = too_far ∷ [] }
 
 outward : AreEnds 0 1
-outward = record { origin = omega arith; destination = omega arith; apart = λ is. omega (arith, is) }
+outward = record {
+  origin = omega arith;
+  destination = omega arith;
+  apart = λ is. omega (arith, is);
+}
 
 is_flight : IsFlight 8 (places_with 1 9 9) [] too_far
 is_flight = record {
@@ -181,7 +203,8 @@ is_flight = record {
   origin = refl;
   destination = refl;
   apart = λ is. omega (arith, is);
-  route = route_is 1 9 9 (omega arith) (omega arith) (omega arith) (codes "F1") refl 0 1 0 outward (omega arith);
+  route = route_is 1 9 9 (omega arith) (omega arith) (omega arith) (codes "F1") refl 0 1 0 outward
+      (omega arith);
   cost = refl;
 }
 
@@ -195,8 +218,11 @@ infeasible_day = record {
   text = sym (report_of_infeasible day_too_far);
   ends = refl;
   feasible = tt;
-  below = λ plan feasible. none_feasible (places_with 1 9 9) [] 8 (too_far ∷ []) plan (All-cons (IsFlight 8 (places_with 1 9 9) []) too_far [] is_flight (All-nil (IsFlight 8 (places_with 1 9 9) [])))
-      (All-cons (λ (flight : Flight). IsChain flight.legs) too_far [] one_way_on (All-nil (λ (flight : Flight). IsChain flight.legs))) feasible.trips late;
+  below = λ plan feasible. none_feasible (places_with 1 9 9) [] 8 (too_far ∷ []) plan
+      (All-cons (IsFlight 8 (places_with 1 9 9) []) too_far [] is_flight
+      (All-nil (IsFlight 8 (places_with 1 9 9) [])))
+      (All-cons (λ (flight : Flight). IsChain flight.legs) too_far [] one_way_on
+      (All-nil (λ (flight : Flight). IsChain flight.legs))) feasible.trips late;
   first_plan = λ has feasible. absurd (too_late (has 0 too_far (omega arith)));
   first_bound = late;
 } where

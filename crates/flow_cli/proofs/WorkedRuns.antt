@@ -33,7 +33,8 @@ one_value : {A : Type 0} {x y : A} → Some x ≡ Some y → x ≡ y
 one_value is = cc
 
 -- what is held under a name is its text
-text_held : (held : Held) (name text : List ℕ) → get held name ≡ Some text → length text ≤ most_text_bytes → IsTextOf (Some held) name text
+text_held : (held : Held) (name text : List ℕ) → get held name ≡ Some text
+    → length text ≤ most_text_bytes → IsTextOf (Some held) name text
 text_held held name text holds few = record {
   present = subst IsSome (sym holds) refl;
   source = λ told is. one_value (sym holds ∙ is);
@@ -45,7 +46,8 @@ abbrev EndsOn : Held → List (List ℕ) → List ℕ → Status → Type 0
 EndsOn held words text status =
     let files : FilesSeen = record { held = Some held; faults = 0; store_faults = 0 } in
     let empty : SinkSeen = record { written = Some []; faults = 0 } in
-    Ends (change files files) (change empty (record { written = Some text; faults = 0 })) words status
+    Ends (change files files)
+    (change empty (record { written = Some text; faults = 0 })) words status
 
 abbrev day_name : List ℕ
 day_name = codes "day.csv"
@@ -59,22 +61,28 @@ plan_words = codes "plan" ∷ day_name ∷ []
 abbrev judge_words : List (List ℕ)
 judge_words = codes "judge" ∷ day_name ∷ plan_name ∷ []
 
-module _ (text plan : List ℕ) (few : length text ≤ most_text_bytes) (few_of_plan : length plan ≤ most_text_bytes) where
+module _ (text plan : List ℕ) (few : length text ≤ most_text_bytes)
+    (few_of_plan : length plan ≤ most_text_bytes) where
   abbrev files : Held
   files = from_entries ((day_name, text) ∷ (plan_name, plan) ∷ [])
 
   day_text : IsTextOf (Some files) day_name text
-  day_text = text_held files day_name text (get-from_entries nat_list_cmp_total ((day_name, text) ∷ (plan_name, plan) ∷ []) day_name) few
+  day_text = text_held files day_name text
+      (get-from_entries nat_list_cmp_total ((day_name, text) ∷ (plan_name, plan) ∷ []) day_name) few
 
   plan_text : IsTextOf (Some files) plan_name plan
-  plan_text = text_held files plan_name plan (get-from_entries nat_list_cmp_total ((day_name, text) ∷ (plan_name, plan) ∷ []) plan_name) few_of_plan
+  plan_text = text_held files plan_name plan
+      (get-from_entries nat_list_cmp_total ((day_name, text) ∷ (plan_name, plan) ∷ []) plan_name)
+      few_of_plan
 
   -- the day of the text, where it reads
   day_held : (parts : Parts) → scenario_of text ≡ Ok parts → IsDayOf (Some files) day_name parts
-  day_held parts read = record { bytes = text; text = day_text; read = read; valid = text_is text parts read }
+  day_held parts read =
+      record { bytes = text; text = day_text; read = read; valid = text_is text parts read }
 
   -- a day of chains is planned
-  run_is_planned : scenario_of text ≡ Ok (two_flights 2 9 9) → EndsOn files plan_words optimal_text Done
+  run_is_planned : scenario_of text ≡ Ok (two_flights 2 9 9)
+      → EndsOn files plan_words optimal_text Done
   run_is_planned read = inl (record {
     answer = record { text = optimal_text; status = Done };
     of_words = inl (record {
@@ -97,20 +105,36 @@ module _ (text plan : List ℕ) (few : length text ≤ most_text_bytes) (few_of_
   unfolding digits
   fault_is_printed = refl
 
-  plan_is_refused : scenario_of text ≡ Err fault → EndsOn files plan_words (codes "refused,11,4,BackLeg\n") BadScenario
+  plan_is_refused : scenario_of text ≡ Err fault
+      → EndsOn files plan_words (codes "refused,11,4,BackLeg\n") BadScenario
   plan_is_refused read = inl (record {
     answer = record { text = codes "refused,11,4,BackLeg\n"; status = BadScenario };
-    of_words = inr (inr (inl (record { bytes = text; source = day_text; fault = fault; read = read; ends = refl; text = sym fault_is_printed })));
+    of_words = inr (inr (inl (record {
+      bytes = text;
+      source = day_text;
+      fault = fault;
+      read = read;
+      ends = refl;
+      text = sym fault_is_printed;
+    })));
     quiet = λ other. refl;
     ends = refl;
     whole = refl;
     unfailed = refl;
   })
 
-  judge_is_refused : scenario_of text ≡ Err fault → EndsOn files judge_words (codes "refused,11,4,BackLeg\n") BadScenario
+  judge_is_refused : scenario_of text ≡ Err fault
+      → EndsOn files judge_words (codes "refused,11,4,BackLeg\n") BadScenario
   judge_is_refused read = inl (record {
     answer = record { text = codes "refused,11,4,BackLeg\n"; status = BadScenario };
-    of_words = inr (inl (record { bytes = text; source = day_text; fault = fault; read = read; ends = refl; text = sym fault_is_printed }));
+    of_words = inr (inl (record {
+      bytes = text;
+      source = day_text;
+      fault = fault;
+      read = read;
+      ends = refl;
+      text = sym fault_is_printed;
+    }));
     quiet = λ other. refl;
     ends = refl;
     whole = refl;
@@ -119,14 +143,22 @@ module _ (text plan : List ℕ) (few : length text ≤ most_text_bytes) (few_of_
 
   -- a plan that keeps every rule, and the same plan where one may leave in a period
   module _ (leave : ℕ) (read : scenario_of text ≡ Ok (two_flights leave 9 9)) where
-    judged : (printed : List ℕ) (status : Status) → plan_of (two_flights leave 9 9) plan ≡ Ok on_time → IsVerdict (two_flights leave 9 9) on_time (record { text = printed; status = status })
+    judged : (printed : List ℕ) (status : Status)
+        → plan_of (two_flights leave 9 9) plan ≡ Ok on_time
+        → IsVerdict (two_flights leave 9 9) on_time (record { text = printed; status = status })
         → EndsOn files judge_words printed status
     judged printed status plan_read verdict = inl (record {
       answer = record { text = printed; status = status };
       of_words = inl (record {
         parts = two_flights leave 9 9;
         day = day_held (two_flights leave 9 9) read;
-        judged = inl (record { bytes = plan; source = plan_text; plan = on_time; read = plan_read; verdict = verdict });
+        judged = inl (record {
+          bytes = plan;
+          source = plan_text;
+          plan = on_time;
+          read = plan_read;
+          verdict = verdict;
+        });
       });
       quiet = λ other. refl;
       ends = refl;
@@ -134,34 +166,47 @@ module _ (text plan : List ℕ) (few : length text ≤ most_text_bytes) (few_of_
       unfailed = refl;
     })
 
-  run_is_kept : scenario_of text ≡ Ok (two_flights 2 9 9) → plan_of (two_flights 2 9 9) plan ≡ Ok on_time
+  run_is_kept : scenario_of text ≡ Ok (two_flights 2 9 9)
+      → plan_of (two_flights 2 9 9) plan ≡ Ok on_time
       → EndsOn files judge_words (codes "keeps,0\n") Done
   unfolding digits
-  run_is_kept read plan_read = judged 2 read (codes "keeps,0\n") Done plan_read (inl (record { feasible = keeps; ends = refl; text = refl }))
+  run_is_kept read plan_read =
+      judged 2 read (codes "keeps,0\n") Done plan_read
+      (inl (record { feasible = keeps; ends = refl; text = refl }))
 
   first_is_departures : first_broken (two_flights 1 9 9) on_time ≡ Some (over Dep 0 0 2 1)
   first_is_departures = refl
 
-  run_is_broken : scenario_of text ≡ Ok (two_flights 1 9 9) → plan_of (two_flights 1 9 9) plan ≡ Ok on_time
+  run_is_broken : scenario_of text ≡ Ok (two_flights 1 9 9)
+      → plan_of (two_flights 1 9 9) plan ≡ Ok on_time
       → EndsOn files judge_words (codes "broken,departures,ORIG,0,2,1\n") Broken
   unfolding digits
-  run_is_broken read plan_read = judged 1 read (codes "broken,departures,ORIG,0,2,1\n") Broken plan_read (inr (record {
-    rule = over Dep 0 0 2 1;
-    first = first_is_departures;
-    broken = first_rule (two_flights 1 9 9) on_time (over Dep 0 0 2 1) first_is_departures;
-    ends = refl;
-    text = refl;
-  }))
+  run_is_broken read plan_read =
+      judged 1 read (codes "broken,departures,ORIG,0,2,1\n") Broken plan_read (inr (record {
+        rule = over Dep 0 0 2 1;
+        first = first_is_departures;
+        broken = first_rule (two_flights 1 9 9) on_time (over Dep 0 0 2 1) first_is_departures;
+        ends = refl;
+        text = refl;
+      }))
 
   -- a text that is no plan of the day
-  no_plan_of : scenario_of text ≡ Ok (two_flights 1 9 9) → plan_of (two_flights 1 9 9) plan ≡ Err fault
+  no_plan_of : scenario_of text ≡ Ok (two_flights 1 9 9)
+      → plan_of (two_flights 1 9 9) plan ≡ Err fault
       → EndsOn files judge_words (codes "refused,11,4,BackLeg\n") BadPlan
   no_plan_of read plan_read = inl (record {
     answer = record { text = codes "refused,11,4,BackLeg\n"; status = BadPlan };
     of_words = inl (record {
       parts = two_flights 1 9 9;
       day = day_held (two_flights 1 9 9) read;
-      judged = inr (inl (record { bytes = plan; source = plan_text; fault = fault; read = plan_read; ends = refl; text = sym fault_is_printed }));
+      judged = inr (inl (record {
+        bytes = plan;
+        source = plan_text;
+        fault = fault;
+        read = plan_read;
+        ends = refl;
+        text = sym fault_is_printed;
+      }));
     });
     quiet = λ other. refl;
     ends = refl;
@@ -176,7 +221,13 @@ no_files = from_entries []
 run_is_fault : EndsOn no_files plan_words (codes "fault,read\n") ReadFault
 run_is_fault = inl (record {
   answer = record { text = codes "fault,read\n"; status = ReadFault };
-  of_words = inr (inr (inr (inr (record { ends = refl; failed = λ has. absurd (false≢true (subst IsSome (get-from_entries nat_list_cmp_total [] day_name) has)); text = refl }))));
+  of_words = inr (inr (inr
+      (inr (record {
+        ends = refl;
+        failed = λ has. absurd
+            (false≢true (subst IsSome (get-from_entries nat_list_cmp_total [] day_name) has));
+        text = refl;
+      }))));
   quiet = λ other. refl;
   ends = refl;
   whole = refl;

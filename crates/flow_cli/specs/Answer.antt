@@ -23,7 +23,8 @@ IsAnswer files (Some (Planned name)) answer = IsOfPlan files name answer
 IsAnswer files (Some (Judged name plan)) answer = IsOfJudge files name plan answer
 
 -- the whole answer is written
-pub record IsWritten (files : Change FilesSeen) (out : Change SinkSeen) (words : List (List ℕ)) (status : Status) : Type 0 where
+pub record IsWritten (files : Change FilesSeen) (out : Change SinkSeen) (words : List (List ℕ))
+    (status : Status) : Type 0 where
   pub answer : Printed
   pub of_words : IsAnswer files (asked words) answer
   pub quiet : IsQuiet files answer
@@ -32,7 +33,8 @@ pub record IsWritten (files : Change FilesSeen) (out : Change SinkSeen) (words :
   pub unfailed : out.now.faults ≡ out.before.faults
 
 -- the answer is written in part
-pub record IsCutShort (files : Change FilesSeen) (out : Change SinkSeen) (words : List (List ℕ)) (status : Status) : Type 0 where
+pub record IsCutShort (files : Change FilesSeen) (out : Change SinkSeen) (words : List (List ℕ))
+    (status : Status) : Type 0 where
   pub answer : Printed
   pub of_words : IsAnswer files (asked words) answer
   pub quiet : IsQuiet files answer

@@ -14,7 +14,8 @@ words_given (Ok args) = map string_bytes (drop 1 (into_iter_items args))
 words_given (Err error) = []
 
 -- the number is that of the status of a run with these words
-pub record ExitsWith (files : Change FilesSeen) (out : Change SinkSeen) (words : List (List ℕ)) (number : ℕ) : Type 0 where
+pub record ExitsWith (files : Change FilesSeen) (out : Change SinkSeen) (words : List (List ℕ))
+    (number : ℕ) : Type 0 where
   pub status : Status
   pub ends : Ends files out words status
   pub is_number : number ≡ number_of status

@@ -30,7 +30,9 @@ cause_word DeadEnd = codes "DeadEnd"
 -- the fault of a text: the number of its record, that of the field, and the cause
 abbrev pub fault_text : Fault → List ℕ
 fault_text fault =
-    codes "refused" ++ (field_text (decimal fault.at) ++ (field_text (decimal fault.field) ++ (field_text (cause_word fault.cause) ++ codes "\n")))
+    codes "refused" ++ (field_text (decimal fault.at)
+    ++ (field_text (decimal fault.field)
+    ++ (field_text (cause_word fault.cause) ++ codes "\n")))
 
 -- the size of a text that is too long
 abbrev pub too_long_text : ℕ → List ℕ

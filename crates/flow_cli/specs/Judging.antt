@@ -25,7 +25,8 @@ pub record TellsCost (parts : Parts) (plan : List (List Stop)) (answer : Printed
 
 -- The plan breaks a rule: the first one is printed. It is broken with the values that are printed,
 -- and each rule before it is kept.
-pub record TellsBrokenRule (parts : Parts) (plan : List (List Stop)) (answer : Printed) : Type 0 where
+pub record TellsBrokenRule (parts : Parts) (plan : List (List Stop))
+    (answer : Printed) : Type 0 where
   pub rule : Rule
   pub first : first_broken parts plan ≡ Some rule
   pub broken : IsFirstBroken parts plan rule
@@ -36,7 +37,8 @@ abbrev pub IsVerdict : Parts → List (List Stop) → Printed → Type 0
 IsVerdict parts plan answer = TellsCost parts plan answer ⊎ TellsBrokenRule parts plan answer
 
 -- the name holds the text of a plan, which is judged
-pub record IsJudgedPlan (held : Option Held) (parts : Parts) (name : List ℕ) (answer : Printed) : Type 0 where
+pub record IsJudgedPlan (held : Option Held) (parts : Parts) (name : List ℕ)
+    (answer : Printed) : Type 0 where
   pub bytes : List ℕ
   pub source : IsTextOf held name bytes
   pub plan : List (List Stop)
@@ -44,7 +46,8 @@ pub record IsJudgedPlan (held : Option Held) (parts : Parts) (name : List ℕ) (
   pub verdict : IsVerdict parts plan answer
 
 -- the name holds a text that is no plan of the day: what is printed is its first fault
-pub record IsNoPlan (held : Option Held) (parts : Parts) (name : List ℕ) (answer : Printed) : Type 0 where
+pub record IsNoPlan (held : Option Held) (parts : Parts) (name : List ℕ)
+    (answer : Printed) : Type 0 where
   pub bytes : List ℕ
   pub source : IsTextOf held name bytes
   pub fault : Fault
@@ -55,14 +58,17 @@ pub record IsNoPlan (held : Option Held) (parts : Parts) (name : List ℕ) (answ
 -- the answer where the plan of a day that was read is to be judged
 abbrev pub IsOfPlanOf : Parts → Change FilesSeen → List ℕ → Printed → Type 0
 IsOfPlanOf parts files name answer =
-    IsJudgedPlan files.before.held parts name answer ⊎ (IsNoPlan files.before.held parts name answer ⊎ IsUnread files name answer)
+    IsJudgedPlan files.before.held parts name answer
+    ⊎ (IsNoPlan files.before.held parts name answer ⊎ IsUnread files name answer)
 
 -- the first name holds a day, and the answer is that to the plan of the second
-pub record IsJudged (files : Change FilesSeen) (name plan_name : List ℕ) (answer : Printed) : Type 0 where
+pub record IsJudged (files : Change FilesSeen) (name plan_name : List ℕ)
+    (answer : Printed) : Type 0 where
   pub parts : Parts
   pub day : IsDayOf files.before.held name parts
   pub judged : IsOfPlanOf parts files plan_name answer
 
 -- the answer where the plan of the second name is to be judged by the day of the first
 abbrev pub IsOfJudge : Change FilesSeen → List ℕ → List ℕ → Printed → Type 0
-IsOfJudge files name plan_name answer = IsJudged files name plan_name answer ⊎ IsWithoutDay files name answer
+IsOfJudge files name plan_name answer = IsJudged files name plan_name answer
+    ⊎ IsWithoutDay files name answer

@@ -22,7 +22,8 @@ pub record IsPlannedDay (parts : Parts) (answer : Printed) : Type 0 where
   pub plan : Option (List (List Stop))
   pub bound : Bound
   pub text : answer.text ≡ report_text parts plan bound 1
-  pub ends : answer.status ≡ status_of (option_map (plan_cost parts.tables parts.flights) plan) bound
+  pub ends : answer.status
+      ≡ status_of (option_map (plan_cost parts.tables parts.flights) plan) bound
   pub feasible : IfSome plan (IsFeasible parts)
   pub below : IsBound parts bound
   pub first_plan : IsFirstPlan parts plan
@@ -46,4 +47,5 @@ pub record IsNotYet (held : Option Held) (name : List ℕ) (answer : Printed) : 
 -- the answer where the day of a name is to be planned
 abbrev pub IsOfPlan : Change FilesSeen → List ℕ → Printed → Type 0
 IsOfPlan files name answer =
-    IsPlanned files.before.held name answer ⊎ (IsNotYet files.before.held name answer ⊎ IsWithoutDay files name answer)
+    IsPlanned files.before.held name answer
+    ⊎ (IsNotYet files.before.held name answer ⊎ IsWithoutDay files name answer)

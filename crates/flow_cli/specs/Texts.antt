@@ -42,7 +42,8 @@ claim_text cost bound nodes =
 abbrev pub trips_text : List Place → List Flight → List (List Stop) → List ℕ
 trips_text places flights [] = []
 trips_text places [] (trip ∷ plan) = []
-trips_text places (flight ∷ flights) (trip ∷ plan) = trip_text places flight trip ++ trips_text places flights plan
+trips_text places (flight ∷ flights) (trip ∷ plan) =
+    trip_text places flight trip ++ trips_text places flights plan
 
 abbrev pub plan_text : Parts → Option (List (List Stop)) → List ℕ
 plan_text parts None = []

@@ -44,7 +44,8 @@ time_of_stop (Some stop) = stop.time
 -- the period in which it enters that
 abbrev pub stop_field : Parts → List (List Stop) → ℕ → ℕ → List ℕ
 stop_field parts plan position stop =
-    place_field parts (place_of_stop (slice_get parts.flights position) (stop_at plan position stop))
+    place_field parts (place_of_stop (slice_get parts.flights position)
+    (stop_at plan position stop))
 
 abbrev pub time_field : List (List Stop) → ℕ → ℕ → List ℕ
 time_field plan position stop = field_text (decimal (time_of_stop (stop_at plan position stop)))
@@ -54,29 +55,40 @@ abbrev pub turn_fields : Parts → Option Connection → ℕ → ℕ → List �
 turn_fields parts None arrives leaves = []
 turn_fields parts (Some connection) arrives leaves =
     flight_field parts connection.first ++ (flight_field parts connection.second
-    ++ (field_text (decimal arrives) ++ (field_text (decimal leaves) ++ field_text (decimal connection.turnaround))))
+    ++ (field_text (decimal arrives)
+    ++ (field_text (decimal leaves) ++ field_text (decimal connection.turnaround))))
 
 -- the fields of a capacity that is passed
 abbrev pub over_fields : Parts → Overload → List ℕ
 over_fields parts over =
     place_field parts over.place
-    ++ (field_text (decimal over.period) ++ (field_text (decimal over.load) ++ field_text (decimal over.capacity)))
+    ++ (field_text (decimal over.period)
+    ++ (field_text (decimal over.load) ++ field_text (decimal over.capacity)))
 
 -- the fields that say which rule is broken, and where
 abbrev pub broken_fields : Parts → List (List Stop) → Broken → List ℕ
-broken_fields parts plan (broken.Trips got need) = field_text (codes "trips") ++ (field_text (decimal got) ++ field_text (decimal need))
-broken_fields parts plan (broken.Start flight) = field_text (codes "start") ++ flight_field parts flight
+broken_fields parts plan (broken.Trips got need) =
+    field_text (codes "trips") ++ (field_text (decimal got) ++ field_text (decimal need))
+broken_fields parts plan (broken.Start flight) =
+    field_text (codes "start") ++ flight_field parts flight
 broken_fields parts plan (broken.Window flight stop) =
-    field_text (codes "window") ++ (flight_field parts flight ++ (stop_field parts plan flight stop ++ time_field plan flight stop))
+    field_text (codes "window")
+    ++ (flight_field parts flight
+    ++ (stop_field parts plan flight stop ++ time_field plan flight stop))
 broken_fields parts plan (broken.NoLeg flight stop) =
-    field_text (codes "noleg") ++ (flight_field parts flight ++ (stop_field parts plan flight stop ++ stop_field parts plan flight (stop + 1)))
+    field_text (codes "noleg")
+    ++ (flight_field parts flight
+    ++ (stop_field parts plan flight stop ++ stop_field parts plan flight (stop + 1)))
 broken_fields parts plan (broken.Least flight stop least) =
     field_text (codes "least") ++ (flight_field parts flight
     ++ (stop_field parts plan flight stop ++ (time_field plan flight stop
-    ++ (stop_field parts plan flight (stop + 1) ++ (time_field plan flight (stop + 1) ++ field_text (decimal least))))))
-broken_fields parts plan (broken.Ending flight) = field_text (codes "ending") ++ flight_field parts flight
+    ++ (stop_field parts plan flight (stop + 1)
+    ++ (time_field plan flight (stop + 1) ++ field_text (decimal least))))))
+broken_fields parts plan (broken.Ending flight) =
+    field_text (codes "ending") ++ flight_field parts flight
 broken_fields parts plan (broken.Turn connection arrives leaves) =
-    field_text (codes "turn") ++ turn_fields parts (slice_get parts.connections connection) arrives leaves
+    field_text (codes "turn")
+    ++ turn_fields parts (slice_get parts.connections connection) arrives leaves
 broken_fields parts plan (broken.Departures over) =
     field_text (codes "departures") ++ over_fields parts over
 broken_fields parts plan (broken.Arrivals over) =

@@ -19,7 +19,8 @@ abbrev pub asked : List (List ℕ) → Option Asked
 asked (command ∷ name ∷ []) =
     if bytes_eq command (codes "plan") && is_word_for_name name then Some (Planned name) else None
 asked (command ∷ name ∷ plan ∷ []) =
-    if bytes_eq command (codes "judge") && is_word_for_name name && is_word_for_name plan then Some (Judged name plan) else None
+    if bytes_eq command (codes "judge") && is_word_for_name name
+    && is_word_for_name plan then Some (Judged name plan) else None
 asked words = None
 
 -- what a command asks for

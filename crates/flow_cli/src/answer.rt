@@ -15,7 +15,8 @@ pub struct Answer {
 impl Answer {
     /// The answer of this text.
     pub fn of(alloc: Global, text: &[u8], status: Status) -> Result<Self, OutOfMemory>
-        ensures { IfOk result (λ answer. (answer.text.items ≡ text.now) × (answer.status ≡ status)) }
+        ensures { IfOk result (λ answer. (answer.text.items ≡ text.now)
+            × (answer.status ≡ status)) }
     {
         Ok(Answer {
             text: Vec::from_slice(alloc, text)?,

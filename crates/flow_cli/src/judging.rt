@@ -26,7 +26,8 @@ pub fn judge_named<F: Files>(
     name: &str,
     plan: &str,
 ) -> Result<Answer, EarlyEnd>
-    ensures answered { IfAnswered result (IsOfJudge (change (F.seen files.old) (F.seen files.new)) name.now plan.now) }
+    ensures answered { IfAnswered result
+        (IsOfJudge (change (F.seen files.old) (F.seen files.new)) name.now plan.now) }
     ensures quiet { IfAnswered result (IsQuiet (change (F.seen files.old) (F.seen files.new))) }
     ensures kept { AreKept (F.seen files.old) (F.seen files.new) }
 {
@@ -41,7 +42,8 @@ fn judge_of<F: Files>(
     files: &mut F,
     name: &str,
 ) -> Result<Answer, EarlyEnd>
-    ensures answered { IfAnswered result (IsOfPlanOf (parts_of s.now) (change (F.seen files.old) (F.seen files.new)) name.now) }
+    ensures answered { IfAnswered result
+        (IsOfPlanOf (parts_of s.now) (change (F.seen files.old) (F.seen files.new)) name.now) }
     ensures quiet { IfAnswered result (IsQuiet (change (F.seen files.old) (F.seen files.new))) }
     ensures kept { AreKept (F.seen files.old) (F.seen files.new) }
 {

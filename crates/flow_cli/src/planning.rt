@@ -19,7 +19,8 @@ use std::alloc::Global;
 
 /// The answer where the day of a name is to be planned. A day that isn't one of chains is refused.
 pub fn plan_named<F: Files>(alloc: Global, files: &mut F, name: &str) -> Result<Answer, EarlyEnd>
-    ensures answered { IfAnswered result (IsOfPlan (change (F.seen files.old) (F.seen files.new)) name.now) }
+    ensures answered { IfAnswered result
+        (IsOfPlan (change (F.seen files.old) (F.seen files.new)) name.now) }
     ensures quiet { IfAnswered result (IsQuiet (change (F.seen files.old) (F.seen files.new))) }
     ensures kept { AreKept (F.seen files.old) (F.seen files.new) }
 {

@@ -17,7 +17,8 @@ use std::alloc::Global;
 /// The text under the name, or the answer that says why it isn't read.
 pub fn text_of<F: Files>(alloc: Global, files: &mut F, name: &str) -> Result<Vec<u8>, EarlyEnd>
     ensures text { IfOk result (λ text. IsTextOf (F.seen files.old).held name.now text.items) }
-    ensures unread { IfEarly result (IsUnread (change (F.seen files.old) (F.seen files.new)) name.now) }
+    ensures unread { IfEarly result
+        (IsUnread (change (F.seen files.old) (F.seen files.new)) name.now) }
     ensures quiet { IfEarly result (IsQuiet (change (F.seen files.old) (F.seen files.new))) }
     ensures unfailed { OnOk result ((F.seen files.new).faults ≡ (F.seen files.old).faults) }
     ensures kept { AreKept (F.seen files.old) (F.seen files.new) }
@@ -40,7 +41,8 @@ pub fn text_of<F: Files>(alloc: Global, files: &mut F, name: &str) -> Result<Vec
 /// The scenario of the text under the name, or the answer that says why there is none.
 pub fn day_of<F: Files>(alloc: Global, files: &mut F, name: &str) -> Result<Scenario, EarlyEnd>
     ensures day { IfOk result (λ s. IsDayOf (F.seen files.old).held name.now (parts_of s)) }
-    ensures without { IfEarly result (IsWithoutDay (change (F.seen files.old) (F.seen files.new)) name.now) }
+    ensures without { IfEarly result
+        (IsWithoutDay (change (F.seen files.old) (F.seen files.new)) name.now) }
     ensures quiet { IfEarly result (IsQuiet (change (F.seen files.old) (F.seen files.new))) }
     ensures unfailed { OnOk result ((F.seen files.new).faults ≡ (F.seen files.old).faults) }
     ensures kept { AreKept (F.seen files.old) (F.seen files.new) }

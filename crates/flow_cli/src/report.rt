@@ -48,14 +48,16 @@ fn status_word(status: Status) -> &'static [u8]
 
 // Adds the line of the status.
 fn put_status(out: &mut Vec<u8>, status: Status) -> Result<(), OutOfMemory>
-    ensures { OnOk result (out.new.items ≡ out.old.items ++ line_text (codes "status,") (status_word status)) }
+    ensures { OnOk result
+        (out.new.items ≡ out.old.items ++ line_text (codes "status,") (status_word status)) }
 {
     put_line(out, b"status,", status_word(status))
 }
 
 // Adds the line of the cost.
 fn put_cost(alloc: Global, out: &mut Vec<u8>, cost: Option<i64>) -> Result<(), OutOfMemory>
-    ensures { OnOk result (out.new.items ≡ out.old.items ++ line_text (codes "cost,") (cost_word cost)) }
+    ensures { OnOk result
+        (out.new.items ≡ out.old.items ++ line_text (codes "cost,") (cost_word cost)) }
 {
     match cost {
         None => put_line(out, b"cost,", b"none"),
@@ -65,7 +67,8 @@ fn put_cost(alloc: Global, out: &mut Vec<u8>, cost: Option<i64>) -> Result<(), O
 
 // Adds the line of the bound.
 fn put_bound(alloc: Global, out: &mut Vec<u8>, bound: Bound) -> Result<(), OutOfMemory>
-    ensures { OnOk result (out.new.items ≡ out.old.items ++ line_text (codes "bound,") (bound_word bound)) }
+    ensures { OnOk result
+        (out.new.items ≡ out.old.items ++ line_text (codes "bound,") (bound_word bound)) }
 {
     match bound {
         Bound::NoPlan => put_line(out, b"bound,", b"none"),
@@ -75,7 +78,8 @@ fn put_bound(alloc: Global, out: &mut Vec<u8>, bound: Bound) -> Result<(), OutOf
 
 // Adds the line of the nodes.
 fn put_nodes(alloc: Global, out: &mut Vec<u8>, nodes: u64) -> Result<(), OutOfMemory>
-    ensures { OnOk result (out.new.items ≡ out.old.items ++ line_text (codes "nodes,") (decimal nodes)) }
+    ensures { OnOk result
+        (out.new.items ≡ out.old.items ++ line_text (codes "nodes,") (decimal nodes)) }
 {
     put_line(out, b"nodes,", nodes.to_string(alloc)?.as_bytes())
 }
@@ -103,7 +107,9 @@ fn put_trips(
     s: &Scenario,
     trips: &[Trip],
 ) -> Result<(), OutOfMemory>
-    ensures { OnOk result (out.new.items ≡ out.old.items ++ trips_text (parts_of s.now).places (parts_of s.now).flights trips.now) }
+    ensures { OnOk result
+        (out.new.items ≡ out.old.items
+        ++ trips_text (parts_of s.now).places (parts_of s.now).flights trips.now) }
 {
     for at in 0..s.flights().len().min(trips.len()) {
         put(out, &trip_line(alloc, s, at as u32, trips[at].items())?)?;
@@ -130,7 +136,9 @@ pub fn plan_report(
     nodes: u64,
 ) -> Result<Vec<u8>, OutOfMemory>
     requires { IfSome outcome.now.kept (λ kept. IsCosted (parts_of s.now) kept.plan kept.cost) }
-    ensures { IfOk result (λ text. text.items ≡ report_text (parts_of s.now) (plan_kept outcome.now) outcome.now.bound nodes) }
+    ensures { IfOk result
+        (λ text. text.items ≡ report_text (parts_of s.now)
+        (plan_kept outcome.now) outcome.now.bound nodes) }
 {
     let mut out = Vec::new(alloc);
     match &outcome.kept {

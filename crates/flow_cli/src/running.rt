@@ -42,7 +42,8 @@ pub fn run<F: Files, S: Sink>(alloc: Global, words: &[String], files: &mut F, ou
     ensures answered { Ends (change (F.seen files.old) (F.seen files.new))
         (change (S.seen out.old) (S.seen out.new)) (map string_bytes words.now) result }
     // WriteFault comes only where the output failed.
-    ensures write_fault { result ≡ Status.WriteFault → Rose (S.seen out.old).faults (S.seen out.new).faults }
+    ensures write_fault { result ≡ Status.WriteFault
+        → Rose (S.seen out.old).faults (S.seen out.new).faults }
     ensures kept { AreKept (F.seen files.old) (F.seen files.new) }
     ensures write_counts { (S.seen out.old).faults ≤ (S.seen out.new).faults }
 {
@@ -61,9 +62,11 @@ fn answer_to<F: Files>(
     words: &[String],
     files: &mut F,
 ) -> Result<Answer, OutOfMemory>
-    ensures answered { IfOk result (λ answer. IsAnswer (change (F.seen files.old) (F.seen files.new))
+    ensures answered { IfOk result
+        (λ answer. IsAnswer (change (F.seen files.old) (F.seen files.new))
         (asked (map string_bytes words.now)) (printed_by answer)) }
-    ensures quiet { IfOk result (λ answer. IsQuiet (change (F.seen files.old) (F.seen files.new)) (printed_by answer)) }
+    ensures quiet { IfOk result
+        (λ answer. IsQuiet (change (F.seen files.old) (F.seen files.new)) (printed_by answer)) }
     ensures kept { AreKept (F.seen files.old) (F.seen files.new) }
 {
     match work(alloc, words, files) {

@@ -46,7 +46,8 @@ fn put_broken(
     plan: &Plan,
     broken: Broken,
 ) -> Result<(), OutOfMemory>
-    ensures { OnOk result (out.new.items ≡ out.old.items ++ broken_fields (parts_of s.now) plan.now broken) }
+    ensures { OnOk result
+        (out.new.items ≡ out.old.items ++ broken_fields (parts_of s.now) plan.now broken) }
 {
     match broken {
         Broken::Trips { got, need } => put_trip_count(alloc, out, got, need),
@@ -78,7 +79,10 @@ fn put_broken(
 
 // Adds how many trips there are, and how many flights.
 fn put_trip_count(alloc: Global, out: &mut Vec<u8>, got: u64, need: u32) -> Result<(), OutOfMemory>
-    ensures { OnOk result (out.new.items ≡ out.old.items ++ (field_text (codes "trips") ++ (field_text (decimal got) ++ field_text (decimal need)))) }
+    ensures { OnOk result
+        (out.new.items ≡ out.old.items
+        ++ (field_text (codes "trips")
+        ++ (field_text (decimal got) ++ field_text (decimal need)))) }
 {
     put_field(out, b"trips")?;
     put_number(alloc, out, got)?;
@@ -87,7 +91,9 @@ fn put_trip_count(alloc: Global, out: &mut Vec<u8>, got: u64, need: u32) -> Resu
 
 // Adds the word for a rule, and the flight whose trip breaks it.
 fn put_rule(out: &mut Vec<u8>, rule: &[u8], s: &Scenario, flight: u32) -> Result<(), OutOfMemory>
-    ensures { OnOk result (out.new.items ≡ out.old.items ++ (field_text rule.now ++ flight_field (parts_of s.now) flight)) }
+    ensures { OnOk result
+        (out.new.items ≡ out.old.items
+        ++ (field_text rule.now ++ flight_field (parts_of s.now) flight)) }
 {
     put_field(out, rule)?;
     put_flight(out, s, flight)
@@ -102,7 +108,9 @@ fn put_window(
     flight: u32,
     stop: u16,
 ) -> Result<(), OutOfMemory>
-    ensures { OnOk result (out.new.items ≡ out.old.items ++ broken_fields (parts_of s.now) plan.now (Broken.Window flight stop)) }
+    ensures { OnOk result
+        (out.new.items ≡ out.old.items
+        ++ broken_fields (parts_of s.now) plan.now (Broken.Window flight stop)) }
 {
     let entered = stop_at(plan, flight, usize::from(stop));
     put_rule(out, b"window", s, flight)?;
@@ -118,7 +126,9 @@ fn put_no_leg(
     flight: u32,
     stop: u16,
 ) -> Result<(), OutOfMemory>
-    ensures { OnOk result (out.new.items ≡ out.old.items ++ broken_fields (parts_of s.now) plan.now (Broken.NoLeg flight stop)) }
+    ensures { OnOk result
+        (out.new.items ≡ out.old.items
+        ++ broken_fields (parts_of s.now) plan.now (Broken.NoLeg flight stop)) }
 {
     put_rule(out, b"noleg", s, flight)?;
     put_stop(out, s, flight, stop_at(plan, flight, usize::from(stop)))?;
@@ -135,7 +145,9 @@ fn put_least(
     stop: u16,
     least: u16,
 ) -> Result<(), OutOfMemory>
-    ensures { OnOk result (out.new.items ≡ out.old.items ++ broken_fields (parts_of s.now) plan.now (Broken.Least flight stop least)) }
+    ensures { OnOk result
+        (out.new.items ≡ out.old.items
+        ++ broken_fields (parts_of s.now) plan.now (Broken.Least flight stop least)) }
 {
     let entered = stop_at(plan, flight, usize::from(stop));
     let next = stop_at(plan, flight, usize::from(stop) + 1);
@@ -156,7 +168,9 @@ fn put_turn(
     arrives: u16,
     leaves: u16,
 ) -> Result<(), OutOfMemory>
-    ensures { OnOk result (out.new.items ≡ out.old.items ++ broken_fields (parts_of s.now) [] (Broken.Turn connection arrives leaves)) }
+    ensures { OnOk result
+        (out.new.items ≡ out.old.items
+        ++ broken_fields (parts_of s.now) [] (Broken.Turn connection arrives leaves)) }
 {
     match s.connections().get(connection as usize) {
         None => put_field(out, b"turn"),
@@ -173,7 +187,10 @@ fn put_times(
     arrives: u16,
     leaves: u16,
 ) -> Result<(), OutOfMemory>
-    ensures { OnOk result (out.new.items ≡ out.old.items ++ (field_text (codes "turn") ++ turn_fields (parts_of s.now) (Some connection.now) arrives leaves)) }
+    ensures { OnOk result
+        (out.new.items ≡ out.old.items
+        ++ (field_text (codes "turn")
+        ++ turn_fields (parts_of s.now) (Some connection.now) arrives leaves)) }
 {
     put_rule(out, b"turn", s, connection.first)?;
     put_flight(out, s, connection.second)?;
@@ -190,7 +207,9 @@ fn put_over(
     rule: &[u8],
     over: Overload,
 ) -> Result<(), OutOfMemory>
-    ensures { OnOk result (out.new.items ≡ out.old.items ++ (field_text rule.now ++ over_fields (parts_of s.now) over)) }
+    ensures { OnOk result
+        (out.new.items ≡ out.old.items
+        ++ (field_text rule.now ++ over_fields (parts_of s.now) over)) }
 {
     put_field(out, rule)?;
     put_place(out, s, over.place)?;
@@ -201,7 +220,8 @@ fn put_over(
 
 // Adds the name of the flight at this position.
 fn put_flight(out: &mut Vec<u8>, s: &Scenario, position: u32) -> Result<(), OutOfMemory>
-    ensures { OnOk result (out.new.items ≡ out.old.items ++ flight_field (parts_of s.now) position) }
+    ensures { OnOk result
+        (out.new.items ≡ out.old.items ++ flight_field (parts_of s.now) position) }
 {
     put_field(out, flight_name(s, position))
 }
@@ -220,14 +240,18 @@ fn put_stop(
     flight: u32,
     stop: Option<Stop>,
 ) -> Result<(), OutOfMemory>
-    ensures { OnOk result (out.new.items ≡ out.old.items ++ place_field (parts_of s.now) (place_of_stop (slice_get (parts_of s.now).flights flight) stop)) }
+    ensures { OnOk result
+        (out.new.items ≡ out.old.items
+        ++ place_field (parts_of s.now)
+        (place_of_stop (slice_get (parts_of s.now).flights flight) stop)) }
 {
     put_place(out, s, place_of_stop(s, flight, stop))
 }
 
 // Adds the period of the stop.
 fn put_time(alloc: Global, out: &mut Vec<u8>, stop: Option<Stop>) -> Result<(), OutOfMemory>
-    ensures { OnOk result (out.new.items ≡ out.old.items ++ field_text (decimal (time_of_stop stop))) }
+    ensures { OnOk result
+        (out.new.items ≡ out.old.items ++ field_text (decimal (time_of_stop stop))) }
 {
     put_number(alloc, out, u64::from(time_of_stop(stop)))
 }

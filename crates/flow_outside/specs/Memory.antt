@@ -47,13 +47,21 @@ pub record SinkView : Type 0 where
 
 abbrev pub coded_calls : Coded Calls
 coded_calls =
-    code_by (ℕ × List ℕ) (coded× coded_ℕ (coded_list coded_ℕ)) (λ c. (c.made, c.failing)) (λ p. record { made = p.0; failing = p.1 }) (λ _. refl)
+    code_by (ℕ × List ℕ) (coded× coded_ℕ (coded_list coded_ℕ)) (λ c. (c.made, c.failing))
+    (λ p. record { made = p.0; failing = p.1 }) (λ _. refl)
 
 abbrev pub coded_files : Coded FilesView
 coded_files =
-    code_by (Held × (Calls × (ℕ × ℕ))) (coded× (code (coded_list coded_ℕ) (coded_list coded_ℕ)) (coded× coded_calls (coded× coded_ℕ coded_ℕ)))
+    code_by (Held × (Calls
+    × (ℕ × ℕ))) (coded× (code (coded_list coded_ℕ) (coded_list coded_ℕ))
+    (coded× coded_calls (coded× coded_ℕ coded_ℕ)))
     (λ f. (f.held, (f.calls, (f.faults, f.store_faults))))
-    (λ p. record { held = p.0; calls = p.1.0; faults = p.1.1.0; store_faults = p.1.1.1 }) (λ _. refl)
+    (λ p. record {
+      held = p.0;
+      calls = p.1.0;
+      faults = p.1.1.0;
+      store_faults = p.1.1.1;
+    }) (λ _. refl)
 
 -- what a map from names to bytes holds
 abbrev pub held_by : {Y Z : Type 0} → List (String Y × Vec ℕ Z) → Held
@@ -62,28 +70,38 @@ held_by entries = from_entries (map (λ e. (string_bytes e.0, e.1.items)) entrie
 -- after a call of `size` or `read_at`, of which only a named one is counted as a fault
 abbrev pub after_read : FilesView → FilesView
 after_read files =
-    record files { calls = after_call files.calls; faults = if is_named files.calls then raised files.faults else files.faults }
+    record files {
+      calls = after_call files.calls;
+      faults = if is_named files.calls then raised files.faults else files.faults;
+    }
 
 -- the length that `size` answers, if it answers one
 abbrev pub size_told : FilesView → List ℕ → Option ℕ
-size_told files name = if is_named files.calls then None else option_map length (get files.held name)
+size_told files name =
+    if is_named files.calls then None else option_map length (get files.held name)
 
 -- how many bytes `read_at` reads from a place into so much room, if it reads
 abbrev pub count_read : FilesView → List ℕ → ℕ → ℕ → Option ℕ
 count_read files name place room =
-    if is_named files.calls then None else option_map (λ bytes. min (length bytes - place) room) (get files.held name)
+    if is_named files.calls then None else option_map (λ bytes. min (length bytes - place) room)
+    (get files.held name)
 
 -- after a call of `store` with this answer
-abbrev pub after_store : {A : Type 0} → FilesView → List ℕ → List ℕ → Result A StoreFault → FilesView
-after_store files name bytes (Ok _) = record files { held = insert files.held name bytes; calls = after_call files.calls }
-after_store files name bytes (Err Failed) = record files { calls = after_call files.calls; store_faults = raised files.store_faults }
+abbrev pub after_store : {A : Type 0} → FilesView → List ℕ → List ℕ → Result A StoreFault
+    → FilesView
+after_store files name bytes (Ok _) =
+    record files { held = insert files.held name bytes; calls = after_call files.calls }
+after_store files name bytes (Err Failed) =
+    record files { calls = after_call files.calls; store_faults = raised files.store_faults }
 after_store files name bytes (Err OutOfMemory) = record files { calls = after_call files.calls }
 
--- how many of so many bytes `write` takes: a named call takes none and fails, and so does one that finds the room full
+-- how many of so many bytes `write` takes: a named call takes none and fails, and so does one that
+-- finds the room full
 abbrev pub count_taken : SinkView → ℕ → Option ℕ
 count_taken sink n =
     let left = sink.room - length sink.written in
-    if is_named sink.calls then None else (if (left == 0 && nat_lt 0 n) then None else Some (min (min sink.step left) n))
+    if is_named sink.calls then None
+    else (if (left == 0 && nat_lt 0 n) then None else Some (min (min sink.step left) n))
 
 -- after a call of `write`
 abbrev pub after_write : SinkView → List ℕ → SinkView

@@ -34,7 +34,8 @@ pub trait Files {
         ensures present { OnOk result (HasName (seen self.old).held name.now) }
         ensures unfailed { OnOk result ((seen self.new).faults ≡ (seen self.old).faults) }
         ensures failed { OnErr result
-            (HasName (seen self.old).held name.now → Rose (seen self.old).faults (seen self.new).faults) }
+            (HasName (seen self.old).held name.now
+            → Rose (seen self.old).faults (seen self.new).faults) }
         ensures kept { AreKept (seen self.old) (seen self.new) };
 
     /// Puts bytes of what the name holds, from a place on (0 is the first byte), in front of `into`
@@ -43,24 +44,29 @@ pub trait Files {
     fn read_at(&mut self, name: &str, place: u64, into: &mut [u8]) -> Result<usize, Failed>
         ensures within { IfOk result (λ n. n ≤ length into.old) }
         ensures part { IfOk result (λ n.
-            Told (seen self.old).held name.now (λ bytes. ReadsPart bytes place n into.old into.new)) }
+            Told (seen self.old).held name.now
+            (λ bytes. ReadsPart bytes place n into.old into.new)) }
         ensures present { OnOk result (HasName (seen self.old).held name.now) }
         ensures unfailed { OnOk result ((seen self.new).faults ≡ (seen self.old).faults) }
         ensures failed { OnErr result
-            (HasName (seen self.old).held name.now → Rose (seen self.old).faults (seen self.new).faults) }
+            (HasName (seen self.old).held name.now
+            → Rose (seen self.old).faults (seen self.new).faults) }
         ensures kept { AreKept (seen self.old) (seen self.new) };
 
     /// Puts these bytes under the name, in place of what it held. `Failed` comes only where
     /// `store_faults` rose, which stays after any other answer; nothing is then said of what the
     /// name holds, and every other name has what it had. After `OutOfMemory` all is as before.
     fn store(&mut self, name: &str, bytes: &[u8]) -> Result<(), StoreFault>
-        ensures ok { OnOk result ((seen self.new).held ≡ stored (seen self.old).held name.now bytes.now) }
-        ensures unfailed { OnOk result ((seen self.new).store_faults ≡ (seen self.old).store_faults) }
+        ensures ok { OnOk result
+            ((seen self.new).held ≡ stored (seen self.old).held name.now bytes.now) }
+        ensures unfailed { OnOk result
+            ((seen self.new).store_faults ≡ (seen self.old).store_faults) }
         ensures others { IsErrOf result StoreFault.Failed →
             KeepsOthers (seen self.old).held (seen self.new).held name.now }
         ensures failed { IsErrOf result StoreFault.Failed →
             Rose (seen self.old).store_faults (seen self.new).store_faults }
-        ensures unchanged { IsErrOf result StoreFault.OutOfMemory → (seen self.new).held ≡ (seen self.old).held }
+        ensures unchanged { IsErrOf result StoreFault.OutOfMemory
+            → (seen self.new).held ≡ (seen self.old).held }
         ensures uncounted { IsErrOf result StoreFault.OutOfMemory →
             (seen self.new).store_faults ≡ (seen self.old).store_faults }
         ensures counts { (seen self.old).store_faults ≤ (seen self.new).store_faults }

@@ -40,7 +40,8 @@ pub fn load<F: Files>(
     ensures within { IfOk result (λ text. vec_len text ≤ limit) }
 
     ensures too_long { UnlessRead result
-        (Told (F.seen files.old).held name.now (λ bytes. IsTooLong result ↔ (limit < length bytes))) }
+        (Told (F.seen files.old).held name.now
+        (λ bytes. IsTooLong result ↔ (limit < length bytes))) }
     ensures size { IfTooLong result (λ n.
         Told (F.seen files.old).held name.now (λ bytes. n ≡ length bytes)) }
     ensures above { IfTooLong result (λ n. limit < n) }
@@ -48,7 +49,8 @@ pub fn load<F: Files>(
     // A name that the files tell they don't have is answered by `Read`.
     ensures present { UnlessRead result (HasName (F.seen files.old).held name.now) }
     ensures read { OnRead result
-        (HasName (F.seen files.old).held name.now → Rose (F.seen files.old).faults (F.seen files.new).faults) }
+        (HasName (F.seen files.old).held name.now
+        → Rose (F.seen files.old).faults (F.seen files.new).faults) }
     ensures unfailed { UnlessRead result ((F.seen files.new).faults ≡ (F.seen files.old).faults) }
 
     ensures kept { AreKept (F.seen files.old) (F.seen files.new) }
@@ -77,7 +79,8 @@ fn fill<F: Files>(files: &mut F, name: &str, buffer: &mut [u8]) -> Result<usize,
         (λ bytes. length bytes ≡ length buffer.old → take n buffer.new ≡ bytes)) }
     ensures unfailed { OnOk result ((F.seen files.new).faults ≡ (F.seen files.old).faults) }
     ensures failed { OnErr result
-        (HasName (F.seen files.old).held name.now → Rose (F.seen files.old).faults (F.seen files.new).faults) }
+        (HasName (F.seen files.old).held name.now
+        → Rose (F.seen files.old).faults (F.seen files.new).faults) }
     ensures kept { AreKept (F.seen files.old) (F.seen files.new) }
 {
     let mut taken = 0;

@@ -16,8 +16,10 @@ pub struct WriteFault;
 /// It takes no memory.
 #[tactic(auto, using(crate::proofs::Pieces::front_more))]
 pub fn put_all<S: Sink>(sink: &mut S, bytes: &[u8]) -> Result<(), WriteFault>
-    ensures all { OnOk result ((S.seen sink.new).written ≡ appended (S.seen sink.old).written bytes.now) }
-    ensures part { OnErr result (AppendsPart (S.seen sink.old).written (S.seen sink.new).written bytes.now) }
+    ensures all { OnOk result
+        ((S.seen sink.new).written ≡ appended (S.seen sink.old).written bytes.now) }
+    ensures part { OnErr result
+        (AppendsPart (S.seen sink.old).written (S.seen sink.new).written bytes.now) }
     ensures unfailed { OnOk result ((S.seen sink.new).faults ≡ (S.seen sink.old).faults) }
     ensures failed { OnErr result (Rose (S.seen sink.old).faults (S.seen sink.new).faults) }
     ensures counts { (S.seen sink.old).faults ≤ (S.seen sink.new).faults }

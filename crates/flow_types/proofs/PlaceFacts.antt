@@ -13,8 +13,10 @@ none_has kind.Arr = refl
 none_has kind.Sector = refl
 
 -- where there are capacities of a kind, there is a place
-pub has_kind-within : (k : CapKind) (places : List Place) (n : ℕ) → IsTrue (has_kind k (slice_get places n)) → n < length places
+pub has_kind-within : (k : CapKind) (places : List Place) (n : ℕ)
+    → IsTrue (has_kind k (slice_get places n)) → n < length places
 has_kind-within k places n has = by (cases_lt n (length places)) where
   by : (n < length places) ⊎ (length places ≤ n) → n < length places
   by (inl within) = within
-  by (inr past) = absurd (false≢true (sym (none_has k) ∙ ap (has_kind k) (sym (slice_get_past places n past)) ∙ has))
+  by (inr past) = absurd
+      (false≢true (sym (none_has k) ∙ ap (has_kind k) (sym (slice_get_past places n past)) ∙ has))

@@ -15,7 +15,9 @@ use Rattle.std.proofs.lemmas.Str.{digit_value_digit}
 use Rattle.std.proofs.lemmas.Str.Parse.{tells_all_ascii_digits, tells_digits, digit_at}
 
 pub digits_are_all : (bytes : List ℕ) → list_all is_ascii_digit bytes ≡ all_ascii_digits bytes
-digits_are_all bytes = same_from_clauses (list_all is_ascii_digit) all_ascii_digits (λ b r. is_ascii_digit b && r) refl (λ _ _. refl) (λ _ _. refl) bytes
+digits_are_all bytes =
+    same_from_clauses (list_all is_ascii_digit) all_ascii_digits (λ b r. is_ascii_digit b && r) refl
+    (λ _ _. refl) (λ _ _. refl) bytes
 
 all_digits : (bytes : List ℕ) → all_ascii_digits bytes ≡ true → AllDigits 10 bytes
 all_digits [] h = tt
@@ -33,12 +35,15 @@ pub record IsNextDigit (bytes : List ℕ) (i : ℕ) : Type 0 where
   pub small : digits_value 10 (take i bytes) < 10 ^ 17
   pub from : 48 ≤ get_or bytes i 0
   pub to : get_or bytes i 0 ≤ 57
-  pub more : digits_value 10 (take (i + 1) bytes) ≡ 10 * digits_value 10 (take i bytes) + (get_or bytes i 0 - 48)
+  pub more : digits_value 10 (take (i + 1) bytes) ≡ 10 * digits_value 10 (take i bytes)
+      + (get_or bytes i 0 - 48)
 
-pub next_digit : (bytes : List ℕ) (i : ℕ) → length bytes ≤ 18 → all_ascii_digits bytes ≡ true → i < length bytes → IsNextDigit bytes i
+pub next_digit : (bytes : List ℕ) (i : ℕ) → length bytes ≤ 18 → all_ascii_digits bytes ≡ true
+    → i < length bytes → IsNextDigit bytes i
 next_digit bytes i few digits within =
     let all = all_digits bytes digits in
-    let below : digits_value 10 (take i bytes) < 10 ^ length (take i bytes) = digits_value-lt 10 (take i bytes) (AllDigits-take i bytes all) in
+    let below : digits_value 10 (take i bytes) < 10 ^ length (take i bytes) =
+    digits_value-lt 10 (take i bytes) (AllDigits-take i bytes all) in
     let front : length (take i bytes) ≤ 17 = omega (arith, length-take i bytes) in
     let most : 10 ^ length (take i bytes) ≤ 10 ^ 17 = pow-le-pow_right (omega arith) front in
     let here : IsInRange 48 57 (get_or bytes i 0) = digit_at bytes i all within in
@@ -52,6 +57,7 @@ next_digit bytes i few digits within =
     }
 
 -- the next digit of what is spelled as a number
-pub number_parts : (bytes : List ℕ) (i : ℕ) → IsTrue (is_number bytes) → i < length bytes → IsNextDigit bytes i
+pub number_parts : (bytes : List ℕ) (i : ℕ) → IsTrue (is_number bytes) → i < length bytes
+    → IsNextDigit bytes i
 number_parts bytes i number within =
     next_digit bytes i (grind (arith, nat_tests)) (grind (arith, nat_tests)) within

@@ -11,4 +11,5 @@ use Rattle.flow_types.specs.Feasible.{IsFeasible}
 abbrev pub IsBound : Parts → Bound → Type 0
 IsBound parts NoPlan = (plan : List (List Stop)) → IsFeasible parts plan → ⊥
 IsBound parts (AtLeast least) =
-    (plan : List (List Stop)) → IsFeasible parts plan → least ≤ℤ plan_cost parts.tables parts.flights plan
+    (plan : List (List Stop)) → IsFeasible parts plan
+    → least ≤ℤ plan_cost parts.tables parts.flights plan

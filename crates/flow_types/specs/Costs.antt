@@ -1,4 +1,5 @@
--- What a plan costs: each flight's total for its arrival delay less its credit for its ground delay.
+-- What a plan costs: each flight's total for its arrival delay less its credit for its ground
+-- delay.
 use Rattle.std.specs.Prelude.{ℕ, ◌-◌, ◌*◌, List, [], ◌∷◌, Option, Some, None, slice_get, slice_index_or, ℤ, pos, ◌+ℤ◌, ◌-ℤ◌}
 use Rattle.flow_types.specs.declared.flight.Cost.{Cost}
 use Rattle.flow_types.specs.declared.flight.Cost.TheVariants.{Linear, Tables}
@@ -19,13 +20,15 @@ total_of tables (Tables total credit) delay = value_at (slice_get tables total) 
 
 -- what so much of it costs less for having been spent on the ground
 abbrev pub credit_of : List CostTable → Cost → ℕ → ℤ
-credit_of tables (Linear on_ground airborne) delay = pos (airborne * delay) -ℤ pos (on_ground * delay)
+credit_of tables (Linear on_ground airborne) delay =
+    pos (airborne * delay) -ℤ pos (on_ground * delay)
 credit_of tables (Tables total credit) delay = value_at (slice_get tables credit) delay
 
 -- the cost of departing and arriving in these periods
 abbrev pub times_cost : List CostTable → Flight → ℕ → ℕ → ℤ
 times_cost tables flight departure arrival =
-    total_of tables flight.cost (arrival - flight.sa) -ℤ credit_of tables flight.cost (departure - flight.sd)
+    total_of tables flight.cost (arrival - flight.sa) -ℤ credit_of tables flight.cost
+    (departure - flight.sd)
 
 abbrev pub trip_cost : List CostTable → Flight → List Stop → ℤ
 trip_cost tables flight [] = pos 0
@@ -35,7 +38,8 @@ trip_cost tables flight (stop ∷ rest) = times_cost tables flight stop.time (ar
 abbrev pub plan_cost : List CostTable → List Flight → List (List Stop) → ℤ
 plan_cost tables [] plan = pos 0
 plan_cost tables (flight ∷ flights) [] = pos 0
-plan_cost tables (flight ∷ flights) (trip ∷ plan) = trip_cost tables flight trip +ℤ plan_cost tables flights plan
+plan_cost tables (flight ∷ flights) (trip ∷ plan) =
+    trip_cost tables flight trip +ℤ plan_cost tables flights plan
 
 -- totals, credits and costs of a flight that may not be there, none of which costs anything then
 abbrev pub total_at : List CostTable → Option Flight → ℕ → ℤ

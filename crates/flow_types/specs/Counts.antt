@@ -28,7 +28,8 @@ arrives_at place period flight (stop ∷ rest) = arrives_from place period fligh
 abbrev pub stays_from : ℕ → ℕ → Flight → Stop → List Stop → ℕ
 stays_from place period flight stop [] = 0
 stays_from place period flight stop (next ∷ rest) =
-    one_if ((place_at flight stop.node == place) && nat_le stop.time period && nat_lt period next.time)
+    one_if ((place_at flight stop.node == place) && nat_le stop.time period
+    && nat_lt period next.time)
     + stays_from place period flight next rest
 
 abbrev pub stays_at : ℕ → ℕ → Flight → List Stop → ℕ

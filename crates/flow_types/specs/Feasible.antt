@@ -16,12 +16,14 @@ abbrev pub AreTrips : ℕ → List Flight → List (List Stop) → Type 0
 AreTrips periods [] [] = Unit {0}
 AreTrips periods [] (trip ∷ plan) = ⊥
 AreTrips periods (flight ∷ flights) [] = ⊥
-AreTrips periods (flight ∷ flights) (trip ∷ plan) = IsTrip periods flight trip × AreTrips periods flights plan
+AreTrips periods (flight ∷ flights) (trip ∷ plan) = IsTrip periods flight trip
+    × AreTrips periods flights plan
 
 -- the second flight departs no earlier than the turnaround after the first has arrived
 abbrev pub KeepsTurn : List (List Stop) → Connection → Type 0
 KeepsTurn plan connection =
-    (arrives leaves : ℕ) → option_and_then arrival_of (slice_get plan connection.first) ≡ Some arrives
+    (arrives leaves : ℕ) → option_and_then arrival_of (slice_get plan connection.first)
+    ≡ Some arrives
     → option_and_then departure_of (slice_get plan connection.second) ≡ Some leaves
     → arrives + connection.turnaround ≤ leaves
 
@@ -29,7 +31,8 @@ KeepsTurn plan connection =
 pub record IsFeasible (parts : Parts) (plan : List (List Stop)) : Type 0 where
   pub trips : AreTrips parts.day.periods parts.flights plan
   pub turns : All (KeepsTurn plan) parts.connections
-  pub departures : (k t : ℕ) → IsTrue (is_airport (slice_get parts.places k)) → t < parts.day.periods
+  pub departures : (k t : ℕ) → IsTrue (is_airport (slice_get parts.places k))
+      → t < parts.day.periods
       → departures_at parts.flights plan k t ≤ capacity_of parts.places kind.Dep k t
   pub arrivals : (k t : ℕ) → IsTrue (is_airport (slice_get parts.places k)) → t < parts.day.periods
       → arrivals_at parts.flights plan k t ≤ capacity_of parts.places kind.Arr k t

@@ -32,7 +32,8 @@ is_entered legs node = list_any (λ leg. leg.to == node) legs
 -- sector: so the sectors stand in the order of their first use as the start of a leg.
 abbrev pub starts_in_order : ℕ → List Leg → Bool
 starts_in_order next [] = true
-starts_in_order next (leg ∷ legs) = nat_le leg.from next && starts_in_order (max next (leg.from + 1)) legs
+starts_in_order next (leg ∷ legs) =
+    nat_le leg.from next && starts_in_order (max next (leg.from + 1)) legs
 
 -- the leg is between nodes, upward, and takes no longer than it may
 pub record IsLeg (nodes : ℕ) (leg : Leg) : Type 0 where
@@ -46,13 +47,15 @@ IsOtherLeg a b = a.from ≡ b.from → a.to ≢ b.to
 
 -- The nodes are the origin, different sectors in the order of their first use, and the destination;
 -- every node but the origin is entered, and every node but the destination is left.
-pub record IsRoute (places : List Place) (origin destination : ℕ) (nodes : List ℕ) (legs : List Leg) : Type 0 where
+pub record IsRoute (places : List Place) (origin destination : ℕ) (nodes : List ℕ)
+    (legs : List Leg) : Type 0 where
   pub nodes_from : 2 ≤ length nodes
   pub nodes_to : length nodes ≤ most_nodes
   pub legs_to_limit : length legs ≤ most_legs
   pub first : slice_index nodes 0 ≡ origin
   pub last : slice_index nodes (length nodes - 1) ≡ destination
-  pub sectors : (k : ℕ) → 0 < k → k + 1 < length nodes → IsTrue (is_sector (slice_get places (slice_index nodes k)))
+  pub sectors : (k : ℕ) → 0 < k → k + 1 < length nodes
+      → IsTrue (is_sector (slice_get places (slice_index nodes k)))
   pub different : AllPairs (λ a b. a ≢ b) nodes
   pub each_leg : All (IsLeg (length nodes)) legs
   pub once : AllPairs IsOtherLeg legs

@@ -1,4 +1,5 @@
--- What a trip of a flight is: stops from node 0 to the last node, joined by legs, each in its window.
+-- What a trip of a flight is: stops from node 0 to the last node, joined by legs, each in its
+-- window.
 use Rattle.std.specs.Prelude.{◌≡◌, ℕ, ◌+◌, ◌-◌, ◌≤◌, ◌==◌, min, List, [], ◌∷◌, length, Option, Some, None, slice_index, if◌then◌else◌}
 use Rattle.std.specs.List.{Any}
 use Rattle.flow_types.specs.declared.flight.Flight.{Flight}
@@ -14,7 +15,8 @@ earliest_of flight node =
 abbrev pub latest_of : ℕ → Flight → ℕ → ℕ
 latest_of periods flight node =
     if node == 0 then min (flight.sd + flight.mg) (periods - 1)
-    else (if node + 1 == length flight.nodes then min (flight.sa + flight.md) (periods - 1) else periods - 1)
+    else (if node + 1 == length flight.nodes then min (flight.sa + flight.md)
+    (periods - 1) else periods - 1)
 
 -- the stop's time is in its node's window
 pub record IsWithinHours (periods : ℕ) (flight : Flight) (stop : Stop) : Type 0 where
@@ -34,7 +36,8 @@ IsStep legs stop next = Any (IsLegBetween stop next) legs
 abbrev pub IsOnward : ℕ → Flight → Stop → List Stop → Type 0
 IsOnward periods flight stop [] = stop.node + 1 ≡ length flight.nodes
 IsOnward periods flight stop (next ∷ rest) =
-    IsStep flight.legs stop next × IsWithinHours periods flight next × IsOnward periods flight next rest
+    IsStep flight.legs stop next × IsWithinHours periods flight next
+    × IsOnward periods flight next rest
 
 -- from node 0 on
 abbrev pub IsTrip : ℕ → Flight → List Stop → Type 0

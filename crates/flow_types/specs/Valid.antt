@@ -47,12 +47,15 @@ value_count (Some table) = length table.values
 
 -- factors within their limit, or tables that reach to the greatest delays
 abbrev pub is_cost : List CostTable → ℕ → ℕ → Cost → Bool
-is_cost tables mg md (Linear on_ground airborne) = nat_le on_ground limits.most_period_cost && nat_le airborne limits.most_period_cost
+is_cost tables mg md (Linear on_ground airborne) =
+    nat_le on_ground limits.most_period_cost && nat_le airborne limits.most_period_cost
 is_cost tables mg md (Tables total credit) =
-    nat_le (md + 1) (value_count (slice_get tables total)) && nat_le (mg + 1) (value_count (slice_get tables credit))
+    nat_le (md + 1) (value_count (slice_get tables total))
+    && nat_le (mg + 1) (value_count (slice_get tables credit))
 
 -- from one airport to another along a route, within the day, at a known cost
-pub record IsFlight (periods : ℕ) (places : List Place) (tables : List CostTable) (flight : Flight) : Type 0 where
+pub record IsFlight (periods : ℕ) (places : List Place) (tables : List CostTable)
+    (flight : Flight) : Type 0 where
   pub name : IsTrue (is_name flight.name)
   pub forward : flight.sd ≤ flight.sa
   pub within : flight.sa < periods
@@ -88,7 +91,8 @@ destination_of (Some flight) = Some flight.to
 pub record IsConnection (flights : List Flight) (connection : Connection) : Type 0 where
   pub first : connection.first < length flights
   pub second : connection.second < length flights
-  pub together : origin_of (slice_get flights connection.second) ≡ destination_of (slice_get flights connection.first)
+  pub together : origin_of (slice_get flights connection.second)
+      ≡ destination_of (slice_get flights connection.first)
   pub turnaround : connection.turnaround ≤ limits.most_delay
 
 -- the two join different pairs of flights

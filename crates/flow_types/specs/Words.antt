@@ -12,11 +12,13 @@ is_name_byte b = is_ascii_alphanumeric b || b == 45 || b == 95
 
 -- some such bytes, no more than a name may have
 abbrev pub is_name : List ℕ → Bool
-is_name bytes = nat_le 1 (length bytes) && nat_le (length bytes) most_name_bytes && list_all is_name_byte bytes
+is_name bytes = nat_le 1 (length bytes) && nat_le (length bytes) most_name_bytes
+    && list_all is_name_byte bytes
 
 -- some ASCII digits, no more than a number may have
 abbrev pub is_number : List ℕ → Bool
-is_number bytes = nat_le 1 (length bytes) && nat_le (length bytes) most_digits && all_ascii_digits bytes
+is_number bytes = nat_le 1 (length bytes) && nat_le (length bytes) most_digits
+    && all_ascii_digits bytes
 
 -- the number that the bytes spell
 abbrev pub number_of : List ℕ → Option ℕ

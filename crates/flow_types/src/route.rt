@@ -28,8 +28,10 @@ pub fn is_route(
 // Whether the nodes are the origin, different sectors, and the destination.
 fn are_nodes(places: &[Place], origin: u32, destination: u32, nodes: &[u32]) -> bool
     ensures { IsTrue result ↔ (2 ≤ length nodes.now) × (length nodes.now ≤ most_nodes)
-        × (slice_index nodes.now 0 ≡ origin) × (slice_index nodes.now (length nodes.now - 1) ≡ destination)
-        × ((k : ℕ) → 0 < k → k + 1 < length nodes.now → IsTrue (is_sector (slice_get places.now (slice_index nodes.now k))))
+        × (slice_index nodes.now 0 ≡ origin)
+        × (slice_index nodes.now (length nodes.now - 1) ≡ destination)
+        × ((k : ℕ) → 0 < k → k + 1 < length nodes.now
+        → IsTrue (is_sector (slice_get places.now (slice_index nodes.now k))))
         × AllPairs (λ a b. a ≢ b) nodes.now }
 {
     2 <= nodes.len()
@@ -43,7 +45,9 @@ fn are_nodes(places: &[Place], origin: u32, destination: u32, nodes: &[u32]) -> 
 // Whether a sector stands at each node but the first and the last.
 fn are_sectors_between(places: &[Place], nodes: &[u32]) -> bool
     requires { 2 ≤ length nodes.now }
-    ensures { IsTrue result ↔ ((k : ℕ) → 0 < k → k + 1 < length nodes.now → IsTrue (is_sector (slice_get places.now (slice_index nodes.now k)))) }
+    ensures { IsTrue result
+        ↔ ((k : ℕ) → 0 < k → k + 1 < length nodes.now
+        → IsTrue (is_sector (slice_get places.now (slice_index nodes.now k)))) }
 {
     for k in 1..nodes.len() - 1 {
         if !is_sector(places, nodes[k]) {
@@ -55,7 +59,8 @@ fn are_sectors_between(places: &[Place], nodes: &[u32]) -> bool
 
 // Whether the legs are different ones between the nodes, in the order of their starts.
 fn are_legs(nodes: usize, legs: &[Leg]) -> bool
-    ensures { IsTrue result ↔ (length legs.now ≤ most_legs) × All (IsLeg nodes) legs.now × AllPairs IsOtherLeg legs.now × IsTrue (starts_in_order 1 legs.now) }
+    ensures { IsTrue result ↔ (length legs.now ≤ most_legs) × All (IsLeg nodes) legs.now
+        × AllPairs IsOtherLeg legs.now × IsTrue (starts_in_order 1 legs.now) }
 {
     legs.len() <= MOST_LEGS
         && legs.iter().all(|leg| is_leg(nodes, *leg))

@@ -92,7 +92,8 @@ impl Scenario {
     /// scenario's, and the delay is at most its greatest one.
     pub fn total(&self, flight: u32, delay: u16) -> i64
         requires { flight < length (parts_of self.now).flights }
-        ensures value { result ≡ total_at (parts_of self.now).tables (flight_at self.now flight) delay }
+        ensures value { result
+            ≡ total_at (parts_of self.now).tables (flight_at self.now flight) delay }
         ensures low { neg_ℤ (pos 100000000000) ≤ℤ result }
         ensures high { result ≤ℤ pos 100000000000 }
     {
@@ -103,7 +104,8 @@ impl Scenario {
     /// The flight is one of the scenario's, and the delay is at most its greatest ground delay.
     pub fn credit(&self, flight: u32, delay: u16) -> i64
         requires { flight < length (parts_of self.now).flights }
-        ensures value { result ≡ credit_at (parts_of self.now).tables (flight_at self.now flight) delay }
+        ensures value { result
+            ≡ credit_at (parts_of self.now).tables (flight_at self.now flight) delay }
         ensures low { neg_ℤ (pos 100000000000) ≤ℤ result }
         ensures high { result ≤ℤ pos 100000000000 }
     {

@@ -54,7 +54,8 @@ fn is_time(day: &Day) -> bool
 
 // Whether the day's periods are within their limits.
 fn are_periods(day: &Day) -> bool
-    ensures { IsTrue result ↔ (1 ≤ day.now.minutes) × (day.now.minutes ≤ limits.most_minutes) × (1 ≤ day.now.periods) × (day.now.periods ≤ limits.most_periods) }
+    ensures { IsTrue result ↔ (1 ≤ day.now.minutes) × (day.now.minutes ≤ limits.most_minutes)
+        × (1 ≤ day.now.periods) × (day.now.periods ≤ limits.most_periods) }
 {
     1 <= day.minutes
         && day.minutes <= MOST_MINUTES
@@ -92,7 +93,8 @@ fn is_place(place: &Place, periods: u16) -> bool
 
 // Whether they are places of different names, and not too many.
 fn are_places(places: &[Place], periods: u16) -> bool
-    ensures { IsTrue result ↔ (length places.now ≤ limits.most_places) × All (IsPlace periods) places.now × AllPairs (λ a b. a.name ≢ b.name) places.now }
+    ensures { IsTrue result ↔ (length places.now ≤ limits.most_places)
+        × All (IsPlace periods) places.now × AllPairs (λ a b. a.name ≢ b.name) places.now }
 {
     places.len() <= MOST_PLACES
         && places.iter().all(|place| is_place(place, periods))
@@ -112,7 +114,8 @@ fn are_flights(flights: &[Flight], parts: &Parts) -> bool
 
 // Whether the nodes of all flights are not too many.
 fn have_few_nodes(flights: &[Flight]) -> bool
-    ensures { IsTrue result ↔ (sum_by (λ flight. length flight.nodes) flights.now ≤ limits.most_nodes_in_all) }
+    ensures { IsTrue result
+        ↔ (sum_by (λ flight. length flight.nodes) flights.now ≤ limits.most_nodes_in_all) }
 {
     let mut left = MOST_NODES_IN_ALL;
     for flight in flights {
@@ -127,7 +130,8 @@ fn have_few_nodes(flights: &[Flight]) -> bool
 
 // Whether it is a flight of these parts.
 fn is_flight(parts: &Parts, flight: &Flight) -> bool
-    ensures { IsTrue result ↔ IsFlight parts.now.day.periods parts.now.places parts.now.tables flight.now }
+    ensures { IsTrue result
+        ↔ IsFlight parts.now.day.periods parts.now.places parts.now.tables flight.now }
 {
     let places = parts.places.items();
     is_name(flight.name.items())
@@ -145,7 +149,8 @@ fn is_flight(parts: &Parts, flight: &Flight) -> bool
 
 // Whether the flight's times are within the day, and its delays within their limits.
 fn are_times(flight: &Flight, periods: u16) -> bool
-    ensures { IsTrue result ↔ (flight.now.sd ≤ flight.now.sa) × (flight.now.sa < periods) × (flight.now.mg ≤ limits.most_delay) × (flight.now.md ≤ limits.most_delay) }
+    ensures { IsTrue result ↔ (flight.now.sd ≤ flight.now.sa) × (flight.now.sa < periods)
+        × (flight.now.mg ≤ limits.most_delay) × (flight.now.md ≤ limits.most_delay) }
 {
     flight.sd <= flight.sa
         && flight.sa < periods
@@ -156,7 +161,8 @@ fn are_times(flight: &Flight, periods: u16) -> bool
 // Whether the flight goes from one airport to another.
 fn are_ends(places: &[Place], flight: &Flight) -> bool
     ensures { IsTrue result ↔ IsTrue (is_airport (slice_get places.now flight.now.from))
-        × IsTrue (is_airport (slice_get places.now flight.now.to)) × (flight.now.from ≢ flight.now.to) }
+        × IsTrue (is_airport (slice_get places.now flight.now.to))
+        × (flight.now.from ≢ flight.now.to) }
 {
     is_airport(places, flight.from) && is_airport(places, flight.to) && flight.from != flight.to
 }
@@ -177,7 +183,8 @@ fn is_cost(tables: &[CostTable], mg: u16, md: u16, cost: Cost) -> bool
 
 // Whether they are tables of different names, and not too many.
 fn are_tables(tables: &[CostTable]) -> bool
-    ensures { IsTrue result ↔ (length tables.now ≤ limits.most_tables) × All IsTable tables.now × AllPairs (λ a b. a.name ≢ b.name) tables.now }
+    ensures { IsTrue result ↔ (length tables.now ≤ limits.most_tables) × All IsTable tables.now
+        × AllPairs (λ a b. a.name ≢ b.name) tables.now }
 {
     tables.len() <= MOST_TABLES && tables.iter().all(|table| is_table(table)) && all_differ(tables)
 }
@@ -202,7 +209,9 @@ fn is_value(v: i64) -> bool
 
 // Whether they connect different pairs of flights, and are not too many.
 fn are_connections(connections: &[Connection], flights: &[Flight]) -> bool
-    ensures { IsTrue result ↔ (length connections.now ≤ limits.most_connections) × All (IsConnection flights.now) connections.now × AllPairs IsOtherConnection connections.now }
+    ensures { IsTrue result ↔ (length connections.now ≤ limits.most_connections)
+        × All (IsConnection flights.now) connections.now
+        × AllPairs IsOtherConnection connections.now }
 {
     connections.len() <= MOST_CONNECTIONS
         && connections

@@ -14,13 +14,18 @@ one_if-le true = omega arith
 one_if-le false = omega arith
 
 -- what isn't there counts nothing
-pub counted-none : (count : Flight → List Stop → ℕ) → ((flight : Flight) → count flight [] ≡ 0) → (flights : List Flight) → counted count flights (map (λ flight. []) flights) ≡ 0
+pub counted-none : (count : Flight → List Stop → ℕ) → ((flight : Flight) → count flight [] ≡ 0)
+    → (flights : List Flight) → counted count flights (map (λ flight. []) flights) ≡ 0
 counted-none count none [] = refl
-counted-none count none (flight ∷ flights) = omega (arith, none flight, counted-none count none flights)
+counted-none count none (flight ∷ flights) =
+    omega (arith, none flight, counted-none count none flights)
 
 -- one trip more counts as much more
-pub counted-set : (count : Flight → List Stop → ℕ) → ((flight : Flight) → count flight [] ≡ 0) → (flights : List Flight) (trips : List (List Stop)) (n : ℕ) (flight : Flight) (stops : List Stop)
-    → slice_get flights n ≡ Some flight → slice_get trips n ≡ Some [] → counted count flights (set trips n stops) ≡ counted count flights trips + count flight stops
+pub counted-set : (count : Flight → List Stop → ℕ) → ((flight : Flight) → count flight [] ≡ 0)
+    → (flights : List Flight) (trips : List (List Stop)) (n : ℕ) (flight : Flight)
+    (stops : List Stop)
+    → slice_get flights n ≡ Some flight → slice_get trips n ≡ Some []
+    → counted count flights (set trips n stops) ≡ counted count flights trips + count flight stops
 counted-set count none [] trips n flight stops here empty = cc
 counted-set count none (f ∷ flights) [] n flight stops here empty = cc
 counted-set count none (f ∷ flights) (trip ∷ trips) zero flight stops here empty =
@@ -33,8 +38,11 @@ counted-set count none (f ∷ flights) (trip ∷ trips) (suc n) flight stops her
     omega (arith, counted-set count none flights trips n flight stops here empty)
 
 -- if each trip counts once, there are no more than flights
-pub counted-le : (count : Flight → List Stop → ℕ) (periods : ℕ) → ((flight : Flight) (trip : List Stop) → IsTripOrNone periods flight trip → count flight trip ≤ 1)
-    → (flights : List Flight) (trips : List (List Stop)) → AreTripsOrNone periods flights trips → counted count flights trips ≤ length flights
+pub counted-le : (count : Flight → List Stop → ℕ) (periods : ℕ)
+    → ((flight : Flight) (trip : List Stop) → IsTripOrNone periods flight trip
+    → count flight trip ≤ 1)
+    → (flights : List Flight) (trips : List (List Stop)) → AreTripsOrNone periods flights trips
+    → counted count flights trips ≤ length flights
 counted-le count periods once [] trips each = omega arith
 counted-le count periods once (flight ∷ flights) [] each = absurd each
 counted-le count periods once (flight ∷ flights) (trip ∷ trips) each =
@@ -43,10 +51,13 @@ counted-le count periods once (flight ∷ flights) (trip ∷ trips) each =
 -- a trip departs once, arrives once, and is in a place at most once a period
 pub departs_at-le : (k t : ℕ) (flight : Flight) (trip : List Stop) → departs_at k t flight trip ≤ 1
 departs_at-le k t flight [] = omega arith
-departs_at-le k t flight (stop ∷ rest) = one_if-le ((place_at flight stop.node == k) && (stop.time == t))
+departs_at-le k t flight (stop ∷ rest) =
+    one_if-le ((place_at flight stop.node == k) && (stop.time == t))
 
-arrives_from-le : (k t : ℕ) (flight : Flight) (stop : Stop) (rest : List Stop) → arrives_from k t flight stop rest ≤ 1
-arrives_from-le k t flight stop [] = one_if-le ((place_at flight stop.node == k) && (stop.time == t))
+arrives_from-le : (k t : ℕ) (flight : Flight) (stop : Stop) (rest : List Stop)
+    → arrives_from k t flight stop rest ≤ 1
+arrives_from-le k t flight stop [] =
+    one_if-le ((place_at flight stop.node == k) && (stop.time == t))
 arrives_from-le k t flight stop (next ∷ rest) = arrives_from-le k t flight next rest
 
 pub arrives_at-le : (k t : ℕ) (flight : Flight) (trip : List Stop) → arrives_at k t flight trip ≤ 1
@@ -62,48 +73,66 @@ record StaysOnce (k t : ℕ) (flight : Flight) (stop : Stop) (rest : List Stop) 
   before : t < stop.time → stays_from k t flight stop rest ≡ 0
   once : stays_from k t flight stop rest ≤ 1
 
-one_stay : (b : Bool) (k t a n more total : ℕ) → a ≤ n → total ≡ one_if (b && nat_le a t && nat_lt t n) + more → (t < n → more ≡ 0) → more ≤ 1 → (t < a → total ≡ 0) × (total ≤ 1)
-one_stay true k t a n more total later is before once = (λ early. grind (arith, nat_tests), grind (arith, nat_tests))
-one_stay false k t a n more total later is before once = (λ early. grind (arith, nat_tests), grind (arith, nat_tests))
+one_stay : (b : Bool) (k t a n more total : ℕ) → a ≤ n
+    → total ≡ one_if (b && nat_le a t && nat_lt t n) + more → (t < n → more ≡ 0) → more ≤ 1
+    → (t < a → total ≡ 0) × (total ≤ 1)
+one_stay true k t a n more total later is before once =
+    (λ early. grind (arith, nat_tests), grind (arith, nat_tests))
+one_stay false k t a n more total later is before once =
+    (λ early. grind (arith, nat_tests), grind (arith, nat_tests))
 
-stays_once : (periods k t : ℕ) (flight : Flight) (stop : Stop) (rest : List Stop) → IsOnward periods flight stop rest → StaysOnce k t flight stop rest
+stays_once : (periods k t : ℕ) (flight : Flight) (stop : Stop) (rest : List Stop)
+    → IsOnward periods flight stop rest → StaysOnce k t flight stop rest
 stays_once periods k t flight stop [] onward = record { before = λ early. refl; once = omega arith }
 stays_once periods k t flight stop (next ∷ rest) onward =
     let more = stays_once periods k t flight next rest onward.2 in
-    let both = one_stay (place_at flight stop.node == k) k t stop.time next.time (stays_from k t flight next rest) _ (step_later flight.legs stop next onward.0) refl more.before more.once in
+    let both = one_stay (place_at flight stop.node == k) k t stop.time next.time
+    (stays_from k t flight next rest) _
+    (step_later flight.legs stop next onward.0) refl more.before more.once in
     record { before = both.0; once = both.1 }
 
-pub stays_at-le : (periods k t : ℕ) (flight : Flight) (trip : List Stop) → IsTripOrNone periods flight trip → stays_at k t flight trip ≤ 1
+pub stays_at-le : (periods k t : ℕ) (flight : Flight) (trip : List Stop)
+    → IsTripOrNone periods flight trip → stays_at k t flight trip ≤ 1
 stays_at-le periods k t flight [] trip = omega arith
-stays_at-le periods k t flight (stop ∷ rest) trip = (stays_once periods k t flight stop rest trip.2).once
+stays_at-le periods k t flight (stop ∷ rest) trip =
+    (stays_once periods k t flight stop rest trip.2).once
 
-pub stays_at-once : (periods k t : ℕ) (flight : Flight) (trip : List Stop) → IsTrip periods flight trip → stays_at k t flight trip ≤ 1
+pub stays_at-once : (periods k t : ℕ) (flight : Flight) (trip : List Stop)
+    → IsTrip periods flight trip → stays_at k t flight trip ≤ 1
 stays_at-once periods k t flight [] trip = absurd trip
-stays_at-once periods k t flight (stop ∷ rest) trip = (stays_once periods k t flight stop rest trip.2).once
+stays_at-once periods k t flight (stop ∷ rest) trip =
+    (stays_once periods k t flight stop rest trip.2).once
 
 -- one more flight is there
-pub AreTripsOrNone-set : (periods : ℕ) (flights : List Flight) (trips : List (List Stop)) (n : ℕ) (flight : Flight) (stops : List Stop)
-    → slice_get flights n ≡ Some flight → IsTripOrNone periods flight stops → AreTripsOrNone periods flights trips → AreTripsOrNone periods flights (set trips n stops)
+pub AreTripsOrNone-set : (periods : ℕ) (flights : List Flight) (trips : List (List Stop)) (n : ℕ)
+    (flight : Flight) (stops : List Stop)
+    → slice_get flights n ≡ Some flight → IsTripOrNone periods flight stops
+    → AreTripsOrNone periods flights trips → AreTripsOrNone periods flights (set trips n stops)
 AreTripsOrNone-set periods [] trips n flight stops here trip each = cc
 AreTripsOrNone-set periods (f ∷ flights) [] n flight stops here trip each = absurd each
 AreTripsOrNone-set periods (f ∷ flights) (t ∷ trips) zero flight stops here trip each =
-    let same : flight ≡ f = cc in (subst (λ (g : Flight). IsTripOrNone periods g stops) same trip, each.1)
+    let same : flight ≡ f = cc in
+    (subst (λ (g : Flight). IsTripOrNone periods g stops) same trip, each.1)
 AreTripsOrNone-set periods (f ∷ flights) (t ∷ trips) (suc n) flight stops here trip each =
     (each.0, AreTripsOrNone-set periods flights trips n flight stops here trip each.1)
 
 -- no flight is there
-pub AreTripsOrNone-none : (periods : ℕ) (flights : List Flight) → AreTripsOrNone periods flights (map (λ flight. []) flights)
+pub AreTripsOrNone-none : (periods : ℕ) (flights : List Flight)
+    → AreTripsOrNone periods flights (map (λ flight. []) flights)
 AreTripsOrNone-none periods [] = tt
 AreTripsOrNone-none periods (flight ∷ flights) = (tt, AreTripsOrNone-none periods flights)
 
-pub AreTripsOrNone-length : (periods : ℕ) (flights : List Flight) (trips : List (List Stop)) → AreTripsOrNone periods flights trips → length trips ≡ length flights
+pub AreTripsOrNone-length : (periods : ℕ) (flights : List Flight) (trips : List (List Stop))
+    → AreTripsOrNone periods flights trips → length trips ≡ length flights
 AreTripsOrNone-length periods [] [] each = refl
 AreTripsOrNone-length periods [] (trip ∷ trips) each = absurd each
 AreTripsOrNone-length periods (flight ∷ flights) [] each = absurd each
-AreTripsOrNone-length periods (flight ∷ flights) (trip ∷ trips) each = ap suc (AreTripsOrNone-length periods flights trips each.1)
+AreTripsOrNone-length periods (flight ∷ flights) (trip ∷ trips) each =
+    ap suc (AreTripsOrNone-length periods flights trips each.1)
 
 -- whose trip is empty in a plan of empty trips
-pub none_at : (flights : List Flight) (n : ℕ) → get_or {A = List Stop} (map (λ flight. []) flights) n [] ≡ []
+pub none_at : (flights : List Flight) (n : ℕ)
+    → get_or {A = List Stop} (map (λ flight. []) flights) n [] ≡ []
 none_at [] n = refl
 none_at (flight ∷ flights) zero = refl
 none_at (flight ∷ flights) (suc n) = none_at flights n

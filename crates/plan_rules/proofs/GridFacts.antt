@@ -16,8 +16,10 @@ one_more_by : (xs : List ℕ) (w a b k t : ℕ) → b < w → t < w → a * w + 
 one_more_by xs w a b k t b_in t_in within fits (inl same) =
     let both = same_from_place a b k t w b_in t_in same in
     let one : one_if ((a == k) && (b == t)) ≡ 1 = grind (arith, nat_tests) in
-    let here = ap (λ i. get_or (set xs (a * w + b) (min (get_or xs (a * w + b) 0 + 1) (2 ^ 32 - 1))) i 0) (sym same) in
-    let put = get_or-set_same xs (a * w + b) (min (get_or xs (a * w + b) 0 + 1) (2 ^ 32 - 1)) 0 within in
+    let here = ap (λ i. get_or
+    (set xs (a * w + b) (min (get_or xs (a * w + b) 0 + 1) (2 ^ 32 - 1))) i 0) (sym same) in
+    let put = get_or-set_same xs (a * w + b)
+    (min (get_or xs (a * w + b) 0 + 1) (2 ^ 32 - 1)) 0 within in
     let there = ap (λ i. get_or xs i 0) same in
     here ∙ put ∙ omega arith
 one_more_by xs w a b k t b_in t_in within fits (inr other) =
@@ -25,7 +27,8 @@ one_more_by xs w a b k t b_in t_in within fits (inr other) =
     get_or-set_other xs (a * w + b) (k * w + t) _ 0 (λ e. other (sym e)) ∙ omega arith
 
 -- the count at place a and period b is set to one more, up to the greatest number
-pub one_more : (xs : List ℕ) (w a b k t old : ℕ) → b < w → t < w → a * w + b < length xs → old ≡ get_or xs (a * w + b) old
+pub one_more : (xs : List ℕ) (w a b k t old : ℕ) → b < w → t < w → a * w + b < length xs
+    → old ≡ get_or xs (a * w + b) old
     → get_or xs (k * w + t) 0 + one_if ((a == k) && (b == t)) < 2 ^ 32
     → get_or (set xs (a * w + b) (min (old + 1) (2 ^ 32 - 1))) (k * w + t) 0
     ≡ get_or xs (k * w + t) 0 + one_if ((a == k) && (b == t))
@@ -35,24 +38,31 @@ one_more xs w a b k t old b_in t_in within is fits =
     ∙ one_more_by xs w a b k t b_in t_in within fits (cases_eq (a * w + b) (k * w + t))
 
 -- one after the other
-pub adds_then : (m n : ℕ → ℕ → ℕ) (old mid new : Cells) → Adds m old mid → Adds n mid new → Adds (λ k t. m k t + n k t) old new
+pub adds_then : (m n : ℕ → ℕ → ℕ) (old mid new : Cells) → Adds m old mid → Adds n mid new
+    → Adds (λ k t. m k t + n k t) old new
 adds_then m n old mid new first second = record {
   places = second.places ∙ first.places;
   periods = second.periods ∙ first.periods;
   each = λ k t k_in t_in fits.
-      let one : count_at mid k t ≡ count_at old k t + m k t = first.each k t k_in t_in (omega arith) in
-      let two : count_at new k t ≡ count_at mid k t + n k t = second.each k t (omega (arith, first.places)) (omega (arith, first.periods)) (omega arith) in
+      let one : count_at mid k t ≡ count_at old k t + m k t =
+      first.each k t k_in t_in (omega arith) in
+      let two : count_at new k t ≡ count_at mid k t + n k t =
+      second.each k t (omega (arith, first.places)) (omega (arith, first.periods))
+      (omega arith) in
       omega arith;
 }
 
 -- equal counts, said otherwise
-pub adds_same : (m n : ℕ → ℕ → ℕ) (old new : Cells) → ((k t : ℕ) → k < old.places → t < old.periods → m k t ≡ n k t) → Adds m old new → Adds n old new
+pub adds_same : (m n : ℕ → ℕ → ℕ) (old new : Cells)
+    → ((k t : ℕ) → k < old.places → t < old.periods → m k t ≡ n k t) → Adds m old new
+    → Adds n old new
 adds_same m n old new same adds = record {
   places = adds.places;
   periods = adds.periods;
   each = λ k t k_in t_in fits.
       let e = same k t k_in t_in in
-      let one : count_at new k t ≡ count_at old k t + m k t = adds.each k t k_in t_in (omega arith) in
+      let one : count_at new k t ≡ count_at old k t + m k t =
+      adds.each k t k_in t_in (omega arith) in
       omega arith;
 }
 
@@ -61,7 +71,9 @@ pub adds_none : (cells : Cells) → Adds (λ k t. 0) cells cells
 adds_none cells = record { places = refl; periods = refl; each = λ k t k_in t_in fits. omega arith }
 
 -- the periods of a stay so far, and one more
-pub stay_more : (a b k t now : ℕ) → b ≤ now → one_if ((a == k) && nat_le b t && nat_lt t now) + one_if ((a == k) && (now == t)) ≡ one_if ((a == k) && nat_le b t && nat_lt t (now + 1))
+pub stay_more : (a b k t now : ℕ) → b ≤ now
+    → one_if ((a == k) && nat_le b t && nat_lt t now) + one_if ((a == k) && (now == t))
+    ≡ one_if ((a == k) && nat_le b t && nat_lt t (now + 1))
 stay_more a b k t now from = grind (arith, nat_tests)
 
 -- no period before the first
@@ -69,5 +81,7 @@ pub stay_none : (a b k t : ℕ) → 0 ≡ one_if ((a == k) && nat_le b t && nat_
 stay_none a b k t = grind (arith, nat_tests)
 
 -- all periods of a grid
-pub stay_all : (a b k t now to w : ℕ) → t < w → min to w ≤ now → now ≤ max b (min to w) → one_if ((a == k) && nat_le b t && nat_lt t now) ≡ one_if ((a == k) && nat_le b t && nat_lt t to)
+pub stay_all : (a b k t now to w : ℕ) → t < w → min to w ≤ now → now ≤ max b (min to w)
+    → one_if ((a == k) && nat_le b t && nat_lt t now)
+    ≡ one_if ((a == k) && nat_le b t && nat_lt t to)
 stay_all a b k t now to w t_in past upto = grind (arith, nat_tests)

@@ -14,77 +14,121 @@ use Rattle.plan_rules.specs.Grid.{Adds, IsEmpty, count_at}
 use Rattle.plan_rules.proofs.CountFacts.{counted-none, counted-set, counted-le, departs_at-le, arrives_at-le, stays_at-le, AreTripsOrNone-set, AreTripsOrNone-none, AreTripsOrNone-length, none_at}
 
 -- an empty grid counts no trips
-empty_counts : (parts : Parts) (cells : Cells) (count : ℕ → ℕ → Flight → List Stop → ℕ) → ((k t : ℕ) (flight : Flight) → count k t flight [] ≡ 0)
+empty_counts : (parts : Parts) (cells : Cells) (count : ℕ → ℕ → Flight → List Stop → ℕ)
+    → ((k t : ℕ) (flight : Flight) → count k t flight [] ≡ 0)
     → HasSize (length parts.places) parts.day.periods cells → IsEmpty cells
-    → (k t : ℕ) → k < length parts.places → t < parts.day.periods → count_at cells k t ≡ counted (count k t) parts.flights (no_trips parts)
+    → (k t : ℕ) → k < length parts.places → t < parts.day.periods
+    → count_at cells k t ≡ counted (count k t) parts.flights (no_trips parts)
 empty_counts parts cells count none size empty k t k_in t_in =
-    empty k t (omega (arith, size.wide)) (omega (arith, size.long)) ∙ sym (counted-none (count k t) (none k t) parts.flights)
+    empty k t (omega (arith, size.wide)) (omega (arith, size.long))
+    ∙ sym (counted-none (count k t) (none k t) parts.flights)
 
 -- loads with nothing in them
-pub AreLoads-none : (parts : Parts) (loads : Tally) → IsMadeFor parts loads → IsClear loads → AreLoads parts (no_trips parts) loads
+pub AreLoads-none : (parts : Parts) (loads : Tally) → IsMadeFor parts loads → IsClear loads
+    → AreLoads parts (no_trips parts) loads
 AreLoads-none parts loads made clear = record {
   made = made;
   each = AreTripsOrNone-none parts.day.periods parts.flights;
-  departures = empty_counts parts loads.departures departs_at (λ k t flight. refl) made.departures clear.departures;
-  arrivals = empty_counts parts loads.arrivals arrives_at (λ k t flight. refl) made.arrivals clear.arrivals;
+  departures = empty_counts parts loads.departures departs_at
+      (λ k t flight. refl) made.departures clear.departures;
+  arrivals = empty_counts parts loads.arrivals arrives_at
+      (λ k t flight. refl) made.arrivals clear.arrivals;
   sectors = empty_counts parts loads.inside stays_at (λ k t flight. refl) made.inside clear.inside;
   leaves = λ f f_in. clear.leaves f ∙ sym (ap departure_of (none_at parts.flights f));
   arrives = λ f f_in. clear.arrives f ∙ sym (ap arrival_of (none_at parts.flights f));
 }
 
 -- a grid counts one trip more
-module _ (parts : Parts) (few : length parts.flights ≤ most_flights) (trips : List (List Stop)) (each : AreTripsOrNone parts.day.periods parts.flights trips)
-    (n : ℕ) (flight : Flight) (stops : List Stop) (here : slice_get parts.flights n ≡ Some flight) (absent : slice_get trips n ≡ Some [])
+module _ (parts : Parts) (few : length parts.flights ≤ most_flights) (trips : List (List Stop))
+    (each : AreTripsOrNone parts.day.periods parts.flights trips)
+    (n : ℕ) (flight : Flight) (stops : List Stop) (here : slice_get parts.flights n ≡ Some flight)
+    (absent : slice_get trips n ≡ Some [])
     (trip : IsTripOrNone parts.day.periods flight stops) where
-  one_more_trip : (count : ℕ → ℕ → Flight → List Stop → ℕ) → ((k t : ℕ) (f : Flight) → count k t f [] ≡ 0)
-      → ((k t : ℕ) (f : Flight) (s : List Stop) → IsTripOrNone parts.day.periods f s → count k t f s ≤ 1)
-      → (old new : Cells) → HasSize (length parts.places) parts.day.periods old → Adds (λ k t. count k t flight stops) old new
-      → ((k t : ℕ) → k < length parts.places → t < parts.day.periods → count_at old k t ≡ counted (count k t) parts.flights trips)
-      → (k t : ℕ) → k < length parts.places → t < parts.day.periods → count_at new k t ≡ counted (count k t) parts.flights (set trips n stops)
+  one_more_trip : (count : ℕ → ℕ → Flight → List Stop → ℕ)
+      → ((k t : ℕ) (f : Flight) → count k t f [] ≡ 0)
+      → ((k t : ℕ) (f : Flight) (s : List Stop) → IsTripOrNone parts.day.periods f s
+      → count k t f s ≤ 1)
+      → (old new : Cells) → HasSize (length parts.places) parts.day.periods old
+      → Adds (λ k t. count k t flight stops) old new
+      → ((k t : ℕ) → k < length parts.places → t < parts.day.periods
+      → count_at old k t ≡ counted (count k t) parts.flights trips)
+      → (k t : ℕ) → k < length parts.places → t < parts.day.periods
+      → count_at new k t ≡ counted (count k t) parts.flights (set trips n stops)
   one_more_trip count none once old new size adds are k t k_in t_in =
       let before = are k t k_in t_in in
       let small = counted-le (count k t) parts.day.periods (once k t) parts.flights trips each in
       let one = once k t flight stops trip in
-      let after = counted-set (count k t) (none k t) parts.flights trips n flight stops here absent in
-      let grown : count_at new k t ≡ count_at old k t + count k t flight stops = adds.each k t (omega (arith, size.wide)) (omega (arith, size.long)) (omega arith) in
+      let after = counted-set (count k t)
+      (none k t) parts.flights trips n flight stops here absent in
+      let grown : count_at new k t ≡ count_at old k t + count k t flight stops =
+      adds.each k t (omega (arith, size.wide)) (omega (arith, size.long)) (omega arith) in
       omega arith
 
   -- the times of the flights after it
-  times_at : (time : List Stop → Option ℕ) (times : List (Option ℕ)) → length times ≡ length parts.flights
+  times_at : (time : List Stop → Option ℕ) (times : List (Option ℕ))
+      → length times ≡ length parts.flights
       → ((f : ℕ) → f < length parts.flights → get_or times f None ≡ time (get_or trips f []))
-      → n < length parts.flights → (f : ℕ) → f < length parts.flights → (f ≡ n) ⊎ (f ≢ n) → get_or (set times n (time stops)) f None ≡ time (get_or (set trips n stops) f [])
+      → n < length parts.flights → (f : ℕ) → f < length parts.flights → (f ≡ n) ⊎ (f ≢ n)
+      → get_or (set times n (time stops)) f None ≡ time (get_or (set trips n stops) f [])
   times_at time times long are n_in f f_in (inl same) =
       let there = AreTripsOrNone-length parts.day.periods parts.flights trips each in
-      ap (λ i. get_or (set times n (time stops)) i None) same ∙ get_or-set_same times n (time stops) None (omega arith)
-      ∙ sym (ap time (ap (λ i. get_or (set trips n stops) i []) same ∙ get_or-set_same trips n stops [] (omega arith)))
+      ap (λ i. get_or (set times n (time stops)) i None) same
+      ∙ get_or-set_same times n (time stops) None (omega arith)
+      ∙ sym (ap time (ap (λ i. get_or (set trips n stops) i []) same
+      ∙ get_or-set_same trips n stops [] (omega arith)))
   times_at time times long are n_in f f_in (inr other) =
-      get_or-set_other times n f (time stops) None other ∙ are f f_in ∙ sym (ap time (get_or-set_other trips n f stops [] other))
+      get_or-set_other times n f (time stops) None other ∙ are f f_in
+      ∙ sym (ap time (get_or-set_other trips n f stops [] other))
 
-  times_set : (time : List Stop → Option ℕ) (times : List (Option ℕ)) → length times ≡ length parts.flights
+  times_set : (time : List Stop → Option ℕ) (times : List (Option ℕ))
+      → length times ≡ length parts.flights
       → ((f : ℕ) → f < length parts.flights → get_or times f None ≡ time (get_or trips f []))
-      → n < length parts.flights → (f : ℕ) → f < length parts.flights → get_or (set times n (time stops)) f None ≡ time (get_or (set trips n stops) f [])
-  times_set time times long are n_in f f_in = times_at time times long are n_in f f_in (cases_eq f n)
+      → n < length parts.flights → (f : ℕ) → f < length parts.flights
+      → get_or (set times n (time stops)) f None ≡ time (get_or (set trips n stops) f [])
+  times_set time times long are n_in f f_in =
+      times_at time times long are n_in f f_in (cases_eq f n)
 
   -- the loads count one trip more
-  pub AreLoads-add : (old new : Tally) → AreLoads parts trips old → AddsTrip flight n stops old new → n < length parts.flights → AreLoads parts (set trips n stops) new
+  pub AreLoads-add : (old new : Tally) → AreLoads parts trips old → AddsTrip flight n stops old new
+      → n < length parts.flights → AreLoads parts (set trips n stops) new
   AreLoads-add old new are adds n_in = record {
     made = record {
-      departures = record { wide = adds.departures.places ∙ are.made.departures.wide; long = adds.departures.periods ∙ are.made.departures.long };
-      arrivals = record { wide = adds.arrivals.places ∙ are.made.arrivals.wide; long = adds.arrivals.periods ∙ are.made.arrivals.long };
-      inside = record { wide = adds.inside.places ∙ are.made.inside.wide; long = adds.inside.periods ∙ are.made.inside.long };
-      leaves = ap length adds.leaves ∙ length-set old.leaves n (departure_of stops) ∙ are.made.leaves;
-      arrives = ap length adds.arrives ∙ length-set old.arrives n (arrival_of stops) ∙ are.made.arrives;
+      departures = record {
+        wide = adds.departures.places ∙ are.made.departures.wide;
+        long = adds.departures.periods ∙ are.made.departures.long;
+      };
+      arrivals = record {
+        wide = adds.arrivals.places ∙ are.made.arrivals.wide;
+        long = adds.arrivals.periods ∙ are.made.arrivals.long;
+      };
+      inside = record {
+        wide = adds.inside.places ∙ are.made.inside.wide;
+        long = adds.inside.periods ∙ are.made.inside.long;
+      };
+      leaves = ap length adds.leaves ∙ length-set old.leaves n (departure_of stops)
+          ∙ are.made.leaves;
+      arrives = ap length adds.arrives ∙ length-set old.arrives n (arrival_of stops)
+          ∙ are.made.arrives;
     };
     each = AreTripsOrNone-set parts.day.periods parts.flights trips n flight stops here trip each;
-    departures = one_more_trip departs_at (λ k t f. refl) (λ k t f s h. departs_at-le k t f s) old.departures new.departures are.made.departures adds.departures are.departures;
-    arrivals = one_more_trip arrives_at (λ k t f. refl) (λ k t f s h. arrives_at-le k t f s) old.arrivals new.arrivals are.made.arrivals adds.arrivals are.arrivals;
-    sectors = one_more_trip stays_at (λ k t f. refl) (λ k t f s h. stays_at-le parts.day.periods k t f s h) old.inside new.inside are.made.inside adds.inside are.sectors;
-    leaves = λ f f_in. ap (λ times. get_or times f None) adds.leaves ∙ times_set departure_of old.leaves are.made.leaves are.leaves n_in f f_in;
-    arrives = λ f f_in. ap (λ times. get_or times f None) adds.arrives ∙ times_set arrival_of old.arrives are.made.arrives are.arrives n_in f f_in;
+    departures = one_more_trip departs_at (λ k t f. refl)
+        (λ k t f s h. departs_at-le k t f s) old.departures new.departures are.made.departures
+        adds.departures are.departures;
+    arrivals = one_more_trip arrives_at (λ k t f. refl)
+        (λ k t f s h. arrives_at-le k t f s) old.arrivals new.arrivals are.made.arrivals
+        adds.arrivals are.arrivals;
+    sectors = one_more_trip stays_at (λ k t f. refl)
+        (λ k t f s h. stays_at-le parts.day.periods k t f s h) old.inside new.inside are.made.inside
+        adds.inside are.sectors;
+    leaves = λ f f_in. ap (λ times. get_or times f None) adds.leaves
+        ∙ times_set departure_of old.leaves are.made.leaves are.leaves n_in f f_in;
+    arrives = λ f f_in. ap (λ times. get_or times f None) adds.arrives
+        ∙ times_set arrival_of old.arrives are.made.arrives are.arrives n_in f f_in;
   }
 
 -- a trip is there
-pub trip_there : (periods : ℕ) (flight : Flight) (stops : List Stop) → IsTrip periods flight stops → IsTripOrNone periods flight stops
+pub trip_there : (periods : ℕ) (flight : Flight) (stops : List Stop) → IsTrip periods flight stops
+    → IsTripOrNone periods flight stops
 trip_there periods flight [] trip = tt
 trip_there periods flight (stop ∷ rest) trip = trip
 
@@ -96,5 +140,6 @@ none_in_by n f (inr past) =
     get_or_past (replicate n none) f none (omega arith)
 
 -- no flight is there
-pub none_in : (times : List (Option ℕ)) (n f : ℕ) → times ≡ replicate n None → get_or times f None ≡ None
+pub none_in : (times : List (Option ℕ)) (n f : ℕ) → times ≡ replicate n None
+    → get_or times f None ≡ None
 none_in times n f is = ap (λ ts. get_or ts f None) is ∙ none_in_by n f (cases_lt f n)

@@ -41,7 +41,8 @@ broken_number trips flights = unless (trips == flights) (broken.Trips trips flig
 -- a stop whose time isn't in its node's window
 abbrev pub is_within_hours : ℕ → Flight → Stop → Bool
 is_within_hours periods flight stop =
-    nat_le (earliest_of flight stop.node) stop.time && nat_le stop.time (latest_of periods flight stop.node)
+    nat_le (earliest_of flight stop.node) stop.time
+    && nat_le stop.time (latest_of periods flight stop.node)
 
 abbrev pub broken_window : ℕ → ℕ → Flight → ℕ → Stop → Option Broken
 broken_window periods number flight place stop =
@@ -57,8 +58,8 @@ broken_step number place stop next None = Some (broken.NoLeg number place)
 broken_step number place stop next (Some leg) =
     unless (nat_le (stop.time + leg.least) next.time) (broken.Least number place leg.least)
 
--- What breaks first after a stop, which stands at that place in the trip: stop by stop the way to the
--- next one, then its window, and at the last stop its node.
+-- What breaks first after a stop, which stands at that place in the trip: stop by stop the way to
+-- the next one, then its window, and at the last stop its node.
 abbrev pub broken_onward : ℕ → ℕ → Flight → ℕ → Stop → List Stop → Option Broken
 broken_onward periods number flight place stop [] =
     unless (stop.node + 1 == length flight.nodes) (broken.Ending number)
@@ -76,7 +77,8 @@ broken_trip periods number flight (stop ∷ rest) =
     (broken_onward periods number flight 0 stop rest))
 
 abbrev pub broken_trip_in : ℕ → List (List Stop) → ℕ → Flight → Option Broken
-broken_trip_in periods plan number flight = broken_trip periods number flight (slice_index_or plan number [])
+broken_trip_in periods plan number flight =
+    broken_trip periods number flight (slice_index_or plan number [])
 
 -- a flight that leaves before the turnaround has passed since the one before it arrived, where both
 -- are there
@@ -90,7 +92,8 @@ broken_times number turnaround (Some arrives) (Some leaves) =
 -- these times
 abbrev pub broken_turn : (ℕ → Option ℕ) → (ℕ → Option ℕ) → ℕ → Connection → Option Broken
 broken_turn arrival departure number connection =
-    broken_times number connection.turnaround (arrival connection.first) (departure connection.second)
+    broken_times number connection.turnaround (arrival connection.first)
+    (departure connection.second)
 
 -- when a flight of the plan arrives, and departs
 abbrev pub arrival_in : List (List Stop) → ℕ → Option ℕ
@@ -101,9 +104,12 @@ departure_in plan flight = option_and_then departure_of (slice_get plan flight)
 
 -- more than the capacity of this kind, by the name of the rule
 abbrev pub over : CapKind → ℕ → ℕ → ℕ → ℕ → Broken
-over kind.Dep place period load capacity = broken.Departures (record { place = place; period = period; load = load; capacity = capacity })
-over kind.Arr place period load capacity = broken.Arrivals (record { place = place; period = period; load = load; capacity = capacity })
-over kind.Sector place period load capacity = broken.Sectors (record { place = place; period = period; load = load; capacity = capacity })
+over kind.Dep place period load capacity =
+    broken.Departures (record { place = place; period = period; load = load; capacity = capacity })
+over kind.Arr place period load capacity =
+    broken.Arrivals (record { place = place; period = period; load = load; capacity = capacity })
+over kind.Sector place period load capacity =
+    broken.Sectors (record { place = place; period = period; load = load; capacity = capacity })
 
 abbrev pub broken_capacity : Parts → CapKind → (ℕ → ℕ → ℕ) → ℕ → ℕ → Option Broken
 broken_capacity parts kind load place t =
@@ -113,7 +119,8 @@ broken_capacity parts kind load place t =
 -- the first period in which a place is over its capacity, where it has capacities of this kind
 abbrev pub first_over_in : Parts → CapKind → (ℕ → ℕ → ℕ) → ℕ → Option Broken
 first_over_in parts kind load place =
-    if has_kind kind (slice_get parts.places place) then first_below parts.day.periods (broken_capacity parts kind load place) else None
+    if has_kind kind (slice_get parts.places place) then first_below parts.day.periods
+    (broken_capacity parts kind load place) else None
 
 -- the first place that is, and its first period
 abbrev pub first_over : Parts → CapKind → (ℕ → ℕ → ℕ) → Option Broken

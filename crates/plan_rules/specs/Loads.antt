@@ -79,15 +79,19 @@ pub record AreLoads (parts : Parts) (trips : List (List Stop)) (loads : Tally) :
       → load_at loads kind.Arr k t ≡ arrivals_at parts.flights trips k t
   pub sectors : (k t : ℕ) → k < length parts.places → t < parts.day.periods
       → load_at loads kind.Sector k t ≡ occupancy_at parts.flights trips k t
-  pub leaves : (f : ℕ) → f < length parts.flights → departure_at loads f ≡ departure_of (slice_index_or trips f [])
-  pub arrives : (f : ℕ) → f < length parts.flights → arrival_at loads f ≡ arrival_of (slice_index_or trips f [])
+  pub leaves : (f : ℕ) → f < length parts.flights
+      → departure_at loads f ≡ departure_of (slice_index_or trips f [])
+  pub arrives : (f : ℕ) → f < length parts.flights
+      → arrival_at loads f ≡ arrival_of (slice_index_or trips f [])
 
 -- the stops are a trip of the flight at the position
 abbrev pub IsTripAt : Parts → ℕ → List Stop → Type 0
-IsTripAt parts number stops = (flight : Flight) → slice_get parts.flights number ≡ Some flight → IsTrip parts.day.periods flight stops
+IsTripAt parts number stops = (flight : Flight) → slice_get parts.flights number ≡ Some flight
+    → IsTrip parts.day.periods flight stops
 
 -- one trip more
-pub record AddsTrip (flight : Flight) (number : ℕ) (stops : List Stop) (old new : Tally) : Type 0 where
+pub record AddsTrip (flight : Flight) (number : ℕ) (stops : List Stop)
+    (old new : Tally) : Type 0 where
   pub departures : Adds (λ k t. departs_at k t flight stops) old.departures new.departures
   pub arrivals : Adds (λ k t. arrives_at k t flight stops) old.arrivals new.arrivals
   pub inside : Adds (λ k t. stays_at k t flight stops) old.inside new.inside

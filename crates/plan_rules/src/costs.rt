@@ -24,7 +24,8 @@ pub fn cost(s: &Scenario, plan: &Plan) -> i64
 // The cost of the flight's trip.
 fn trip_cost(s: &Scenario, flight: u32, stops: &[Stop]) -> i64
     requires { flight < length (parts_of s.now).flights }
-    ensures value { result ≡ trip_cost_at (parts_of s.now).tables (flight_at s.now flight) stops.now }
+    ensures value { result
+        ≡ trip_cost_at (parts_of s.now).tables (flight_at s.now flight) stops.now }
     ensures low { neg_ℤ (pos 200000000000) ≤ℤ result }
     ensures high { result ≤ℤ pos 200000000000 }
 {

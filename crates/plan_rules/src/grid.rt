@@ -18,7 +18,11 @@ impl Model for Grid {
 
     ghost Value = { Cells };
 
-    ghost view = { λ a. record { places = a.places; periods = a.periods; counts = a.counts.items } };
+    ghost view = { λ a. record {
+      places = a.places;
+      periods = a.periods;
+      counts = a.counts.items;
+    } };
 
     ghost invariant = { λ a. vec_len a.counts ≡ a.places * a.periods };
 }
@@ -51,7 +55,8 @@ impl Grid {
 
     /// The count of the place in the period, 0 outside the grid.
     pub fn get(&self, place: u32, period: u16) -> u32
-        ensures { place < self.now.places → period < self.now.periods → result ≡ count_at self.now place period }
+        ensures { place < self.now.places → period < self.now.periods
+            → result ≡ count_at self.now place period }
     {
         if (place as usize) < self.places && period < self.periods {
             self.counts[place as usize * usize::from(self.periods) + usize::from(period)]
@@ -73,7 +78,8 @@ impl Grid {
 
     /// Counts one more at the place in each period from `from` up to, but not including, `to`.
     pub fn add_stay(&mut self, place: u32, from: u16, to: u16)
-        ensures { Adds (λ k t. one_if ((place == k) && nat_le from t && nat_lt t to)) self.old self.new }
+        ensures { Adds (λ k t. one_if ((place == k) && nat_le from t && nat_lt t to)) self.old
+            self.new }
     {
         for period in from..to.min(self.periods) {
             self.add(place, period);

@@ -27,9 +27,12 @@ fn add_all(loads: &mut Loads, s: &Scenario, plan: &[Trip])
 // Whether each connection has its turnaround.
 fn check_turns(loads: &Loads, connections: &[Connection]) -> Result<(), Broken>
     requires few { length connections.now < 2 ^ 32 }
-    requires arrives { All (λ connection. connection.first < length loads.now.arrives) connections.now }
-    requires leaves { All (λ connection. connection.second < length loads.now.leaves) connections.now }
-    ensures { Names (first_along (broken_turn (arrival_at loads.now) (departure_at loads.now)) connections.now) result }
+    requires arrives { All
+        (λ connection. connection.first < length loads.now.arrives) connections.now }
+    requires leaves { All
+        (λ connection. connection.second < length loads.now.leaves) connections.now }
+    ensures { Names (first_along
+        (broken_turn (arrival_at loads.now) (departure_at loads.now)) connections.now) result }
 {
     for at in 0..connections.len() {
         check_turn(loads, &connections[at], at as u32)?;
@@ -41,7 +44,8 @@ fn check_turns(loads: &Loads, connections: &[Connection]) -> Result<(), Broken>
 fn check_turn(loads: &Loads, connection: &Connection, number: u32) -> Result<(), Broken>
     requires arrives { connection.now.first < length loads.now.arrives }
     requires leaves { connection.now.second < length loads.now.leaves }
-    ensures { Names (broken_turn (arrival_at loads.now) (departure_at loads.now) number connection.now) result }
+    ensures { Names (broken_turn (arrival_at loads.now)
+        (departure_at loads.now) number connection.now) result }
 {
     let Some(arrives) = loads.arrival(connection.first) else {
         return Ok(());
@@ -121,9 +125,13 @@ pub enum Verdict {
 /// `Breaks` they hold no trips. It takes no memory.
 pub fn judge(loads: &mut Loads, s: &Scenario, plan: &Plan) -> Verdict
     requires { IsMadeFor (parts_of s.now) loads.old }
-    ensures keeps { MatchVerdict result (λ cost. IsFeasible (parts_of s.now) plan.now) (λ broken. IsFeasible (parts_of s.now) plan.now → ⊥) }
-    ensures cost { MatchVerdict result (λ cost. cost ≡ plan_cost (parts_of s.now).tables (parts_of s.now).flights plan.now) (λ broken. ⊤) }
-    ensures broken { MatchVerdict result (λ cost. first_broken (parts_of s.now) plan.now ≡ None) (λ broken. first_broken (parts_of s.now) plan.now ≡ Some broken) }
+    ensures keeps { MatchVerdict result (λ cost. IsFeasible (parts_of s.now) plan.now)
+        (λ broken. IsFeasible (parts_of s.now) plan.now → ⊥) }
+    ensures cost { MatchVerdict result
+        (λ cost. cost ≡ plan_cost (parts_of s.now).tables (parts_of s.now).flights plan.now)
+        (λ broken. ⊤) }
+    ensures broken { MatchVerdict result (λ cost. first_broken (parts_of s.now) plan.now ≡ None)
+        (λ broken. first_broken (parts_of s.now) plan.now ≡ Some broken) }
     ensures loads { MatchVerdict result (λ cost. AreLoads (parts_of s.now) plan.now loads.new)
         (λ broken. AreLoads (parts_of s.now) (no_trips (parts_of s.now)) loads.new) }
 {

@@ -36,9 +36,21 @@ impl Model for Loads {
 
     ghost use Rattle.plan_rules.specs.Contents.{AreContents};
 
-    ghost view = { λ a. record { departures = a.departures; arrivals = a.arrivals; inside = a.inside; leaves = a.leaves.items; arrives = a.arrives.items } };
+    ghost view = { λ a. record {
+      departures = a.departures;
+      arrivals = a.arrivals;
+      inside = a.inside;
+      leaves = a.leaves.items;
+      arrives = a.arrives.items;
+    } };
 
-    ghost invariant = { λ a. AreContents a.contents (record { departures = a.departures; arrivals = a.arrivals; inside = a.inside; leaves = a.leaves.items; arrives = a.arrives.items }) };
+    ghost invariant = { λ a. AreContents a.contents (record {
+      departures = a.departures;
+      arrivals = a.arrivals;
+      inside = a.inside;
+      leaves = a.leaves.items;
+      arrives = a.arrives.items;
+    }) };
 }
 
 impl Loads {
@@ -68,7 +80,8 @@ impl Loads {
     /// Takes every trip out. The loads stay those of the scenario that they were made for. Where
     /// none was added since they were new or cleared, it takes no time.
     pub fn clear(&mut self)
-        ensures { (parts : Parts) → IsMadeFor parts self.old → AreLoads parts (no_trips parts) self.new }
+        ensures { (parts : Parts) → IsMadeFor parts self.old
+            → AreLoads parts (no_trips parts) self.new }
     {
         match self.contents {
             Contents::Nothing => {}

@@ -12,7 +12,8 @@ use flow_types::{Flight, Leg, Scenario, Stop, Trip};
 /// Whether each flight has one trip, and a trip of its own.
 pub fn check_trips(s: &Scenario, plan: &[Trip]) -> Result<(), Broken>
     ensures { Names (option_or (broken_number (length plan.now) (length (parts_of s.now).flights))
-        (first_along (broken_trip_in (parts_of s.now).day.periods plan.now) (parts_of s.now).flights)) result }
+        (first_along (broken_trip_in (parts_of s.now).day.periods plan.now)
+        (parts_of s.now).flights)) result }
 {
     let flights = s.flights();
     if plan.len() != flights.len() {
@@ -79,7 +80,9 @@ fn check_step(
     next: Stop,
 ) -> Result<(), Broken>
     requires { All IsUpward flight.now.legs }
-    ensures broken { Names (broken_step number place_in_trip stop next (leg_between flight.now.legs stop.node next.node)) result }
+    ensures broken { Names
+        (broken_step number place_in_trip stop next
+        (leg_between flight.now.legs stop.node next.node)) result }
     ensures upward { OnOk result (stop.node < next.node) }
     ensures within { OnOk result (next.node < 2 ^ 16) }
 {

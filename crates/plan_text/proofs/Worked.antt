@@ -15,7 +15,8 @@ use Rattle.plan_text.specs.Trips.{flight_in, stop_in, stops_from, trip_of}
 
 -- what has to be opened to compute a text
 unfoldable text_on_literals : Unit {0}
-unfolding csv_on_literals name_in number_in flight_in stop_in stops_from trip_of trip_step record_step records_step plan_from
+unfolding csv_on_literals name_in number_in flight_in stop_in stops_from trip_of trip_step
+    record_step records_step plan_from
 text_on_literals = tt
 
 -- so many stops in the sector
@@ -27,11 +28,14 @@ pairs (suc n) = codes ",S,1" ++ pairs n
 abbrev read : List ℕ → Result (List (List Stop)) Fault
 read text = plan_of (two_flights 1 9 9) text
 
-both_trips : read (codes "status,optimal\ncost,0\nbound,0\nnodes,1\ntrip,F1,ORIG,0,S,0,DEST,2\ntrip,F2,ORIG,1,S,1,DEST,7\n") ≡ Ok (trip_at 0 2 ∷ trip_at 1 7 ∷ [])
+both_trips : read (codes
+    "status,optimal\ncost,0\nbound,0\nnodes,1\ntrip,F1,ORIG,0,S,0,DEST,2\ntrip,F2,ORIG,1,S,1,DEST,7\n") ≡ Ok (trip_at 0 2 ∷ trip_at 1 7 ∷ [])
 unfolding text_on_literals
 both_trips = refl
 
-in_the_order_of_the_flights : read (codes "trip,F2,ORIG,1,S,1,DEST,7\n\nnote,\"a,b\",c\ntrip,F1,ORIG,0,S,0,DEST,2") ≡ Ok (trip_at 0 2 ∷ trip_at 1 7 ∷ [])
+in_the_order_of_the_flights : read
+    (codes "trip,F2,ORIG,1,S,1,DEST,7\n\nnote,\"a,b\",c\ntrip,F1,ORIG,0,S,0,DEST,2")
+    ≡ Ok (trip_at 0 2 ∷ trip_at 1 7 ∷ [])
 unfolding text_on_literals
 in_the_order_of_the_flights = refl
 
@@ -43,7 +47,8 @@ an_empty_trip : read (codes "trip,F1\n") ≡ Ok ([] ∷ [] ∷ [])
 unfolding text_on_literals
 an_empty_trip = refl
 
-stops_in_any_order : read (codes "trip,F2,DEST,007,DEST,0\n") ≡ Ok ([] ∷ (stop_at 2 7 ∷ stop_at 2 0 ∷ []) ∷ [])
+stops_in_any_order : read (codes "trip,F2,DEST,007,DEST,0\n")
+    ≡ Ok ([] ∷ (stop_at 2 7 ∷ stop_at 2 0 ∷ []) ∷ [])
 unfolding text_on_literals
 stops_in_any_order = refl
 
@@ -75,7 +80,8 @@ a_place_for_a_flight : read (codes "trip,ORIG\n") ≡ Err (fault_at 1 2 cause.Un
 unfolding text_on_literals
 a_place_for_a_flight = refl
 
-a_second_trip : read (codes "trip,F1,ORIG,0\ntrip,F2\ntrip,F1,ORIG,T\n") ≡ Err (fault_at 3 2 cause.Repeated)
+a_second_trip : read (codes "trip,F1,ORIG,0\ntrip,F2\ntrip,F1,ORIG,T\n")
+    ≡ Err (fault_at 3 2 cause.Repeated)
 unfolding text_on_literals
 a_second_trip = refl
 
@@ -119,25 +125,29 @@ a_period_after_the_day : read (codes "trip,F1,ORIG,7,S,8\n") ≡ Err (fault_at 1
 unfolding text_on_literals
 a_period_after_the_day = refl
 
-the_first_record_first : read (codes "trip,F1,ORIG,8\ncosts,1\n") ≡ Err (fault_at 1 4 cause.OutOfRange)
+the_first_record_first : read (codes "trip,F1,ORIG,8\ncosts,1\n")
+    ≡ Err (fault_at 1 4 cause.OutOfRange)
 unfolding text_on_literals
 the_first_record_first = refl
 
-as_many_stops_as_there_may_be : read (codes "trip,F1" ++ (pairs 32 ++ codes "\n")) ≡ Ok (replicate 32 (stop_at 1 1) ∷ [] ∷ [])
+as_many_stops_as_there_may_be : read (codes "trip,F1" ++ (pairs 32 ++ codes "\n"))
+    ≡ Ok (replicate 32 (stop_at 1 1) ∷ [] ∷ [])
 unfolding text_on_literals
 as_many_stops_as_there_may_be = refl
 
-a_field_too_many : read (codes "trip,F1" ++ (pairs 32 ++ codes ",S!\n")) ≡ Err (fault_at 1 67 cause.ExtraField)
+a_field_too_many : read (codes "trip,F1" ++ (pairs 32 ++ codes ",S!\n"))
+    ≡ Err (fault_at 1 67 cause.ExtraField)
 unfolding text_on_literals
 a_field_too_many = refl
 
-a_bad_period_before_a_field_too_many : read (codes "trip,F1" ++ (pairs 31 ++ codes ",S,9,S!\n")) ≡ Err (fault_at 1 66 cause.OutOfRange)
+a_bad_period_before_a_field_too_many : read (codes "trip,F1" ++ (pairs 31 ++ codes ",S,9,S!\n"))
+    ≡ Err (fault_at 1 66 cause.OutOfRange)
 unfolding text_on_literals
 a_bad_period_before_a_field_too_many = refl
 
--- ---- lines
 
-a_line : trip_text (two_flights 1 9 9).places there (trip_at 0 2) ≡ codes "trip,F1,ORIG,0,S,0,DEST,2\n"
+a_line : trip_text (two_flights 1 9 9).places there (trip_at 0 2)
+    ≡ codes "trip,F1,ORIG,0,S,0,DEST,2\n"
 unfolding digits
 a_line = refl
 

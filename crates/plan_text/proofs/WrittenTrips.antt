@@ -15,7 +15,6 @@ use Rattle.text_records.specs.Names.{position_of}
 use Rattle.text_records.specs.Rows.{Fields}
 use Rattle.text_records.proofs.NameFacts.{position-map}
 
--- ---- numbers and names that are read back
 
 -- a number that fits the digits that a number may have is read back
 pub number_back : (n : ℕ) → n < 10 ^ 18 → number_of (decimal n) ≡ Some n
@@ -24,23 +23,35 @@ number_back n few =
     let own = numerals_by_value (λ bytes. all_ascii_digits bytes ≡ true) tells_all_ascii_digits in
     let digits : all_ascii_digits (decimal n) ≡ true = digits_decimal own n small in
     let value : digits_value 10 (decimal n) ≡ n = digits_value-decimal own n small in
-    rw (le-leb 1 (length (decimal n)) (decimal_nonempty n small), le-leb (length (decimal n)) 18 (length-decimal-le 18 n (omega arith) few small), digits) (ap Some value)
+    rw (
+      le-leb 1 (length (decimal n)) (decimal_nonempty n small),
+      le-leb (length (decimal n)) 18
+          (length-decimal-le 18 n (omega arith) few small),
+      digits,
+    ) (ap Some value)
 
 module _ (fields : Fields) (number : ℕ) where
-  pub name_back : (name : List ℕ) → slice_get fields (number - 1) ≡ Some name → is_name name ≡ true → name_in fields number ≡ Ok name
+  pub name_back : (name : List ℕ) → slice_get fields (number - 1) ≡ Some name → is_name name ≡ true
+      → name_in fields number ≡ Ok name
   unfolding name_in
   name_back name there named = rw (there, named) refl
 
-  pub number_in_back : (n high : ℕ) → slice_get fields (number - 1) ≡ Some (decimal n) → n < 10 ^ 18 → n ≤ high → number_in fields number 0 high ≡ Ok n
+  pub number_in_back : (n high : ℕ) → slice_get fields (number - 1) ≡ Some (decimal n) → n < 10 ^ 18
+      → n ≤ high → number_in fields number 0 high ≡ Ok n
   unfolding number_in
-  number_in_back n high there few within = rw (there, number_back n few, le-leb 0 n (omega arith), le-leb n high within) refl
+  number_in_back n high there few within =
+      rw (there, number_back n few, le-leb 0 n (omega arith), le-leb n high within) refl
 
--- ---- what stands where
 
-pub found_at : {X : Type 0} (p : X → Bool) (xs : List X) (k : ℕ) (d : X) → k < length xs → ((i : ℕ) → i < k → p (get_or xs i d) ≡ false) → p (get_or xs k d) ≡ true
+pub found_at : {X : Type 0} (p : X → Bool) (xs : List X) (k : ℕ) (d : X) → k < length xs
+    → ((i : ℕ) → i < k → p (get_or xs i d) ≡ false) → p (get_or xs k d) ≡ true
     → position p xs ≡ Some k
 found_at p xs k d within before here =
-    rw (position_or_len_is p xs k d (omega arith) before (λ less. here), lt-ltb k (length xs) within) refl
+    rw (
+      position_or_len_is p xs k d (omega arith) before (λ less. here),
+      lt-ltb k
+          (length xs) within,
+    ) refl
 
 apart_bytes : (a b : List ℕ) → b ≢ a → bytes_eq a b ≡ false
 apart_bytes a b apart = by (bytes_eq a b) refl
@@ -50,14 +61,16 @@ apart_bytes a b apart = by (bytes_eq a b) refl
     by false e = refl
 
 -- where names differ, each is found at its position
-pub named_at : {X : Type 0} (f : X → List ℕ) (xs : List X) (k : ℕ) (x : X) → AllPairs (λ a b. f a ≢ f b) xs → slice_get xs k ≡ Some x
+pub named_at : {X : Type 0} (f : X → List ℕ) (xs : List X) (k : ℕ) (x : X)
+    → AllPairs (λ a b. f a ≢ f b) xs → slice_get xs k ≡ Some x
     → position_of (f x) (map f xs) ≡ Some k
 named_at f xs k x apart there =
     let within = slice_get_within xs k x there in
     let here : get_or xs k x ≡ x = get_or_from_slice_get xs k x x there in
     position-map (bytes_eq (f x)) f xs
     ∙ found_at (λ y. bytes_eq (f x) (f y)) xs k x within
-    (λ i less. apart_bytes (f x) (f (get_or xs i x)) (λ same. apart i k x less within (same ∙ ap f (sym here))))
+    (λ i less. apart_bytes (f x) (f (get_or xs i x))
+    (λ same. apart i k x less within (same ∙ ap f (sym here))))
     (ap (λ y. bytes_eq (f x) (f y)) here ∙ (bytes_eq-Decides (f x) (f x)).1 refl)
 
 -- where nodes differ, each is found at its position

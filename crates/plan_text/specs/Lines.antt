@@ -14,12 +14,15 @@ place_name (Some place) = place.name
 -- a place and a period for each stop
 abbrev pub stop_text : List Place → Flight → Stop → List ℕ
 stop_text places flight stop =
-    codes "," ++ (place_name (slice_get places (place_at flight stop.node)) ++ (codes "," ++ decimal stop.time))
+    codes "," ++ (place_name (slice_get places (place_at flight stop.node))
+    ++ (codes "," ++ decimal stop.time))
 
 abbrev pub stops_text : List Place → Flight → List Stop → List ℕ
 stops_text places flight [] = []
-stops_text places flight (stop ∷ stops) = stop_text places flight stop ++ stops_text places flight stops
+stops_text places flight (stop ∷ stops) =
+    stop_text places flight stop ++ stops_text places flight stops
 
 -- a line for the trip of a flight
 abbrev pub trip_text : List Place → Flight → List Stop → List ℕ
-trip_text places flight stops = codes "trip," ++ (flight.name ++ (stops_text places flight stops ++ codes "\n"))
+trip_text places flight stops =
+    codes "trip," ++ (flight.name ++ (stops_text places flight stops ++ codes "\n"))

@@ -42,7 +42,8 @@ fn put_stops(
     flight: &Flight,
     stops: &[Stop],
 ) -> Result<(), OutOfMemory>
-    ensures { OnOk result (out.new.items ≡ out.old.items ++ stops_text places.now flight.now stops.now) }
+    ensures { OnOk result
+        (out.new.items ≡ out.old.items ++ stops_text places.now flight.now stops.now) }
 {
     for stop in stops {
         put_stop(alloc, out, places, flight, *stop)?;
@@ -58,7 +59,8 @@ fn put_trip(
     flight: &Flight,
     stops: &[Stop],
 ) -> Result<(), OutOfMemory>
-    ensures { OnOk result (out.new.items ≡ out.old.items ++ trip_text places.now flight.now stops.now) }
+    ensures { OnOk result
+        (out.new.items ≡ out.old.items ++ trip_text places.now flight.now stops.now) }
 {
     put(out, b"trip,")?;
     put(out, flight.name.items())?;
@@ -76,7 +78,8 @@ pub fn trip_line(
     stops: &[Stop],
 ) -> Result<Vec<u8>, OutOfMemory>
     requires { flight < length (parts_of s.now).flights }
-    ensures { IfSome (flight_at s.now flight) (λ of. IfOk result (λ line. line.items ≡ trip_text (parts_of s.now).places of stops.now)) }
+    ensures { IfSome (flight_at s.now flight)
+        (λ of. IfOk result (λ line. line.items ≡ trip_text (parts_of s.now).places of stops.now)) }
 {
     let mut line = Vec::new(alloc);
     let flight = &s.flights()[flight as usize];

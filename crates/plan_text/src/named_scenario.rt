@@ -29,7 +29,8 @@ impl<'a> Model for NamedScenario<'a> {
 
     ghost view = { λ named. parts_of named.scenario.now };
 
-    ghost invariant = { λ named. AreNames (parts_of named.scenario.now) named.flights named.places };
+    ghost invariant = { λ named. AreNames
+        (parts_of named.scenario.now) named.flights named.places };
 }
 
 impl<'a> NamedScenario<'a> {

@@ -37,7 +37,8 @@ fn step_of(
     row: &ByteRecord,
     kind: Option<Kind>,
 ) -> Result<(), RecordError>
-    ensures { Gives (λ _. trips.new) result (step_of scenario.now trips.old (fields_of row.now) kind) }
+    ensures { Gives (λ _. trips.new) result
+        (step_of scenario.now trips.old (fields_of row.now) kind) }
 {
     match kind {
         None => Err(RecordError::Field(FieldFault {
@@ -57,7 +58,8 @@ fn record_step(
     trips: &mut TripsRead,
     row: &ByteRecord,
 ) -> Result<(), RecordError>
-    ensures { Gives (λ _. trips.new) result (record_step scenario.now trips.old (fields_of row.now)) }
+    ensures { Gives (λ _. trips.new) result
+        (record_step scenario.now trips.old (fields_of row.now)) }
 {
     let kind = kind_of(field_in(row, 1)?);
     step_of(alloc, scenario, trips, row, kind)

@@ -52,7 +52,8 @@ fn stop_in(
     requires nodes { length nodes.now ≤ most_nodes }
     requires first { 1 ≤ number }
     requires last { number + 1 ≤ most_fields }
-    ensures { Finds (λ stop. stop) result (stop_in scenario.now nodes.now (fields_of row.now) number) }
+    ensures { Finds (λ stop. stop) result
+        (stop_in scenario.now nodes.now (fields_of row.now) number) }
 {
     let name = name_in(row, number)?;
     let node = node_known(number, scenario.node_named(nodes, name))?;
@@ -71,7 +72,8 @@ fn stops_in(
     row: &ByteRecord,
 ) -> Result<Trip, RecordError>
     requires { length nodes.now ≤ most_nodes }
-    ensures { Gives (λ trip. trip) result (stops_from scenario.now nodes.now (fields_of row.now) most_nodes 3) }
+    ensures { Gives (λ trip. trip) result
+        (stops_from scenario.now nodes.now (fields_of row.now) most_nodes 3) }
 {
     let mut stops = Trip::empty(alloc);
     let mut number = 3;
@@ -90,7 +92,8 @@ pub fn trip_of(
     trips: &TripsRead,
     row: &ByteRecord,
 ) -> Result<(u32, Trip), RecordError>
-    ensures found { Gives (λ found. (found.0, found.1)) result (trip_of scenario.now trips.now (fields_of row.now)) }
+    ensures found { Gives (λ found. (found.0, found.1)) result
+        (trip_of scenario.now trips.now (fields_of row.now)) }
     ensures here { IfOk result (λ found. found.0 < length trips.now) }
 {
     let flight = flight_in(scenario, trips, row)?;

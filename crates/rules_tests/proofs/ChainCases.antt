@@ -27,8 +27,8 @@ flight_with sd md least cost = record there {
   cost = cost;
 }
 
--- it departs in period 0 and arrives in period 2, as scheduled; a period costs 1 on the ground and 2
--- in the air
+-- it departs in period 0 and arrives in period 2, as scheduled; a period costs 1 on the ground and
+-- 2 in the air
 abbrev on_time : Flight
 on_time = flight_with 0 5 2 (Linear 1 2)
 
@@ -51,10 +51,15 @@ two_sectors = record there {
   sd = 1;
   sa = 4;
   nodes = 0 ∷ 2 ∷ 3 ∷ 1 ∷ [];
-  legs = record { from = 1; to = 2; least = 2 } ∷ record { from = 0; to = 1; least = 1 } ∷ record { from = 2; to = 3; least = 3 } ∷ [];
+  legs = record { from = 1; to = 2; least = 2 } ∷ record {
+    from = 0;
+    to = 1;
+    least = 1;
+  } ∷ record { from = 2; to = 3; least = 3 } ∷ [];
 }
 
-earliest_of_two_sectors : earliest_trip two_sectors ≡ stop_at 0 1 ∷ stop_at 1 2 ∷ stop_at 2 4 ∷ stop_at 3 7 ∷ []
+earliest_of_two_sectors : earliest_trip two_sectors ≡ stop_at 0 1 ∷ stop_at 1 2 ∷ stop_at 2 4
+    ∷ stop_at 3 7 ∷ []
 earliest_of_two_sectors = refl
 
 takes_six : least_time two_sectors ≡ 6
@@ -77,14 +82,27 @@ past_its_window has = omega (arith, has)
 -- On time there is no cost, and none is less: each arrival delay is at least the ground delay.
 least_on_time : IsLeastPair 8 [] on_time (pos 0)
 least_on_time = record {
-  reached = (0, 0, record { departs = omega arith; arrives = omega arith; time = omega arith }, refl);
+  reached = (
+    0,
+    0,
+    record {
+      departs = omega arith;
+      arrives = omega arith;
+      time = omega arith;
+    },
+    refl,
+  );
   below = λ g d pair. omega (arith, ints, pair.time);
 }
 
 -- One more is not the least.
 not_one : IsLeastPair 8 [] on_time (pos 1) → ⊥
 not_one least =
-    let above = least.below 0 0 (record { departs = omega arith; arrives = omega arith; time = omega arith }) in
+    let above = least.below 0 0 (record {
+      departs = omega arith;
+      arrives = omega arith;
+      time = omega arith;
+    }) in
     omega (arith, ints, above)
 
 -- It may wait for four periods, and no longer.
@@ -101,7 +119,16 @@ free_ground = flight_with 1 5 4 (Linear 0 2)
 
 least_free_ground : IsLeastPair 8 [] free_ground (pos 4)
 least_free_ground = record {
-  reached = (0, 2, record { departs = omega arith; arrives = omega arith; time = omega arith }, refl);
+  reached = (
+    0,
+    2,
+    record {
+      departs = omega arith;
+      arrives = omega arith;
+      time = omega arith;
+    },
+    refl,
+  );
   below = λ g d pair. omega (arith, ints, pair.time);
 }
 
@@ -115,13 +142,23 @@ spare_time = flight_with 0 5 0 (Linear 1 2)
 
 least_spare_time : IsLeastPair 8 [] spare_time (negsuc 1)
 least_spare_time = record {
-  reached = (2, 0, record { departs = omega arith; arrives = omega arith; time = omega arith }, refl);
+  reached = (
+    2,
+    0,
+    record {
+      departs = omega arith;
+      arrives = omega arith;
+      time = omega arith;
+    },
+    refl,
+  );
   below = λ g d pair. omega (arith, ints, pair.time);
 }
 
--- By tables one period on the ground is credited with 1, and two with 7; one or two periods of arrival
--- delay cost 5, and three cost 20. The flight arrives at least a period later than it waits. To wait
--- for one and be late by two costs 5 - 1; not to wait costs 5, and to wait for two costs 20 - 7.
+-- By tables one period on the ground is credited with 1, and two with 7; one or two periods of
+-- arrival delay cost 5, and three cost 20. The flight arrives at least a period later than it
+-- waits. To wait for one and be late by two costs 5 - 1; not to wait costs 5, and to wait for two
+-- costs 20 - 7.
 abbrev tables : List CostTable
 tables =
     record { name = 84 ∷ []; values = pos 0 ∷ pos 5 ∷ pos 5 ∷ pos 20 ∷ [] }
@@ -145,16 +182,26 @@ below_by_tables g (suc (suc (suc (suc d)))) pair = absurd (omega (arith, pair.ar
 
 least_by_tables : IsLeastPair 8 tables by_tables (pos 4)
 least_by_tables = record {
-  reached = (1, 2, record { departs = omega arith; arrives = omega arith; time = omega arith }, refl);
+  reached = (
+    1,
+    2,
+    record {
+      departs = omega arith;
+      arrives = omega arith;
+      time = omega arith;
+    },
+    refl,
+  );
   below = below_by_tables;
 }
 
 -- the day of two such flights; so many may leave in a period
 abbrev day_of : ℕ → Flight → Flight → Parts
-day_of leave first second = record (day_with (places_with leave 9 9) second []) { flights = first ∷ second ∷ [] }
+day_of leave first second =
+    record (day_with (places_with leave 9 9) second []) { flights = first ∷ second ∷ [] }
 
--- Both flights keep the schedule, and the bound is the sum 0 + 0. How many may leave in a period doesn't
--- change it.
+-- Both flights keep the schedule, and the bound is the sum 0 + 0. How many may leave in a period
+-- doesn't change it.
 abbrev two_flights : Parts
 two_flights = day_of 2 on_time on_time
 
@@ -175,7 +222,8 @@ bound_of_one_departure = bound_of_two_flights
 
 -- Where one may leave in a period, the earliest trips break the rule, so there is no first plan.
 no_plan_with_one_departure : IsFirstPlan (day_of 1 on_time on_time) None
-no_plan_with_one_departure has feasible = let both : 2 ≤ 1 = feasible.departures 0 0 refl (omega arith) in omega arith
+no_plan_with_one_departure has feasible = let both : 2 ≤ 1 =
+    feasible.departures 0 0 refl (omega arith) in omega arith
 
 -- The flight with two periods to spare gains what the other has to lose: -2 + 4.
 bound_of_both_signs : IsFirstBound (day_of 2 spare_time free_ground) (AtLeast (pos 2))
@@ -185,18 +233,21 @@ bound_of_both_signs = (
 )
 
 -- No greater sum is the bound of the two flights.
-sum_of_pairs : (pairs : List ℤ) → AllZip (IsLeastPair 8 []) two_flights.flights pairs → pos 1 ≡ total (λ pair. pair) pairs → ⊥
+sum_of_pairs : (pairs : List ℤ) → AllZip (IsLeastPair 8 []) two_flights.flights pairs
+    → pos 1 ≡ total (λ pair. pair) pairs → ⊥
 sum_of_pairs [] least sum = least
 sum_of_pairs (p ∷ []) least sum = least.1
 sum_of_pairs (p ∷ q ∷ []) least sum =
-    let pair : IsPair 8 on_time 0 0 = record { departs = omega arith; arrives = omega arith; time = omega arith } in
+    let pair : IsPair 8 on_time 0 0 =
+    record { departs = omega arith; arrives = omega arith; time = omega arith } in
     omega (arith, ints, sum, least.0.below 0 0 pair, least.1.0.below 0 0 pair)
 sum_of_pairs (p ∷ q ∷ r ∷ pairs) least sum = least.1.1
 
 no_greater_bound : IsFirstBound two_flights (AtLeast (pos 1)) → ⊥
 no_greater_bound bound = sum_of_pairs bound.1.0 bound.1.1 bound.1.2
 
--- Where one flight can't arrive in its window, there is no plan to look for, whatever the other does.
+-- Where one flight can't arrive in its window, there is no plan to look for, whatever the other
+-- does.
 abbrev too_far : Flight
 too_far = flight_with 1 1 4 (Linear 1 2)
 

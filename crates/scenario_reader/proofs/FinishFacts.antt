@@ -25,56 +25,66 @@ use Rattle.scenario_reader.proofs.PlaceFacts.{node_outside}
 use Rattle.scenario_reader.proofs.RouteFacts.{flight_is, passed_few}
 use Rattle.text_records.proofs.StepFacts.{bound, given, needed, ok_is}
 
--- ---- a node by its position
 
-pub node_found : (nodes : List ℕ) (place k : ℕ) → position (λ node. node == place) nodes ≡ Some k → k ≡ node_of nodes place
+pub node_found : (nodes : List ℕ) (place k : ℕ) → position (λ node. node == place) nodes ≡ Some k
+    → k ≡ node_of nodes place
 node_found nodes place k h = by (ltb (node_of nodes place) (length nodes)) (node_of nodes place) h
   where
     by : (b : Bool) (n : ℕ) → cond b (Some n) None ≡ Some k → k ≡ n
     by true n e = same_Some k n (sym e)
     by false n e = absurd cc
 
-pub node_missing : (nodes : List ℕ) (place : ℕ) → position (λ node. node == place) nodes ≡ None → length nodes ≡ node_of nodes place
-node_missing nodes place h = sym (node_outside nodes place (position-none (λ node. node == place) nodes h))
+pub node_missing : (nodes : List ℕ) (place : ℕ) → position (λ node. node == place) nodes ≡ None
+    → length nodes ≡ node_of nodes place
+node_missing nodes place h =
+    sym (node_outside nodes place (position-none (λ node. node == place) nodes h))
 
--- ---- the loop over the flights
 
 -- the flights so far, and then those that the rest becomes
 abbrev pub with_front : List Flight → Result (List Flight) Fault → Result (List Flight) Fault
 with_front front read = read >>= λ flights. Ok (front ++ flights)
 
 regroup : (front : List Flight) (flight : Flight) (read : Result (List Flight) Fault)
-    → with_front front (read >>= λ others. Ok (flight ∷ others)) ≡ with_front (front ++ flight ∷ []) read
-regroup front flight (Ok others) = ap (λ (fs : List Flight). Ok fs) (sym (append_assoc front (flight ∷ []) others))
+    → with_front front (read >>= λ others. Ok (flight ∷ others))
+    ≡ with_front (front ++ flight ∷ []) read
+regroup front flight (Ok others) =
+    ap (λ (fs : List Flight). Ok fs) (sym (append_assoc front (flight ∷ []) others))
 regroup front flight (Err fault) = refl
 
-rest_at : (flights : List FlightDraft) (i : ℕ) (flight : FlightDraft) → i < length flights → flight ≡ get_or flights i flight → drop i flights ≡ flight ∷ drop (i + 1) flights
+rest_at : (flights : List FlightDraft) (i : ℕ) (flight : FlightDraft) → i < length flights
+    → flight ≡ get_or flights i flight → drop i flights ≡ flight ∷ drop (i + 1) flights
 rest_at flights i flight within here =
     let one : i + 1 ≡ suc i = omega arith in
-    rw one (drop-cons flights i flight within ∙ ap (λ (f : FlightDraft). f ∷ drop (suc i) flights) (sym here))
+    rw one (drop-cons flights i flight within
+    ∙ ap (λ (f : FlightDraft). f ∷ drop (suc i) flights) (sym here))
 
-pub one_more : (front : List Flight) (flights : List FlightDraft) (i : ℕ) (flight : FlightDraft) (found : Flight) (total : Result (List Flight) Fault)
+pub one_more : (front : List Flight) (flights : List FlightDraft) (i : ℕ) (flight : FlightDraft)
+    (found : Flight) (total : Result (List Flight) Fault)
     → i < length flights → flight ≡ get_or flights i flight → finished_flight flight ≡ Ok found
     → with_front front (finished_flights (drop i flights)) ≡ total
     → with_front (front ++ found ∷ []) (finished_flights (drop (i + 1) flights)) ≡ total
 unfolding finished_flights
 one_more front flights i flight found total within here is so_far =
     let rest = rest_at flights i flight within here in
-    let step : with_front front (finished_flights (drop i flights)) ≡ with_front (front ++ found ∷ []) (finished_flights (drop (i + 1) flights)) =
+    let step : with_front front (finished_flights (drop i flights))
+    ≡ with_front (front ++ found ∷ []) (finished_flights (drop (i + 1) flights)) =
     rw (rest, is) (regroup front found (finished_flights (drop (i + 1) flights))) in
     sym step ∙ so_far
 
-pub refused_at : (e : Refusal) (front : List Flight) (flights : List FlightDraft) (i : ℕ) (flight : FlightDraft) (total : Result (List Flight) Fault)
+pub refused_at : (e : Refusal) (front : List Flight) (flights : List FlightDraft) (i : ℕ)
+    (flight : FlightDraft) (total : Result (List Flight) Fault)
     → i < length flights → flight ≡ get_or flights i flight → Refuses e (finished_flight flight)
     → with_front front (finished_flights (drop i flights)) ≡ total → Refuses e total
 unfolding finished_flights
 refused_at refusal.OutOfMemory front flights i flight total within here refuses so_far = tt
 refused_at (refusal.Text fault) front flights i flight total within here refuses so_far =
     let rest = rest_at flights i flight within here in
-    let step : with_front front (finished_flights (drop i flights)) ≡ Err fault = rw (rest, refuses) refl in
+    let step : with_front front (finished_flights (drop i flights)) ≡ Err fault =
+    rw (rest, refuses) refl in
     sym so_far ∙ step
 
-pub all_done : (front : List Flight) (flights : List FlightDraft) (i : ℕ) (total : Result (List Flight) Fault) → length flights ≤ i
+pub all_done : (front : List Flight) (flights : List FlightDraft) (i : ℕ)
+    (total : Result (List Flight) Fault) → length flights ≤ i
     → with_front front (finished_flights (drop i flights)) ≡ total → total ≡ Ok front
 unfolding finished_flights
 all_done front flights i total le so_far =
@@ -82,7 +92,6 @@ all_done front flights i total le so_far =
     rw (drop_all i flights le) (ap (λ (fs : List Flight). Ok fs) (append-nil front)) in
     sym so_far ∙ step
 
--- ---- the scenario
 
 -- a valid flight came to its end as this one
 pub record IsFinished (flight : FlightDraft) (found : Flight) : Type 0 where
@@ -90,7 +99,8 @@ pub record IsFinished (flight : FlightDraft) (found : Flight) : Type 0 where
   pub onward : leads_on flight ≡ true
   pub is : flight_with flight (nodes_of flight) ≡ found
 
-finished_is : (flight : FlightDraft) (found : Flight) → finished_flight flight ≡ Ok found → IsFinished flight found
+finished_is : (flight : FlightDraft) (found : Flight) → finished_flight flight ≡ Ok found
+    → IsFinished flight found
 unfolding finished_flight
 finished_is flight found e =
     let route = needed (has_route flight) _ found _ e in
@@ -104,55 +114,77 @@ Become [] (found ∷ founds) = ⊥
 Become (flight ∷ flights) [] = ⊥
 Become (flight ∷ flights) (found ∷ founds) = IsFinished flight found × Become flights founds
 
-become : (flights : List FlightDraft) (founds : List Flight) → finished_flights flights ≡ Ok founds → Become flights founds
+become : (flights : List FlightDraft) (founds : List Flight) → finished_flights flights ≡ Ok founds
+    → Become flights founds
 unfolding finished_flights
 become [] founds e = subst (λ (fs : List Flight). Become [] fs) (ok_is [] founds e) tt
 become (flight ∷ flights) founds e =
-    let first = bound (finished_flight flight) (λ f. finished_flights flights >>= λ others. Ok (f ∷ others)) founds e in
+    let first = bound (finished_flight flight)
+    (λ f. finished_flights flights >>= λ others. Ok (f ∷ others)) founds e in
     let rest = bound (finished_flights flights) (λ others. Ok (first.0 ∷ others)) founds first.2 in
-    subst (λ (fs : List Flight). Become (flight ∷ flights) fs) (ok_is (first.0 ∷ rest.0) founds rest.2)
+    subst (λ (fs : List Flight). Become (flight ∷ flights) fs)
+    (ok_is (first.0 ∷ rest.0) founds rest.2)
     (finished_is flight first.0 first.1, become flights rest.0 rest.1)
 
-as_long : (flights : List FlightDraft) (founds : List Flight) → Become flights founds → length founds ≡ length flights
+as_long : (flights : List FlightDraft) (founds : List Flight) → Become flights founds
+    → length founds ≡ length flights
 as_long [] [] b = refl
 as_long [] (found ∷ founds) b = absurd b
 as_long (flight ∷ flights) [] b = absurd b
 as_long (flight ∷ flights) (found ∷ founds) b = ap suc (as_long flights founds b.1)
 
-are_flights : (periods : ℕ) (places : List Place) (tables : List CostTable) (flights : List FlightDraft) (founds : List Flight) → All (IsFlightDraft periods places tables) flights → Become flights founds
+are_flights : (periods : ℕ) (places : List Place) (tables : List CostTable)
+    (flights : List FlightDraft) (founds : List Flight)
+    → All (IsFlightDraft periods places tables) flights → Become flights founds
     → All (IsFlight periods places tables) founds
 are_flights periods places tables [] [] all b k d h = absurd (omega arith)
 are_flights periods places tables [] (found ∷ founds) all b k d h = absurd b
 are_flights periods places tables (flight ∷ flights) [] all b k d h = absurd b
 are_flights periods places tables (flight ∷ flights) (found ∷ founds) all b zero d h =
     subst (λ (f : Flight). IsFlight periods places tables f) b.0.is
-    (flight_is periods places tables flight (record { valid = all 0 flight (omega arith); route = b.0.route; onward = b.0.onward }))
+    (flight_is periods places tables flight (record {
+      valid = all 0 flight (omega arith);
+      route = b.0.route;
+      onward = b.0.onward;
+    }))
 are_flights periods places tables (flight ∷ flights) (found ∷ founds) all b (suc k) d h =
-    are_flights periods places tables flights founds (λ j e within. all (suc j) e (omega arith)) b.1 k d (omega arith)
+    are_flights periods places tables flights founds
+    (λ j e within. all (suc j) e (omega arith)) b.1 k d (omega arith)
 
-same_names : (flights : List FlightDraft) (founds : List Flight) → Become flights founds → (k : ℕ) (d : FlightDraft) (e : Flight) → k < length flights
+same_names : (flights : List FlightDraft) (founds : List Flight) → Become flights founds
+    → (k : ℕ) (d : FlightDraft) (e : Flight) → k < length flights
     → (get_or founds k e).name ≡ (get_or flights k d).name
 same_names [] founds b k d e h = absurd (omega arith)
 same_names (flight ∷ flights) [] b k d e h = absurd b
-same_names (flight ∷ flights) (found ∷ founds) b zero d e h = ap (λ (f : Flight). f.name) (sym b.0.is)
-same_names (flight ∷ flights) (found ∷ founds) b (suc k) d e h = same_names flights founds b.1 k d e (omega arith)
+same_names (flight ∷ flights) (found ∷ founds) b zero d e h =
+    ap (λ (f : Flight). f.name) (sym b.0.is)
+same_names (flight ∷ flights) (found ∷ founds) b (suc k) d e h =
+    same_names flights founds b.1 k d e (omega arith)
 
 -- the flights have no more nodes than were counted
-few_nodes : (periods : ℕ) (places : List Place) (tables : List CostTable) (flights : List FlightDraft) (founds : List Flight) → All (IsFlightDraft periods places tables) flights → Become flights founds
+few_nodes : (periods : ℕ) (places : List Place) (tables : List CostTable)
+    (flights : List FlightDraft) (founds : List Flight)
+    → All (IsFlightDraft periods places tables) flights → Become flights founds
     → sum_by (λ (f : Flight). length f.nodes) founds ≤ node_total flights
 few_nodes periods places tables [] [] all b = omega arith
 few_nodes periods places tables [] (found ∷ founds) all b = absurd b
 few_nodes periods places tables (flight ∷ flights) [] all b = absurd b
 few_nodes periods places tables (flight ∷ flights) (found ∷ founds) all b =
-    let rest = few_nodes periods places tables flights founds (λ j e within. all (suc j) e (omega arith)) b.1 in
-    let nodes : length found.nodes ≡ length (nodes_of flight) = ap (λ (f : Flight). length f.nodes) (sym b.0.is) in
+    let rest = few_nodes periods places tables flights founds
+    (λ j e within. all (suc j) e (omega arith)) b.1 in
+    let nodes : length found.nodes ≡ length (nodes_of flight) =
+    ap (λ (f : Flight). length f.nodes) (sym b.0.is) in
     let passed = passed_few places flight (all 0 flight (omega arith)).network in
     let many = length-append flight.passed (flight.to ∷ []) in
-    rw (sum_by-cons (λ (f : Flight). length f.nodes) found founds, sum_by-cons node_count flight flights) (omega arith)
+    rw (
+      sum_by-cons (λ (f : Flight). length f.nodes) found founds,
+      sum_by-cons node_count flight
+          flights,
+    ) (omega arith)
 
--- ---- connections between finished flights
 
-same_origins : (flights : List FlightDraft) (founds : List Flight) → Become flights founds → map (λ (f : Flight). f.from) founds ≡ origins flights
+same_origins : (flights : List FlightDraft) (founds : List Flight) → Become flights founds
+    → map (λ (f : Flight). f.from) founds ≡ origins flights
 same_origins [] [] b = refl
 same_origins [] (found ∷ founds) b = absurd b
 same_origins (flight ∷ flights) [] b = absurd b
@@ -160,7 +192,8 @@ same_origins (flight ∷ flights) (found ∷ founds) b =
     let first : found.from ≡ flight.from = ap (λ (f : Flight). f.from) (sym b.0.is) in
     rw (first, same_origins flights founds b.1) refl
 
-same_destinations : (flights : List FlightDraft) (founds : List Flight) → Become flights founds → map (λ (f : Flight). f.to) founds ≡ destinations flights
+same_destinations : (flights : List FlightDraft) (founds : List Flight) → Become flights founds
+    → map (λ (f : Flight). f.to) founds ≡ destinations flights
 same_destinations [] [] b = refl
 same_destinations [] (found ∷ founds) b = absurd b
 same_destinations (flight ∷ flights) [] b = absurd b
@@ -168,12 +201,14 @@ same_destinations (flight ∷ flights) (found ∷ founds) b =
     let first : found.to ≡ flight.to = ap (λ (f : Flight). f.to) (sym b.0.is) in
     rw (first, same_destinations flights founds b.1) refl
 
-origin_at : (founds : List Flight) (k : ℕ) → slice_get (map (λ (f : Flight). f.from) founds) k ≡ origin_of (slice_get founds k)
+origin_at : (founds : List Flight) (k : ℕ)
+    → slice_get (map (λ (f : Flight). f.from) founds) k ≡ origin_of (slice_get founds k)
 origin_at [] k = refl
 origin_at (found ∷ founds) zero = refl
 origin_at (found ∷ founds) (suc k) = origin_at founds k
 
-destination_at : (founds : List Flight) (k : ℕ) → slice_get (map (λ (f : Flight). f.to) founds) k ≡ destination_of (slice_get founds k)
+destination_at : (founds : List Flight) (k : ℕ)
+    → slice_get (map (λ (f : Flight). f.to) founds) k ≡ destination_of (slice_get founds k)
 destination_at [] k = refl
 destination_at (found ∷ founds) zero = refl
 destination_at (found ∷ founds) (suc k) = destination_at founds k
@@ -194,9 +229,11 @@ within_list [] k some = absurd (some refl)
 within_list (x ∷ xs) zero some = omega arith
 within_list (x ∷ xs) (suc k) some = let less = within_list xs k some in omega arith
 
-connection_is : (flights : List FlightDraft) (founds : List Flight) (connection : Connection) → Become flights founds → IsMeeting flights connection → IsConnection founds connection
+connection_is : (flights : List FlightDraft) (founds : List Flight) (connection : Connection)
+    → Become flights founds → IsMeeting flights connection → IsConnection founds connection
 connection_is flights founds connection b meeting =
-    let together : is_same_place (slice_get (map (λ (f : Flight). f.from) founds) connection.second) (slice_get (map (λ (f : Flight). f.to) founds) connection.first) ≡ true
+    let together : is_same_place (slice_get (map (λ (f : Flight). f.from) founds) connection.second)
+    (slice_get (map (λ (f : Flight). f.to) founds) connection.first) ≡ true
     = rw (same_origins flights founds b, same_destinations flights founds b) meeting.together in
     let there = first_there _ _ together in
     let first = within_list _ connection.first there.1 in
@@ -204,7 +241,8 @@ connection_is flights founds connection b meeting =
     record {
       first = rw (length-map founds (λ (f : Flight). f.to)) at first;
       second = rw (length-map founds (λ (f : Flight). f.from)) at second;
-      together = sym (origin_at founds connection.second) ∙ same_place _ _ together ∙ destination_at founds connection.first;
+      together = sym (origin_at founds connection.second) ∙ same_place _ _ together
+          ∙ destination_at founds connection.first;
       turnaround = meeting.turnaround;
     }
 
@@ -212,12 +250,20 @@ any_flight : (flights : List FlightDraft) → 0 < length flights → FlightDraft
 any_flight [] h = absurd (omega arith)
 any_flight (flight ∷ flights) h = flight
 
-pub scenario_is : (draft : DraftParts) (founds : List Flight) → IsValidDraft draft → finished_flights draft.flights ≡ Ok founds
-    → IsScenario (record { day = draft.day; places = draft.places; flights = founds; tables = draft.tables; connections = draft.connections })
+pub scenario_is : (draft : DraftParts) (founds : List Flight) → IsValidDraft draft
+    → finished_flights draft.flights ≡ Ok founds
+    → IsScenario (record {
+      day = draft.day;
+      places = draft.places;
+      flights = founds;
+      tables = draft.tables;
+      connections = draft.connections;
+    })
 scenario_is draft founds valid e =
     let b = become draft.flights founds e in
     let long = as_long draft.flights founds b in
-    let few = few_nodes draft.day.periods draft.places draft.tables draft.flights founds valid.flights b in
+    let few = few_nodes draft.day.periods draft.places draft.tables draft.flights founds
+    valid.flights b in
     let total = valid.nodes_few in
     record {
       day = valid.day;
@@ -225,22 +271,26 @@ scenario_is draft founds valid e =
       places = valid.places;
       place_names = valid.place_names;
       flights_few = rw long valid.flights_few;
-      flights = are_flights draft.day.periods draft.places draft.tables draft.flights founds valid.flights b;
+      flights = are_flights draft.day.periods draft.places draft.tables draft.flights founds
+          valid.flights b;
       flight_names = λ i j d before within same.
           let within_flights : j < length draft.flights = omega arith in
           let some : FlightDraft = any_flight draft.flights (omega arith) in
           valid.flight_names i j some before within_flights
-          (sym (same_names draft.flights founds b i some d (omega arith)) ∙ same ∙ same_names draft.flights founds b j some d within_flights);
+          (sym (same_names draft.flights founds b i some d (omega arith)) ∙ same
+          ∙ same_names draft.flights founds b j some d within_flights);
       nodes_few = omega arith;
       tables_few = valid.tables_few;
       tables = valid.tables;
       table_names = valid.table_names;
       connections_few = valid.connections_few;
-      connections = λ k d h. connection_is draft.flights founds (get_or draft.connections k d) b (valid.connections k d h);
+      connections = λ k d h. connection_is draft.flights founds (get_or draft.connections k d) b
+          (valid.connections k d h);
       connected_once = valid.connected_once;
     }
 
-pub passed_within : (draft : DraftParts) → IsValidDraft draft → All (λ flight. length flight.passed ≤ 30) draft.flights
+pub passed_within : (draft : DraftParts) → IsValidDraft draft
+    → All (λ flight. length flight.passed ≤ 30) draft.flights
 passed_within draft valid k d h =
     let network = (valid.flights k d h).network in
     let few = passed_few draft.places (get_or draft.flights k d) network in

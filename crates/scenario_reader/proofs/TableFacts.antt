@@ -14,27 +14,33 @@ abbrev pub with_values : List ℤ → Result (List ℤ) FieldFault → Result (L
 with_values front read = read >>= λ values. Ok (front ++ values)
 
 regroup : (front : List ℤ) (value : ℤ) (read : Result (List ℤ) FieldFault)
-    → with_values front (read >>= λ values. Ok (value ∷ values)) ≡ with_values (front ++ value ∷ []) read
-regroup front value (Ok values) = ap (λ (vs : List ℤ). Ok vs) (sym (append_assoc front (value ∷ []) values))
+    → with_values front (read >>= λ values. Ok (value ∷ values))
+    ≡ with_values (front ++ value ∷ []) read
+regroup front value (Ok values) =
+    ap (λ (vs : List ℤ). Ok vs) (sym (append_assoc front (value ∷ []) values))
 regroup front value (Err fault) = refl
 
 -- the field at a position, and those after it
-pub rest_at : (fields : Fields) (k : ℕ) (bytes : List ℕ) → field_in fields (k + 1) ≡ Ok bytes → drop k fields ≡ bytes ∷ drop (k + 1) fields
+pub rest_at : (fields : Fields) (k : ℕ) (bytes : List ℕ) → field_in fields (k + 1) ≡ Ok bytes
+    → drop k fields ≡ bytes ∷ drop (k + 1) fields
 rest_at fields k bytes e =
     let one : k + 1 - 1 ≡ k = omega arith in
     let next : k + 1 ≡ suc k = omega arith in
     rw next (there fields k bytes (some_of (slice_get fields k) (k + 1) bytes (rw one at e)))
   where
-    some_of : (o : Option (List ℕ)) (number : ℕ) (bytes : List ℕ) → present_at number o ≡ Ok bytes → o ≡ Some bytes
+    some_of : (o : Option (List ℕ)) (number : ℕ) (bytes : List ℕ) → present_at number o ≡ Ok bytes
+        → o ≡ Some bytes
     some_of None number bytes e = absurd cc
     some_of (Some field) number bytes e = cc
 
-    there : (fields : Fields) (k : ℕ) (bytes : List ℕ) → slice_get fields k ≡ Some bytes → drop k fields ≡ bytes ∷ drop (suc k) fields
+    there : (fields : Fields) (k : ℕ) (bytes : List ℕ) → slice_get fields k ≡ Some bytes
+        → drop k fields ≡ bytes ∷ drop (suc k) fields
     there [] k bytes e = absurd cc
     there (field ∷ fields) zero bytes e = ap (λ (b : List ℕ). b ∷ fields) (same_Some field bytes e)
     there (field ∷ fields) (suc k) bytes e = there fields k bytes e
 
-pub one_more : (front : List ℤ) (fields : Fields) (k : ℕ) (bytes : List ℕ) (value : ℤ) (total : Result (List ℤ) FieldFault)
+pub one_more : (front : List ℤ) (fields : Fields) (k : ℕ) (bytes : List ℕ) (value : ℤ)
+    (total : Result (List ℤ) FieldFault)
     → drop k fields ≡ bytes ∷ drop (k + 1) fields → value_in (k + 1) bytes ≡ Ok value
     → with_values front (values_from (k + 1) (drop k fields)) ≡ total
     → with_values (front ++ value ∷ []) (values_from (k + 1 + 1) (drop (k + 1) fields)) ≡ total
@@ -42,10 +48,13 @@ unfolding values_from
 one_more front fields k bytes value total here is so_far =
     sym (regroup front value (values_from (k + 1 + 1) (drop (k + 1) fields))) ∙ sym step ∙ so_far
   where
-    step : with_values front (values_from (k + 1) (drop k fields)) ≡ with_values front (values_from (k + 1 + 1) (drop (k + 1) fields) >>= λ values. Ok (value ∷ values))
+    step : with_values front (values_from (k + 1) (drop k fields))
+        ≡ with_values front (values_from (k + 1 + 1) (drop (k + 1) fields)
+        >>= λ values. Ok (value ∷ values))
     step = rw (here, is) refl
 
-pub refused_at : (front : List ℤ) (fields : Fields) (k : ℕ) (bytes : List ℕ) (fault : FieldFault) (total : Result (List ℤ) FieldFault)
+pub refused_at : (front : List ℤ) (fields : Fields) (k : ℕ) (bytes : List ℕ) (fault : FieldFault)
+    (total : Result (List ℤ) FieldFault)
     → drop k fields ≡ bytes ∷ drop (k + 1) fields → value_in (k + 1) bytes ≡ Err fault
     → with_values front (values_from (k + 1) (drop k fields)) ≡ total → total ≡ Err fault
 unfolding values_from
@@ -54,7 +63,8 @@ refused_at front fields k bytes fault total here is so_far = sym so_far ∙ step
     step : with_values front (values_from (k + 1) (drop k fields)) ≡ Err fault
     step = rw (here, is) refl
 
-pub all_done : (front : List ℤ) (fields : Fields) (k : ℕ) (total : Result (List ℤ) FieldFault) → length fields ≤ k
+pub all_done : (front : List ℤ) (fields : Fields) (k : ℕ) (total : Result (List ℤ) FieldFault)
+    → length fields ≤ k
     → with_values front (values_from (k + 1) (drop k fields)) ≡ total → total ≡ Ok front
 unfolding values_from
 all_done front fields k total past so_far = sym so_far ∙ step

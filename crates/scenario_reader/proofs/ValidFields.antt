@@ -13,9 +13,9 @@ use Rattle.scenario_reader.specs.Moments.{IsMoment}
 use Rattle.scenario_reader.specs.declared.date.Moment.{Moment}
 use Rattle.text_records.proofs.StepFacts.{bound, done, given, holds, ok_is, passed, refused}
 
--- ---- names
 
-pub name_is : (fields : Fields) (number : ℕ) (name : List ℕ) → name_in fields number ≡ Ok name → IsTrue (is_name name)
+pub name_is : (fields : Fields) (number : ℕ) (name : List ℕ) → name_in fields number ≡ Ok name
+    → IsTrue (is_name name)
 unfolding name_in
 name_is fields number name e =
     let bytes = bound (field_in fields number) _ name e in
@@ -31,7 +31,8 @@ nothing_is : (known : Option ℕ) → is_some known ≡ false → known ≡ None
 nothing_is None e = refl
 nothing_is (Some k) e = absurd cc
 
-pub new_name_is : (limit : ℕ) (names : List (List ℕ)) (fields : Fields) (name : List ℕ) → new_name limit names fields ≡ Ok name → IsNewName limit names name
+pub new_name_is : (limit : ℕ) (names : List (List ℕ)) (fields : Fields) (name : List ℕ)
+    → new_name limit names fields ≡ Ok name → IsNewName limit names name
 unfolding new_name
 new_name_is limit names fields name e =
     let read = bound (name_in fields 2) _ name e in
@@ -43,22 +44,26 @@ new_name_is limit names fields name e =
       room = leb-false limit (length names) room.0;
     })
 
--- ---- numbers
 
 pub record IsWithin (low high value : ℕ) : Type 0 where
   pub from : low ≤ value
   pub to : value ≤ high
 
-kept_within : {E : Type 0} (low high n value : ℕ) (fault : E) → cond (nat_le low n && nat_le n high) (done n) (refused fault) ≡ done value → IsWithin low high value
+kept_within : {E : Type 0} (low high n value : ℕ) (fault : E)
+    → cond (nat_le low n && nat_le n high) (done n) (refused fault) ≡ done value
+    → IsWithin low high value
 kept_within low high n value fault e =
-    let each = and_parts (nat_le low value) (nat_le value high) (holds (λ v. nat_le low v && nat_le v high) n value fault e) in
+    let each = and_parts (nat_le low value) (nat_le value high)
+    (holds (λ v. nat_le low v && nat_le v high) n value fault e) in
     record { from = leb-true low value each.0; to = leb-true value high each.1 }
 
-number_within : (number low high : ℕ) (spelled : Option ℕ) (value : ℕ) → within_limits number low high spelled ≡ Ok value → IsWithin low high value
+number_within : (number low high : ℕ) (spelled : Option ℕ) (value : ℕ)
+    → within_limits number low high spelled ≡ Ok value → IsWithin low high value
 number_within number low high None value e = absurd cc
 number_within number low high (Some n) value e = kept_within low high n value _ e
 
-pub number_is : (fields : Fields) (number low high value : ℕ) → number_in fields number low high ≡ Ok value → IsWithin low high value
+pub number_is : (fields : Fields) (number low high value : ℕ)
+    → number_in fields number low high ≡ Ok value → IsWithin low high value
 unfolding number_in
 number_is fields number low high value e =
     let bytes = bound (field_in fields number) _ value e in
@@ -69,21 +74,28 @@ pub record IsLater (periods first last : ℕ) : Type 0 where
   pub forward : first ≤ last
   pub within : last < periods
 
-pub later_is : {E : Type 0} (periods first last : ℕ) (number read : ℕ) (fields : Fields) (fault : E) → 1 ≤ periods → number_in fields number 0 (periods - 1) ≡ Ok read
+pub later_is : {E : Type 0} (periods first last : ℕ) (number read : ℕ) (fields : Fields) (fault : E)
+    → 1 ≤ periods → number_in fields number 0 (periods - 1) ≡ Ok read
     → cond (nat_lt read first) (refused fault) (done read) ≡ done last → IsLater periods first last
 later_is periods first last number read fields fault some is e =
     let upto = (number_is fields number 0 (periods - 1) read is).to in
     let kept = passed (nat_lt read first) (done read) last fault e in
-    subst (IsLater periods first) (ok_is read last kept.1) (record { forward = ltb-false read first kept.0; within = omega arith })
+    subst (IsLater periods first) (ok_is read last kept.1) (record {
+      forward =
+          ltb-false read first kept.0;
+      within = omega arith;
+    })
 
--- ---- dates
 
-part_within : (low high : ℕ) (spelled : Option ℕ) (value : ℕ) → within low high spelled ≡ Ok value → IsWithin low high value
+part_within : (low high : ℕ) (spelled : Option ℕ) (value : ℕ) → within low high spelled ≡ Ok value
+    → IsWithin low high value
 part_within low high None value e = absurd cc
 part_within low high (Some n) value e = kept_within low high n value _ e
 
-part_is : (text : List ℕ) (from to low high value : ℕ) → part_of text from to low high ≡ Ok value → IsWithin low high value
-part_is text from to low high value e = part_within low high (number_of (slice_range text from to)) value e
+part_is : (text : List ℕ) (from to low high value : ℕ) → part_of text from to low high ≡ Ok value
+    → IsWithin low high value
+part_is text from to low high value e =
+    part_within low high (number_of (slice_range text from to)) value e
 
 pub moment_is : (text : List ℕ) (moment : Moment) → moment_of text ≡ Ok moment → IsMoment moment
 unfolding moment_of

@@ -20,33 +20,42 @@ record IsFlightAt (flights : List FlightDraft) (found : ℕ × FlightDraft) : Ty
   here : slice_get flights found.0 ≡ Some found.1
   room : length found.1.legs < most_legs
 
-found_flight : (flights : List FlightDraft) (known : Option ℕ) (found : ℕ × FlightDraft) → flight_at flights known ≡ Ok found → IsFlightAt flights found
+found_flight : (flights : List FlightDraft) (known : Option ℕ) (found : ℕ × FlightDraft)
+    → flight_at flights known ≡ Ok found → IsFlightAt flights found
 found_flight flights None found e = absurd cc
 found_flight flights (Some k) found e = by (slice_get flights k) refl e
   where
-    by : (there : Option FlightDraft) → slice_get flights k ≡ there → flight_at flights (Some k) ≡ Ok found → IsFlightAt flights found
+    by : (there : Option FlightDraft) → slice_get flights k ≡ there
+        → flight_at flights (Some k) ≡ Ok found → IsFlightAt flights found
     by None here e = let none = rw here at e in absurd cc
     by (Some flight) here e =
         let few = passed (nat_le most_legs (length flight.legs)) _ found _ (rw here at e) in
-        subst (IsFlightAt flights) (ok_is _ found few.1) (record { here = here; room = leb-false most_legs (length flight.legs) few.0 })
+        subst (IsFlightAt flights) (ok_is _ found few.1) (record {
+          here = here;
+          room = leb-false most_legs (length flight.legs) few.0;
+        })
 
-flight_there : (flights : List FlightDraft) (fields : Fields) (found : ℕ × FlightDraft) → flight_in flights fields ≡ Ok found → IsFlightAt flights found
+flight_there : (flights : List FlightDraft) (fields : Fields) (found : ℕ × FlightDraft)
+    → flight_in flights fields ≡ Ok found → IsFlightAt flights found
 unfolding flight_in
 flight_there flights fields found e =
     let name = bound (name_in fields 2) _ found e in
     found_flight flights (position_of name.0 (flight_names flights)) found name.2
 
-own_there : (number : ℕ) (places : List Place) (flight : FlightDraft) (known : Option ℕ) (place : ℕ) → own_at number places flight known ≡ Ok place → IsTrue (is_own places flight place)
+own_there : (number : ℕ) (places : List Place) (flight : FlightDraft) (known : Option ℕ) (place : ℕ)
+    → own_at number places flight known ≡ Ok place → IsTrue (is_own places flight place)
 own_there number places flight None place e = absurd cc
 own_there number places flight (Some k) place e = holds (is_own places flight) k place _ e
 
-own_is : (number : ℕ) (places : List Place) (flight : FlightDraft) (fields : Fields) (place : ℕ) → own_in number places flight fields ≡ Ok place → IsTrue (is_own places flight place)
+own_is : (number : ℕ) (places : List Place) (flight : FlightDraft) (fields : Fields) (place : ℕ)
+    → own_in number places flight fields ≡ Ok place → IsTrue (is_own places flight place)
 unfolding own_in
 own_is number places flight fields place e =
     let name = bound (name_in fields number) _ place e in
     own_there number places flight (position_of name.0 (place_names places)) place name.2
 
-start_is : (places : List Place) (flight : FlightDraft) (fields : Fields) (place : ℕ) → start_in places flight fields ≡ Ok place
+start_is : (places : List Place) (flight : FlightDraft) (fields : Fields) (place : ℕ)
+    → start_in places flight fields ≡ Ok place
     → IsTrue (place == flight.from || is_among flight.reached place)
 unfolding start_in
 start_is places flight fields place e =
@@ -54,13 +63,15 @@ start_is places flight fields place e =
     holds (λ p. p == flight.from || is_among flight.reached p) own.0 place _ own.2
 
 -- where a leg may lead
-record IsEnd (places : List Place) (total : ℕ) (flight : FlightDraft) (from place : ℕ) : Type 0 where
+record IsEnd (places : List Place) (total : ℕ) (flight : FlightDraft)
+    (from place : ℕ) : Type 0 where
   own : IsTrue (is_own places flight place)
   once : is_joined flight.legs from place ≡ false
   onward : is_back flight from place ≡ false
   few : (adds_node flight place && is_full total flight) ≡ false
 
-end_is : (places : List Place) (total : ℕ) (flight : FlightDraft) (from : ℕ) (fields : Fields) (place : ℕ) → end_in places total flight from fields ≡ Ok place
+end_is : (places : List Place) (total : ℕ) (flight : FlightDraft) (from : ℕ) (fields : Fields)
+    (place : ℕ) → end_in places total flight from fields ≡ Ok place
     → IsEnd places total flight from place
 unfolding end_in
 end_is places total flight from fields place e =
@@ -75,7 +86,8 @@ end_is places total flight from fields place e =
       few = few.0;
     })
 
-leg_is : (places : List Place) (total : ℕ) (flight : FlightDraft) (fields : Fields) (leg : PlaceLeg) → length flight.legs < most_legs → leg_of places total flight fields ≡ Ok leg
+leg_is : (places : List Place) (total : ℕ) (flight : FlightDraft) (fields : Fields) (leg : PlaceLeg)
+    → length flight.legs < most_legs → leg_of places total flight fields ≡ Ok leg
     → IsNewLeg places total flight leg
 unfolding leg_of
 leg_is places total flight fields leg room e =
@@ -100,7 +112,8 @@ pub record IsLegFound (draft : DraftParts) (found : ℕ × PlaceLeg) : Type 0 wh
   pub here : slice_get draft.flights found.0 ≡ Some flight
   pub valid : IsNewLeg draft.places (node_total draft.flights) flight found.1
 
-pub leg_found : (draft : DraftParts) (fields : Fields) (found : ℕ × PlaceLeg) → leg_in draft fields ≡ Ok found → IsLegFound draft found
+pub leg_found : (draft : DraftParts) (fields : Fields) (found : ℕ × PlaceLeg)
+    → leg_in draft fields ≡ Ok found → IsLegFound draft found
 unfolding leg_in
 leg_found draft fields found e =
     let at = bound (flight_in draft.flights fields) _ found e in

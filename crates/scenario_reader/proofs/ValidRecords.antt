@@ -30,7 +30,6 @@ use Rattle.scenario_reader.specs.declared.flight_draft.Hours.{Hours}
 use Rattle.text_records.proofs.StepFacts.{bound, given, holds, ok_is, passed}
 use Rattle.scenario_reader.proofs.ValidFields.{IsLater, later_is, moment_is, new_name_is, number_is}
 
--- ---- the day
 
 pub day_is : (fields : Fields) (day : Day) → day_of fields ≡ Ok day → IsDay day
 unfolding day_of
@@ -46,7 +45,12 @@ day_is fields day e =
     subst IsDay (ok_is _ day ended.2) (record {
       year_from = real.year_from;
       year_to = real.year_to;
-      date = record { month_from = real.month_from; month_to = real.month_to; day_from = real.day_from; day_to = real.day_to };
+      date = record {
+        month_from = real.month_from;
+        month_to = real.month_to;
+        day_from = real.day_from;
+        day_to = real.day_to;
+      };
       hour = real.hour;
       minute = real.minute;
       minutes_from = long.from;
@@ -55,7 +59,6 @@ day_is fields day e =
       periods_to = many.to;
     })
 
--- ---- places
 
 -- a valid place of a new name, with room for it
 pub record IsNewPlace (periods : ℕ) (names : List (List ℕ)) (place : Place) : Type 0 where
@@ -63,7 +66,8 @@ pub record IsNewPlace (periods : ℕ) (names : List (List ℕ)) (place : Place) 
   pub fresh : position_of place.name names ≡ None
   pub room : length names < most_places
 
-pub airport_is : (periods : ℕ) (names : List (List ℕ)) (fields : Fields) (place : Place) → airport_of periods names fields ≡ Ok place → IsNewPlace periods names place
+pub airport_is : (periods : ℕ) (names : List (List ℕ)) (fields : Fields) (place : Place)
+    → airport_of periods names fields ≡ Ok place → IsNewPlace periods names place
 unfolding airport_of
 airport_is periods names fields place e =
     let name = bound (new_name most_places names fields) _ place e in
@@ -76,14 +80,17 @@ airport_is periods names fields place e =
         name = new.named;
         first_count = length-replicate periods departures.0;
         second_count = length-replicate periods arrivals.0;
-        first = All-replicate (λ c. c ≤ most_capacity) periods departures.0 ((number_is fields 3 0 most_capacity departures.0 departures.1).to);
-        second = All-replicate (λ c. c ≤ most_capacity) periods arrivals.0 ((number_is fields 4 0 most_capacity arrivals.0 arrivals.1).to);
+        first = All-replicate (λ c. c ≤ most_capacity) periods departures.0
+            ((number_is fields 3 0 most_capacity departures.0 departures.1).to);
+        second = All-replicate (λ c. c ≤ most_capacity) periods arrivals.0
+            ((number_is fields 4 0 most_capacity arrivals.0 arrivals.1).to);
       };
       fresh = new.fresh;
       room = new.room;
     })
 
-pub sector_is : (periods : ℕ) (names : List (List ℕ)) (fields : Fields) (place : Place) → sector_of periods names fields ≡ Ok place → IsNewPlace periods names place
+pub sector_is : (periods : ℕ) (names : List (List ℕ)) (fields : Fields) (place : Place)
+    → sector_of periods names fields ≡ Ok place → IsNewPlace periods names place
 unfolding sector_of
 sector_is periods names fields place e =
     let name = bound (new_name most_places names fields) _ place e in
@@ -95,20 +102,23 @@ sector_is periods names fields place e =
         name = new.named;
         first_count = length-replicate periods capacity.0;
         second_count = refl;
-        first = All-replicate (λ c. c ≤ most_capacity) periods capacity.0 ((number_is fields 3 0 most_capacity capacity.0 capacity.1).to);
+        first = All-replicate (λ c. c ≤ most_capacity) periods capacity.0
+            ((number_is fields 3 0 most_capacity capacity.0 capacity.1).to);
         second = λ k d h. absurd (omega arith);
       };
       fresh = new.fresh;
       room = new.room;
     })
 
--- ---- flights
 
-airport_there : (number : ℕ) (places : List Place) (known : Option ℕ) (place : ℕ) → airport_at number places known ≡ Ok place → IsTrue (is_airport (slice_get places place))
+airport_there : (number : ℕ) (places : List Place) (known : Option ℕ) (place : ℕ)
+    → airport_at number places known ≡ Ok place → IsTrue (is_airport (slice_get places place))
 airport_there number places None place e = absurd cc
-airport_there number places (Some k) place e = holds (λ p. is_airport (slice_get places p)) k place _ e
+airport_there number places (Some k) place e =
+    holds (λ p. is_airport (slice_get places p)) k place _ e
 
-origin_is : (places : List Place) (fields : Fields) (place : ℕ) → origin_in places fields ≡ Ok place → IsTrue (is_airport (slice_get places place))
+origin_is : (places : List Place) (fields : Fields) (place : ℕ) → origin_in places fields ≡ Ok place
+    → IsTrue (is_airport (slice_get places place))
 unfolding origin_in
 origin_is places fields place e =
     let name = bound (name_in fields 3) _ place e in
@@ -119,7 +129,8 @@ record IsDestination (places : List Place) (origin place : ℕ) : Type 0 where
   airport : IsTrue (is_airport (slice_get places place))
   apart : origin ≢ place
 
-other_airport : (places : List Place) (origin : ℕ) (known : Option ℕ) (place : ℕ) → other_airport_at places origin known ≡ Ok place → IsDestination places origin place
+other_airport : (places : List Place) (origin : ℕ) (known : Option ℕ) (place : ℕ)
+    → other_airport_at places origin known ≡ Ok place → IsDestination places origin place
 other_airport places origin None place e = absurd cc
 other_airport places origin (Some k) place e =
     let other = passed (k == origin) _ place _ e in
@@ -130,19 +141,22 @@ other_airport places origin (Some k) place e =
       apart = λ same. false≢true (sym other.0 ∙ eq-eqb k origin (kept.1 ∙ sym same));
     }
 
-destination_is : (places : List Place) (origin : ℕ) (fields : Fields) (place : ℕ) → destination_in places origin fields ≡ Ok place → IsDestination places origin place
+destination_is : (places : List Place) (origin : ℕ) (fields : Fields) (place : ℕ)
+    → destination_in places origin fields ≡ Ok place → IsDestination places origin place
 unfolding destination_in
 destination_is places origin fields place e =
     let name = bound (name_in fields 4) _ place e in
     other_airport places origin (position_of name.0 (place_names places)) place name.2
 
-arrival_is : (periods departure : ℕ) (fields : Fields) (arrival : ℕ) → 1 ≤ periods → arrival_in periods departure fields ≡ Ok arrival → IsLater periods departure arrival
+arrival_is : (periods departure : ℕ) (fields : Fields) (arrival : ℕ) → 1 ≤ periods
+    → arrival_in periods departure fields ≡ Ok arrival → IsLater periods departure arrival
 unfolding arrival_in
 arrival_is periods departure fields arrival some e =
     let read = bound (number_in fields 6 0 (periods - 1)) _ arrival e in
     later_is periods departure arrival 6 read.0 fields _ some read.1 read.2
 
-hours_are : (periods : ℕ) (fields : Fields) (hours : Hours) → 1 ≤ periods → hours_in periods fields ≡ Ok hours → IsHours periods hours
+hours_are : (periods : ℕ) (fields : Fields) (hours : Hours) → 1 ≤ periods
+    → hours_in periods fields ≡ Ok hours → IsHours periods hours
 unfolding hours_in
 hours_are periods fields hours some e =
     let departure = bound (number_in fields 5 0 (periods - 1)) _ hours e in
@@ -157,20 +171,33 @@ hours_are periods fields hours some e =
       arrival_delay = (number_is fields 8 0 most_delay late.0 late.1).to;
     })
 
-cost_is : (fields : Fields) (cost : Cost) → cost_in fields ≡ Ok cost → (tables : List CostTable) (mg md : ℕ) → IsTrue (is_cost tables mg md cost)
+cost_is : (fields : Fields) (cost : Cost) → cost_in fields ≡ Ok cost
+    → (tables : List CostTable) (mg md : ℕ) → IsTrue (is_cost tables mg md cost)
 unfolding cost_in
 cost_is fields cost e tables mg md =
     let on_ground = bound (number_in fields 9 0 most_period_cost) _ cost e in
     let airborne = bound (number_in fields 10 0 most_period_cost) _ cost on_ground.2 in
     let ended = bound (ends_after fields 10) _ cost airborne.2 in
     subst (λ (c : Cost). IsTrue (is_cost tables mg md c)) (ok_is _ cost ended.2) (rw (
-      le-leb on_ground.0 most_period_cost ((number_is fields 9 0 most_period_cost on_ground.0 on_ground.1).to),
-      le-leb airborne.0 most_period_cost ((number_is fields 10 0 most_period_cost airborne.0 airborne.1).to),
+      le-leb on_ground.0 most_period_cost
+          ((number_is fields 9 0 most_period_cost on_ground.0 on_ground.1).to),
+      le-leb airborne.0 most_period_cost
+          ((number_is fields 10 0 most_period_cost airborne.0 airborne.1).to),
     ) refl)
 
 -- a flight with no legs is a network
 no_legs : (places : List Place) (at : ℕ) (name : List ℕ) (from to : ℕ) (hours : Hours) (cost : Cost)
-    → IsNetwork places (record { at = at; name = name; from = from; to = to; hours = hours; cost = cost; legs = []; passed = []; reached = [] })
+    → IsNetwork places (record {
+      at = at;
+      name = name;
+      from = from;
+      to = to;
+      hours = hours;
+      cost = cost;
+      legs = [];
+      passed = [];
+      reached = [];
+    })
 no_legs places at name from to hours cost = record {
   legs_few = omega arith;
   reached_few = omega arith;
@@ -193,10 +220,12 @@ pub record IsNewFlight (draft : DraftParts) (flight : FlightDraft) : Type 0 wher
   pub room : length (flight_names draft.flights) < most_flights
   pub few : node_total draft.flights + (length flight.reached + 2) ≤ most_nodes_in_all
 
-pub flight_is : (draft : DraftParts) (at : ℕ) (fields : Fields) (flight : FlightDraft) → 1 ≤ draft.day.periods → flight_of draft at fields ≡ Ok flight → IsNewFlight draft flight
+pub flight_is : (draft : DraftParts) (at : ℕ) (fields : Fields) (flight : FlightDraft)
+    → 1 ≤ draft.day.periods → flight_of draft at fields ≡ Ok flight → IsNewFlight draft flight
 unfolding flight_of flight_name_of
 flight_is draft at fields flight some e =
-    let name = bound (flight_name_of (flight_names draft.flights) (node_total draft.flights) fields) _ flight e in
+    let name = bound (flight_name_of (flight_names draft.flights) (node_total draft.flights) fields)
+    _ flight e in
     let origin = bound (origin_in draft.places fields) _ flight name.2 in
     let destination = bound (destination_in draft.places origin.0 fields) _ flight origin.2 in
     let hours = bound (hours_in draft.day.periods fields) _ flight destination.2 in
@@ -221,21 +250,24 @@ flight_is draft at fields flight some e =
       few = ltb-false most_nodes_in_all (node_total draft.flights + 2) few.0;
     })
 
--- ---- capacities
 
-kind_there : (kind : CapKind) (places : List Place) (fields : Fields) (place : ℕ) → place_in kind places fields ≡ Ok place → IsTrue (has_kind kind (slice_get places place))
+kind_there : (kind : CapKind) (places : List Place) (fields : Fields) (place : ℕ)
+    → place_in kind places fields ≡ Ok place → IsTrue (has_kind kind (slice_get places place))
 unfolding place_in
 kind_there kind places fields place e =
     let known = bound (known_in 3 (place_names places) fields) _ place e in
     holds (λ p. has_kind kind (slice_get places p)) known.0 place _ known.2
 
-last_is : (periods first : ℕ) (fields : Fields) (last : ℕ) → 1 ≤ periods → last_in periods first fields ≡ Ok last → IsLater periods first last
+last_is : (periods first : ℕ) (fields : Fields) (last : ℕ) → 1 ≤ periods
+    → last_in periods first fields ≡ Ok last → IsLater periods first last
 unfolding last_in
 last_is periods first fields last some e =
     let read = bound (number_in fields 5 0 (periods - 1)) _ last e in
     later_is periods first last 5 read.0 fields _ some read.1 read.2
 
-pub change_is : (periods : ℕ) (places : List Place) (fields : Fields) (change : CapChange) → 1 ≤ periods → cap_change_of periods places fields ≡ Ok change → IsCapChange periods places change
+pub change_is : (periods : ℕ) (places : List Place) (fields : Fields) (change : CapChange)
+    → 1 ≤ periods → cap_change_of periods places fields ≡ Ok change
+    → IsCapChange periods places change
 unfolding cap_change_of
 change_is periods places fields change some e =
     let word = bound (field_in fields 2) _ change e in
@@ -253,15 +285,17 @@ change_is periods places fields change some e =
       few = (number_is fields 6 0 most_capacity value.0 value.1).to;
     })
 
--- ---- connections
 
 -- a connection of two flights that meet, new and with room for it
-pub record IsNewConnection (flights : List FlightDraft) (connections : List Connection) (connection : Connection) : Type 0 where
+pub record IsNewConnection (flights : List FlightDraft) (connections : List Connection)
+    (connection : Connection) : Type 0 where
   pub valid : IsMeeting flights connection
   pub once : are_connected connections connection.first connection.second ≡ false
   pub room : length connections < most_connections
 
-room_for_one : (flights : List FlightDraft) (connections : List Connection) (fields : Fields) (first : ℕ) → first_in flights connections fields ≡ Ok first → length connections < most_connections
+room_for_one : (flights : List FlightDraft) (connections : List Connection) (fields : Fields)
+    (first : ℕ) → first_in flights connections fields ≡ Ok first
+    → length connections < most_connections
 unfolding first_in
 room_for_one flights connections fields first e =
     let known = bound (known_in 2 (flight_names flights) fields) _ first e in
@@ -269,11 +303,13 @@ room_for_one flights connections fields first e =
     leb-false most_connections (length connections) kept.0
 
 -- it isn't connected with the first yet, and departs from where that arrives
-record IsSecond (flights : List FlightDraft) (connections : List Connection) (first second : ℕ) : Type 0 where
+record IsSecond (flights : List FlightDraft) (connections : List Connection)
+    (first second : ℕ) : Type 0 where
   once : are_connected connections first second ≡ false
   together : IsTrue (meet flights first second)
 
-second_is : (flights : List FlightDraft) (connections : List Connection) (first : ℕ) (fields : Fields) (second : ℕ) → second_in flights connections first fields ≡ Ok second
+second_is : (flights : List FlightDraft) (connections : List Connection) (first : ℕ)
+    (fields : Fields) (second : ℕ) → second_in flights connections first fields ≡ Ok second
     → IsSecond flights connections first second
 unfolding second_in
 second_is flights connections first fields second e =
@@ -282,7 +318,8 @@ second_is flights connections first fields second e =
     let kept = given (meet flights first known.0) known.0 second _ once.1 in
     subst (IsSecond flights connections first) kept.1 (record { once = once.0; together = kept.0 })
 
-pub connection_is : (flights : List FlightDraft) (connections : List Connection) (fields : Fields) (connection : Connection) → connection_of flights connections fields ≡ Ok connection
+pub connection_is : (flights : List FlightDraft) (connections : List Connection) (fields : Fields)
+    (connection : Connection) → connection_of flights connections fields ≡ Ok connection
     → IsNewConnection flights connections connection
 unfolding connection_of
 connection_is flights connections fields connection e =
@@ -292,7 +329,10 @@ connection_is flights connections fields connection e =
     let ended = bound (ends_after fields 4) _ connection turnaround.2 in
     let and_parts = second_is flights connections first.0 fields second.0 second.1 in
     subst (IsNewConnection flights connections) (ok_is _ connection ended.2) (record {
-      valid = record { together = and_parts.together; turnaround = (number_is fields 4 0 most_delay turnaround.0 turnaround.1).to };
+      valid = record {
+        together = and_parts.together;
+        turnaround = (number_is fields 4 0 most_delay turnaround.0 turnaround.1).to;
+      };
       once = and_parts.once;
       room = room_for_one flights connections fields first.0 first.1;
     })

@@ -31,96 +31,124 @@ use Rattle.scenario_reader.proofs.ValidLegs.{leg_found}
 use Rattle.scenario_reader.proofs.ValidRecords.{airport_is, change_is, connection_is, day_is, flight_is, IsNewPlace, sector_is}
 use Rattle.scenario_reader.proofs.ValidTables.{pricing_is, table_is}
 
--- ---- one record
 
-place_added : (draft : DraftParts) (place : Place) → IsValidDraft draft → IsNewPlace draft.day.periods (place_names draft.places) place → IsValidDraft (with_place draft place)
+place_added : (draft : DraftParts) (place : Place) → IsValidDraft draft
+    → IsNewPlace draft.day.periods (place_names draft.places) place
+    → IsValidDraft (with_place draft place)
 place_added draft place valid new =
     let long = length-map draft.places (λ (p : Place). p.name) in
     let room = new.room in
     parts_with_place draft place valid new.valid new.fresh (omega arith)
 
-after_airport : (draft next : DraftParts) (fields : Fields) → IsValidDraft draft → airport_step draft fields ≡ Ok next → IsValidDraft next
+after_airport : (draft next : DraftParts) (fields : Fields) → IsValidDraft draft
+    → airport_step draft fields ≡ Ok next → IsValidDraft next
 unfolding airport_step
 after_airport draft next fields valid e =
     let place = bound (airport_of draft.day.periods (place_names draft.places) fields) _ next e in
-    subst IsValidDraft (ok_is _ next place.2) (place_added draft place.0 valid (airport_is draft.day.periods (place_names draft.places) fields place.0 place.1))
+    subst IsValidDraft (ok_is _ next place.2)
+    (place_added draft place.0 valid
+    (airport_is draft.day.periods (place_names draft.places) fields place.0 place.1))
 
-after_sector : (draft next : DraftParts) (fields : Fields) → IsValidDraft draft → sector_step draft fields ≡ Ok next → IsValidDraft next
+after_sector : (draft next : DraftParts) (fields : Fields) → IsValidDraft draft
+    → sector_step draft fields ≡ Ok next → IsValidDraft next
 unfolding sector_step
 after_sector draft next fields valid e =
     let place = bound (sector_of draft.day.periods (place_names draft.places) fields) _ next e in
-    subst IsValidDraft (ok_is _ next place.2) (place_added draft place.0 valid (sector_is draft.day.periods (place_names draft.places) fields place.0 place.1))
+    subst IsValidDraft (ok_is _ next place.2)
+    (place_added draft place.0 valid
+    (sector_is draft.day.periods (place_names draft.places) fields place.0 place.1))
 
-after_flight : (draft next : DraftParts) (at : ℕ) (fields : Fields) → IsValidDraft draft → flight_step draft at fields ≡ Ok next → IsValidDraft next
+after_flight : (draft next : DraftParts) (at : ℕ) (fields : Fields) → IsValidDraft draft
+    → flight_step draft at fields ≡ Ok next → IsValidDraft next
 unfolding flight_step
 after_flight draft next at fields valid e =
     let flight = bound (flight_of draft at fields) _ next e in
     let new = flight_is draft at fields flight.0 valid.day.periods_from flight.1 in
     let long = length-map draft.flights (λ (f : FlightDraft). f.name) in
     let room = new.room in
-    subst IsValidDraft (ok_is _ next flight.2) (parts_with_flight draft flight.0 valid new.valid new.fresh (omega arith) new.few)
+    subst IsValidDraft (ok_is _ next flight.2)
+    (parts_with_flight draft flight.0 valid new.valid new.fresh (omega arith) new.few)
 
-after_leg : (draft next : DraftParts) (fields : Fields) → IsValidDraft draft → leg_step draft fields ≡ Ok next → IsValidDraft next
+after_leg : (draft next : DraftParts) (fields : Fields) → IsValidDraft draft
+    → leg_step draft fields ≡ Ok next → IsValidDraft next
 unfolding leg_step
 after_leg draft next fields valid e =
     let found = bound (leg_in draft fields) _ next e in
     let new = leg_found draft fields found.0 found.1 in
-    subst IsValidDraft (ok_is _ next found.2) (parts_with_leg draft found.0.0 found.0.1 new.flight valid new.here new.valid)
+    subst IsValidDraft (ok_is _ next found.2)
+    (parts_with_leg draft found.0.0 found.0.1 new.flight valid new.here new.valid)
 
-after_connect : (draft next : DraftParts) (fields : Fields) → IsValidDraft draft → connect_step draft fields ≡ Ok next → IsValidDraft next
+after_connect : (draft next : DraftParts) (fields : Fields) → IsValidDraft draft
+    → connect_step draft fields ≡ Ok next → IsValidDraft next
 unfolding connect_step
 after_connect draft next fields valid e =
     let connection = bound (connection_of draft.flights draft.connections fields) _ next e in
     let new = connection_is draft.flights draft.connections fields connection.0 connection.1 in
-    subst IsValidDraft (ok_is _ next connection.2) (parts_with_connection draft connection.0 valid new.valid new.once new.room)
+    subst IsValidDraft (ok_is _ next connection.2)
+    (parts_with_connection draft connection.0 valid new.valid new.once new.room)
 
-after_table : (draft next : DraftParts) (fields : Fields) → IsValidDraft draft → table_step draft fields ≡ Ok next → IsValidDraft next
+after_table : (draft next : DraftParts) (fields : Fields) → IsValidDraft draft
+    → table_step draft fields ≡ Ok next → IsValidDraft next
 unfolding table_step
 after_table draft next fields valid e =
     let table = bound (table_of (table_names draft.tables) fields) _ next e in
     let new = table_is (table_names draft.tables) fields table.0 table.1 in
     let long = length-map draft.tables (λ (t : CostTable). t.name) in
     let room = new.room in
-    subst IsValidDraft (ok_is _ next table.2) (parts_with_table draft table.0 valid new.valid new.fresh (omega arith))
+    subst IsValidDraft (ok_is _ next table.2)
+    (parts_with_table draft table.0 valid new.valid new.fresh (omega arith))
 
-after_cost : (draft next : DraftParts) (fields : Fields) → IsValidDraft draft → cost_step draft fields ≡ Ok next → IsValidDraft next
+after_cost : (draft next : DraftParts) (fields : Fields) → IsValidDraft draft
+    → cost_step draft fields ≡ Ok next → IsValidDraft next
 unfolding cost_step
 after_cost draft next fields valid e =
     let pricing = bound (pricing_of draft.flights draft.tables fields) _ next e in
-    subst IsValidDraft (ok_is _ next pricing.2) (parts_with_pricing draft pricing.0 valid (pricing_is draft.flights draft.tables fields pricing.0 pricing.1))
+    subst IsValidDraft (ok_is _ next pricing.2)
+    (parts_with_pricing draft pricing.0 valid
+    (pricing_is draft.flights draft.tables fields pricing.0 pricing.1))
 
-after_cap : (draft next : DraftParts) (fields : Fields) → IsValidDraft draft → cap_step draft fields ≡ Ok next → IsValidDraft next
+after_cap : (draft next : DraftParts) (fields : Fields) → IsValidDraft draft
+    → cap_step draft fields ≡ Ok next → IsValidDraft next
 unfolding cap_step
 after_cap draft next fields valid e =
     let change = bound (cap_change_of draft.day.periods draft.places fields) _ next e in
-    subst IsValidDraft (ok_is _ next change.2) (parts_with_change draft change.0 valid (change_is draft.day.periods draft.places fields change.0 valid.day.periods_from change.1))
+    subst IsValidDraft (ok_is _ next change.2)
+    (parts_with_change draft change.0 valid
+    (change_is draft.day.periods draft.places fields change.0 valid.day.periods_from change.1))
 
-after_kind : (draft next : DraftParts) (at : ℕ) (fields : Fields) (of_kind : Option Kind) → IsValidDraft draft → step_of draft at fields of_kind ≡ Ok next → IsValidDraft next
+after_kind : (draft next : DraftParts) (at : ℕ) (fields : Fields) (of_kind : Option Kind)
+    → IsValidDraft draft → step_of draft at fields of_kind ≡ Ok next → IsValidDraft next
 after_kind draft next at fields None valid e = absurd cc
 after_kind draft next at fields (Some kind.Day) valid e = absurd cc
-after_kind draft next at fields (Some kind.Airport) valid e = after_airport draft next fields valid e
+after_kind draft next at fields (Some kind.Airport) valid e =
+    after_airport draft next fields valid e
 after_kind draft next at fields (Some kind.Sector) valid e = after_sector draft next fields valid e
-after_kind draft next at fields (Some kind.Flight) valid e = after_flight draft next at fields valid e
+after_kind draft next at fields (Some kind.Flight) valid e =
+    after_flight draft next at fields valid e
 after_kind draft next at fields (Some kind.Leg) valid e = after_leg draft next fields valid e
-after_kind draft next at fields (Some kind.Connect) valid e = after_connect draft next fields valid e
+after_kind draft next at fields (Some kind.Connect) valid e =
+    after_connect draft next fields valid e
 after_kind draft next at fields (Some kind.Table) valid e = after_table draft next fields valid e
 after_kind draft next at fields (Some kind.Cost) valid e = after_cost draft next fields valid e
 after_kind draft next at fields (Some kind.Cap) valid e = after_cap draft next fields valid e
-after_kind draft next at fields (Some kind.Note) valid e = subst IsValidDraft (ok_is draft next e) valid
+after_kind draft next at fields (Some kind.Note) valid e =
+    subst IsValidDraft (ok_is draft next e) valid
 
-after_record : (draft next : DraftParts) (at : ℕ) (fields : Fields) → IsValidDraft draft → record_step draft at fields ≡ Ok next → IsValidDraft next
+after_record : (draft next : DraftParts) (at : ℕ) (fields : Fields) → IsValidDraft draft
+    → record_step draft at fields ≡ Ok next → IsValidDraft next
 unfolding record_step
 after_record draft next at fields valid e =
     let word = bound (field_in fields 1) _ next e in
     after_kind draft next at fields (kind_of word.0) valid word.2
 
--- ---- all records
 
-in_record_ok : (at : ℕ) (read : Result DraftParts FieldFault) (next : DraftParts) → in_record at read ≡ Ok next → read ≡ Ok next
+in_record_ok : (at : ℕ) (read : Result DraftParts FieldFault) (next : DraftParts)
+    → in_record at read ≡ Ok next → read ≡ Ok next
 in_record_ok at (Ok x) next e = cc
 in_record_ok at (Err fault) next e = absurd cc
 
-after_records : (at : ℕ) (draft last : DraftParts) (rows : List Fields) → IsValidDraft draft → records_step at draft rows ≡ Ok last → IsValidDraft last
+after_records : (at : ℕ) (draft last : DraftParts) (rows : List Fields) → IsValidDraft draft
+    → records_step at draft rows ≡ Ok last → IsValidDraft last
 unfolding records_step
 after_records at draft last [] valid e = subst IsValidDraft (ok_is draft last e) valid
 after_records at draft last (fields ∷ rows) valid e =
@@ -147,7 +175,8 @@ day_alone day valid = record {
   connected_once = λ i j d before h. absurd (omega arith);
 }
 
-day_of_kind : (fields : Fields) (of_kind : Option Kind) (day : Day) → day_by_kind fields of_kind ≡ Ok day → IsDay day
+day_of_kind : (fields : Fields) (of_kind : Option Kind) (day : Day)
+    → day_by_kind fields of_kind ≡ Ok day → IsDay day
 day_of_kind fields None day e = absurd cc
 day_of_kind fields (Some kind.Day) day e = day_is fields day e
 day_of_kind fields (Some kind.Airport) day e = absurd cc
@@ -160,16 +189,18 @@ day_of_kind fields (Some kind.Cost) day e = absurd cc
 day_of_kind fields (Some kind.Cap) day e = absurd cc
 day_of_kind fields (Some kind.Note) day e = absurd cc
 
-after_first : (fields : Fields) (draft : DraftParts) → first_step fields ≡ Ok draft → IsValidDraft draft
+after_first : (fields : Fields) (draft : DraftParts) → first_step fields ≡ Ok draft
+    → IsValidDraft draft
 unfolding first_step
 after_first fields draft e =
     let word = bound (field_in fields 1) _ draft e in
     let day = bound (day_by_kind fields (kind_of word.0)) _ draft word.2 in
-    subst IsValidDraft (ok_is _ draft day.2) (day_alone day.0 (day_of_kind fields (kind_of word.0) day.0 day.1))
+    subst IsValidDraft (ok_is _ draft day.2)
+    (day_alone day.0 (day_of_kind fields (kind_of word.0) day.0 day.1))
 
--- ---- the text
 
-ended : (draft : DraftParts) (parts : Parts) → IsValidDraft draft → finished draft ≡ Ok parts → IsScenario parts
+ended : (draft : DraftParts) (parts : Parts) → IsValidDraft draft → finished draft ≡ Ok parts
+    → IsScenario parts
 unfolding finished
 ended draft parts valid e =
     let flights = bound (finished_flights draft.flights) _ parts e in

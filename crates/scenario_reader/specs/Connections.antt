@@ -20,7 +20,8 @@ first_in flights connections fields = do
 
 -- the two are connected already
 abbrev pub are_connected : List Connection → ℕ → ℕ → Bool
-are_connected connections first second = list_any (λ other. other.first == first && other.second == second) connections
+are_connected connections first second =
+    list_any (λ other. other.first == first && other.second == second) connections
 
 -- these are one place
 abbrev pub is_same_place : Option ℕ → Option ℕ → Bool
@@ -29,7 +30,8 @@ is_same_place a b = false
 
 -- the second departs from where the first arrives
 abbrev pub meet : List FlightDraft → ℕ → ℕ → Bool
-meet flights first second = is_same_place (slice_get (origins flights) second) (slice_get (destinations flights) first)
+meet flights first second =
+    is_same_place (slice_get (origins flights) second) (slice_get (destinations flights) first)
 
 -- the flight that leaves with it
 unfoldable pub second_in : List FlightDraft → List Connection → ℕ → Fields → Result ℕ FieldFault
@@ -39,7 +41,8 @@ second_in flights connections first fields = do
       else if meet flights first second then Ok second
       else Err (fault_in 3 Apart)
 
-unfoldable pub connection_of : List FlightDraft → List Connection → Fields → Result Connection FieldFault
+unfoldable pub connection_of : List FlightDraft → List Connection → Fields
+    → Result Connection FieldFault
 connection_of flights connections fields = do
   first ← first_in flights connections fields
   second ← second_in flights connections first fields

@@ -20,7 +20,8 @@ marked text = if has_marks text then Ok tt else Err (fault_in 2 BadDate)
 -- a number within its limits
 abbrev pub within : ℕ → ℕ → Option ℕ → Result ℕ FieldFault
 within low high None = Err (fault_in 2 BadDate)
-within low high (Some value) = if nat_le low value && nat_le value high then Ok value else Err (fault_in 2 BadDate)
+within low high (Some value) =
+    if nat_le low value && nat_le value high then Ok value else Err (fault_in 2 BadDate)
 
 -- the number that the bytes between two places spell
 abbrev pub part_of : List ℕ → ℕ → ℕ → ℕ → ℕ → Result ℕ FieldFault
@@ -28,7 +29,8 @@ part_of text from to low high = within low high (number_of (slice_range text fro
 
 -- the month has this day
 abbrev pub of_calendar : ℕ → ℕ → ℕ → Result (Unit {0}) FieldFault
-of_calendar year month day = if nat_le day (days_in_month year month) then Ok tt else Err (fault_in 2 BadDate)
+of_calendar year month day =
+    if nat_le day (days_in_month year month) then Ok tt else Err (fault_in 2 BadDate)
 
 unfoldable pub moment_of : List ℕ → Result Moment FieldFault
 moment_of text = do

@@ -31,7 +31,8 @@ node_of nodes place = position_or_len (λ node. node == place) nodes
 
 -- a leg between nodes
 abbrev pub leg_between : List ℕ → PlaceLeg → Leg
-leg_between nodes leg = record { from = node_of nodes leg.from; to = node_of nodes leg.to; least = leg.least }
+leg_between nodes leg =
+    record { from = node_of nodes leg.from; to = node_of nodes leg.to; least = leg.least }
 
 abbrev pub flight_with : FlightDraft → List ℕ → Flight
 flight_with flight nodes = record {
@@ -51,7 +52,8 @@ flight_with flight nodes = record {
 unfoldable pub finished_flight : FlightDraft → Result Flight Fault
 finished_flight flight =
     if has_route flight
-    then (if leads_on flight then Ok (flight_with flight (nodes_of flight)) else Err (fault_at flight.at 1 DeadEnd))
+    then (if leads_on flight then Ok (flight_with flight (nodes_of flight)) else Err
+    (fault_at flight.at 1 DeadEnd))
     else Err (fault_at flight.at 1 NoRoute)
 
 unfoldable pub finished_flights : List FlightDraft → Result (List Flight) Fault
@@ -64,4 +66,10 @@ finished_flights (flight ∷ flights) = do
 unfoldable pub finished : DraftParts → Result Parts Fault
 finished draft = do
   flights ← finished_flights draft.flights
-  Ok (record { day = draft.day; places = draft.places; flights = flights; tables = draft.tables; connections = draft.connections })
+  Ok (record {
+    day = draft.day;
+    places = draft.places;
+    flights = flights;
+    tables = draft.tables;
+    connections = draft.connections;
+  })

@@ -73,4 +73,14 @@ flight_of draft at fields = do
   destination ← destination_in draft.places origin fields
   hours ← hours_in draft.day.periods fields
   cost ← cost_in fields
-  Ok (record { at = at; name = name; from = origin; to = destination; hours = hours; cost = cost; legs = []; passed = []; reached = [] })
+  Ok (record {
+    at = at;
+    name = name;
+    from = origin;
+    to = destination;
+    hours = hours;
+    cost = cost;
+    legs = [];
+    passed = [];
+    reached = [];
+  })

@@ -27,7 +27,8 @@ flight_at flights (Some k) = flight_of k (slice_get flights k)
   where
     flight_of : ℕ → Option FlightDraft → Result (ℕ × FlightDraft) FieldFault
     flight_of k None = Err (fault_in 2 UnknownName)
-    flight_of k (Some flight) = if nat_le most_legs (length flight.legs) then Err (fault_in 2 Limit) else Ok (k, flight)
+    flight_of k (Some flight) =
+        if nat_le most_legs (length flight.legs) then Err (fault_in 2 Limit) else Ok (k, flight)
 
 unfoldable pub flight_in : List FlightDraft → Fields → Result (ℕ × FlightDraft) FieldFault
 flight_in flights fields = do
@@ -36,11 +37,13 @@ flight_in flights fields = do
 
 -- a sector, or one of the flight's two airports
 abbrev pub is_own : List Place → FlightDraft → ℕ → Bool
-is_own places flight place = is_sector (slice_get places place) || place == flight.from || place == flight.to
+is_own places flight place =
+    is_sector (slice_get places place) || place == flight.from || place == flight.to
 
 abbrev pub own_at : ℕ → List Place → FlightDraft → Option ℕ → Result ℕ FieldFault
 own_at number places flight None = Err (fault_in number UnknownName)
-own_at number places flight (Some place) = if is_own places flight place then Ok place else Err (fault_in number UnknownName)
+own_at number places flight (Some place) =
+    if is_own places flight place then Ok place else Err (fault_in number UnknownName)
 
 unfoldable pub own_in : ℕ → List Place → FlightDraft → Fields → Result ℕ FieldFault
 own_in number places flight fields = do
@@ -51,7 +54,8 @@ own_in number places flight fields = do
 unfoldable pub start_in : List Place → FlightDraft → Fields → Result ℕ FieldFault
 start_in places flight fields = do
   place ← own_in 3 places flight fields
-  if place == flight.from || is_among flight.reached place then Ok place else Err (fault_in 3 Unreached)
+  if place == flight.from || is_among flight.reached place then Ok place else Err
+      (fault_in 3 Unreached)
 
 -- the flight has a leg from this place to that one
 abbrev pub is_joined : List PlaceLeg → ℕ → ℕ → Bool
@@ -71,7 +75,8 @@ passes_new flight from = not (from == flight.from) && not (is_among flight.passe
 
 -- a new node would be one too many
 abbrev pub is_full : ℕ → FlightDraft → Bool
-is_full total flight = nat_le most_nodes (length flight.reached + 2) || nat_le most_nodes_in_all total
+is_full total flight =
+    nat_le most_nodes (length flight.reached + 2) || nat_le most_nodes_in_all total
 
 -- Where the leg leads. A leg that is there already leads to a place of the flight, so a place
 -- that isn't one can be refused first.

@@ -19,7 +19,15 @@ day_of fields = do
   minutes ← number_in fields 3 1 most_minutes
   periods ← number_in fields 4 1 most_periods
   ended ← ends_after fields 4
-  Ok (record { year = moment.year; month = moment.month; day = moment.day; hour = moment.hour; minute = moment.minute; minutes = minutes; periods = periods })
+  Ok (record {
+    year = moment.year;
+    month = moment.month;
+    day = moment.day;
+    hour = moment.hour;
+    minute = moment.minute;
+    minutes = minutes;
+    periods = periods;
+  })
 
 -- airport, name, departures, arrivals: a new name, and capacities of every period
 unfoldable pub airport_of : ℕ → List (List ℕ) → Fields → Result Place FieldFault
@@ -28,7 +36,12 @@ airport_of periods names fields = do
   departures ← number_in fields 3 0 most_capacity
   arrivals ← number_in fields 4 0 most_capacity
   ended ← ends_after fields 4
-  Ok (record { name = name; kind = Airport; first = replicate periods departures; second = replicate periods arrivals })
+  Ok (record {
+    name = name;
+    kind = Airport;
+    first = replicate periods departures;
+    second = replicate periods arrivals;
+  })
 
 -- sector, name, capacity: the same
 unfoldable pub sector_of : ℕ → List (List ℕ) → Fields → Result Place FieldFault

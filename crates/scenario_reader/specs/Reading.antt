@@ -43,13 +43,19 @@ abbrev pub with_table : DraftParts → CostTable → DraftParts
 with_table draft table = record draft { tables = draft.tables ++ table ∷ [] }
 
 abbrev pub with_connection : DraftParts → Connection → DraftParts
-with_connection draft connection = record draft { connections = draft.connections ++ connection ∷ [] }
+with_connection draft connection =
+    record draft { connections = draft.connections ++ connection ∷ [] }
 
 abbrev pub with_pricing : DraftParts → Pricing → DraftParts
-with_pricing draft pricing = record draft { flights = with_cost_at draft.flights pricing.flight (Tables pricing.total pricing.credit) }
+with_pricing draft pricing =
+    record draft {
+      flights =
+          with_cost_at draft.flights pricing.flight (Tables pricing.total pricing.credit);
+    }
 
 abbrev pub with_cap_change : DraftParts → CapChange → DraftParts
-with_cap_change draft change = record draft { places = changed_at (with_change change) draft.places change.place }
+with_cap_change draft change =
+    record draft { places = changed_at (with_change change) draft.places change.place }
 
 abbrev pub with_flight_leg : DraftParts → ℕ × PlaceLeg → DraftParts
 with_flight_leg draft found = record draft { flights = with_leg_at draft.flights found.0 found.1 }

@@ -24,17 +24,21 @@ signed false n = pos n
 
 abbrev pub value_at : ℕ → Bool → Option ℕ → Result ℤ FieldFault
 value_at number negative None = Err (fault_in number BadNumber)
-value_at number negative (Some n) = if nat_le n most_value then Ok (signed negative n) else Err (fault_in number OutOfRange)
+value_at number negative (Some n) =
+    if nat_le n most_value then Ok (signed negative n) else Err (fault_in number OutOfRange)
 
 -- a number, which may have one `-` in front
 abbrev pub value_of : ℕ → List ℕ → Result ℤ FieldFault
 value_of number [] = Err (fault_in number BadNumber)
 value_of number (byte ∷ bytes) =
-    if byte == 45 then value_at number true (number_of bytes) else value_at number false (number_of (byte ∷ bytes))
+    if byte == 45 then value_at number true (number_of bytes) else value_at number false
+    (number_of (byte ∷ bytes))
 
 -- the value in the field of this number, of which the last may be the 514th
 abbrev pub value_in : ℕ → List ℕ → Result ℤ FieldFault
-value_in number bytes = if nat_lt (most_values + 2) number then Err (fault_in number ExtraField) else value_of number bytes
+value_in number bytes =
+    if nat_lt (most_values + 2) number then Err
+    (fault_in number ExtraField) else value_of number bytes
 
 -- the values in the fields from the one of this number on
 unfoldable pub values_from : ℕ → List (List ℕ) → Result (List ℤ) FieldFault
@@ -59,7 +63,8 @@ has_tables (Tables total credit) = true
 
 abbrev pub untabled_at : ℕ → Option FlightDraft → Result (ℕ × FlightDraft) FieldFault
 untabled_at k None = Err (fault_in 2 UnknownName)
-untabled_at k (Some flight) = if has_tables flight.cost then Err (fault_in 2 Repeated) else Ok (k, flight)
+untabled_at k (Some flight) =
+    if has_tables flight.cost then Err (fault_in 2 Repeated) else Ok (k, flight)
 
 unfoldable pub untabled_in : List FlightDraft → Fields → Result (ℕ × FlightDraft) FieldFault
 untabled_in flights fields = do

@@ -80,7 +80,8 @@ pub record IsNetwork (places : List Place) (flight : FlightDraft) : Type 0 where
   pub next : next_start 1 (starts_of (visited flight) flight.legs) ≡ length flight.passed + 1
 
 -- a flight that can become a valid one
-pub record IsFlightDraft (periods : ℕ) (places : List Place) (tables : List CostTable) (flight : FlightDraft) : Type 0 where
+pub record IsFlightDraft (periods : ℕ) (places : List Place) (tables : List CostTable)
+    (flight : FlightDraft) : Type 0 where
   pub name : IsTrue (is_name flight.name)
   pub hours : IsHours periods flight.hours
   pub origin : IsTrue (is_airport (slice_get places flight.from))
@@ -90,7 +91,8 @@ pub record IsFlightDraft (periods : ℕ) (places : List Place) (tables : List Co
   pub network : IsNetwork places flight
 
 -- a leg that a flight may have next
-pub record IsNewLeg (places : List Place) (total : ℕ) (flight : FlightDraft) (leg : PlaceLeg) : Type 0 where
+pub record IsNewLeg (places : List Place) (total : ℕ) (flight : FlightDraft)
+    (leg : PlaceLeg) : Type 0 where
   pub room : length flight.legs < most_legs
   pub start : IsTrue (leg.from == flight.from || is_among flight.reached leg.from)
   pub own : IsTrue (is_own places flight leg.to)
@@ -112,10 +114,12 @@ pub record IsCapChange (periods : ℕ) (places : List Place) (change : CapChange
   pub few : change.value ≤ most_capacity
 
 -- tables that a flight may have
-pub record IsPricing (flights : List FlightDraft) (tables : List CostTable) (pricing : Pricing) : Type 0 where
+pub record IsPricing (flights : List FlightDraft) (tables : List CostTable)
+    (pricing : Pricing) : Type 0 where
   pub flight : pricing.flight < length flights
   pub long : (flight : FlightDraft) → slice_get flights pricing.flight ≡ Some flight
-      → IsTrue (is_cost tables flight.hours.mg flight.hours.md (Tables pricing.total pricing.credit))
+      → IsTrue (is_cost tables flight.hours.mg flight.hours.md
+      (Tables pricing.total pricing.credit))
 
 -- all that has been read keeps the rules
 pub record IsValidDraft (draft : DraftParts) : Type 0 where

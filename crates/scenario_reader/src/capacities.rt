@@ -87,7 +87,8 @@ pub fn cap_change_of(
     row: &ByteRecord,
 ) -> Result<CapChange, FieldFault>
     requires { 1 ≤ periods }
-    ensures found { Finds (λ change. change) result (cap_change_of periods places.now (fields_of row.now)) }
+    ensures found { Finds (λ change. change) result
+        (cap_change_of periods places.now (fields_of row.now)) }
     ensures valid { IfOk result (IsCapChange periods places.now) }
 {
     let kind = cap_kind_at(cap_kind_of(field_in(row, 2)?))?;

@@ -19,7 +19,8 @@ fn first_in(
     connections: &[Connection],
     row: &ByteRecord,
 ) -> Result<u32, FieldFault>
-    ensures found { Finds (λ first. first) result (first_in flights.now connections.now (fields_of row.now)) }
+    ensures found { Finds (λ first. first) result
+        (first_in flights.now connections.now (fields_of row.now)) }
     ensures room { OnOk result (length connections.now < most_connections) }
 {
     let first = known_in(2, flights.names(), row)?;
@@ -59,7 +60,8 @@ fn second_in(
     first: u32,
     row: &ByteRecord,
 ) -> Result<u32, FieldFault>
-    ensures found { Finds (λ second. second) result (second_in flights.now connections.now first (fields_of row.now)) }
+    ensures found { Finds (λ second. second) result
+        (second_in flights.now connections.now first (fields_of row.now)) }
     ensures once { IfOk result (λ second. are_connected connections.now first second ≡ false) }
     ensures together { IfOk result (λ second. IsTrue (meet flights.now first second)) }
 {
@@ -81,9 +83,11 @@ pub fn connection_of(
     connections: &[Connection],
     row: &ByteRecord,
 ) -> Result<Connection, FieldFault>
-    ensures found { Finds (λ connection. connection) result (connection_of flights.now connections.now (fields_of row.now)) }
+    ensures found { Finds (λ connection. connection) result
+        (connection_of flights.now connections.now (fields_of row.now)) }
     ensures valid { IfOk result (IsMeeting flights.now) }
-    ensures once { IfOk result (λ connection. are_connected connections.now connection.first connection.second ≡ false) }
+    ensures once { IfOk result
+        (λ connection. are_connected connections.now connection.first connection.second ≡ false) }
     ensures room { OnOk result (length connections.now < most_connections) }
 {
     let first = first_in(flights, connections, row)?;

@@ -164,7 +164,8 @@ impl Draft {
     /// Adds a connection, of a new pair of flights.
     pub fn add_connection(&mut self, connection: Connection) -> Result<(), OutOfMemory>
         requires valid { IsMeeting self.old.flights connection }
-        requires once { are_connected self.old.connections connection.first connection.second ≡ false }
+        requires once { are_connected self.old.connections connection.first connection.second
+            ≡ false }
         requires room { length self.old.connections < most_connections }
         ensures ok { OnOk result (self.new ≡ with_connection self.old connection) }
         ensures err { OnErr result (self.new ≡ self.old) }

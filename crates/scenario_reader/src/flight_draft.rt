@@ -114,7 +114,8 @@ impl NamedList<FlightDraft> {
     /// Adds a leg of a flight, for which there is room in its network.
     pub fn add_leg(&mut self, flight: u32, leg: PlaceLeg) -> Result<(), OutOfMemory>
         requires here { flight < length self.old }
-        requires room { (draft : TheFlightDraft) → slice_get self.old flight ≡ Some draft → HasRoom draft leg }
+        requires room { (draft : TheFlightDraft) → slice_get self.old flight ≡ Some draft
+            → HasRoom draft leg }
         ensures ok { OnOk result (self.new ≡ with_leg_at self.old flight leg) }
         ensures err { OnErr result (self.new ≡ self.old) }
     {

@@ -27,7 +27,8 @@ pub fn flight_name_of<'a>(
     row: &'a ByteRecord,
 ) -> Result<&'a [u8], FieldFault>
     requires { total ≤ most_nodes_in_all }
-    ensures found { Finds (λ name. name.now) result (flight_name_of names.now total (fields_of row.now)) }
+    ensures found { Finds (λ name. name.now) result
+        (flight_name_of names.now total (fields_of row.now)) }
     ensures named { IfOk result (λ name. IsTrue (is_name name.now)) }
     ensures fresh { IfOk result (λ name. position_of name.now names.now ≡ None) }
     ensures room { OnOk result (length names.now < most_flights) }
@@ -89,7 +90,8 @@ pub fn destination_in(
     origin: u32,
     row: &ByteRecord,
 ) -> Result<u32, FieldFault>
-    ensures found { Finds (λ place. place) result (destination_in places.now origin (fields_of row.now)) }
+    ensures found { Finds (λ place. place) result
+        (destination_in places.now origin (fields_of row.now)) }
     ensures airport { IfOk result (λ place. IsTrue (is_airport (slice_get places.now place))) }
     ensures apart { IfOk result (λ place. origin ≢ place) }
 {
@@ -101,7 +103,8 @@ pub fn destination_in(
 #[tactic(auto, unfolding(crate::specs::Flights::arrival_in))]
 fn arrival_in(periods: u16, departure: u64, row: &ByteRecord) -> Result<u64, FieldFault>
     requires { 1 ≤ periods }
-    ensures found { Finds (λ arrival. arrival) result (arrival_in periods departure (fields_of row.now)) }
+    ensures found { Finds (λ arrival. arrival) result
+        (arrival_in periods departure (fields_of row.now)) }
     ensures forward { IfOk result (λ arrival. departure ≤ arrival) }
     ensures within { IfOk result (λ arrival. arrival < periods) }
 {
@@ -138,7 +141,8 @@ pub fn hours_in(periods: u16, row: &ByteRecord) -> Result<Hours, FieldFault>
 #[tactic(auto, unfolding(crate::specs::Flights::cost_in))]
 pub fn cost_in(row: &ByteRecord) -> Result<Cost, FieldFault>
     ensures found { Finds (λ cost. cost) result (cost_in (fields_of row.now)) }
-    ensures valid { IfOk result (λ cost. (tables : List CostTable) (mg md : ℕ) → IsTrue (is_cost tables mg md cost)) }
+    ensures valid { IfOk result (λ cost. (tables : List CostTable) (mg md : ℕ)
+        → IsTrue (is_cost tables mg md cost)) }
 {
     let on_ground = number_in(row, 9, 0, u64::from(MOST_PERIOD_COST))?;
     let airborne = number_in(row, 10, 0, u64::from(MOST_PERIOD_COST))?;

@@ -46,7 +46,8 @@ pub fn flight_in<'a>(
     flights: &'a NamedList<FlightDraft>,
     row: &ByteRecord,
 ) -> Result<(u32, &'a FlightDraft), FieldFault>
-    ensures found { Finds (λ found. (found.0, found.1.now)) result (flight_in flights.now (fields_of row.now)) }
+    ensures found { Finds (λ found. (found.0, found.1.now)) result
+        (flight_in flights.now (fields_of row.now)) }
     ensures here { IfOk result (λ found. slice_get flights.now found.0 ≡ Some found.1.now) }
     ensures room { IfOk result (λ found. length found.1.now.legs < most_legs) }
 {
@@ -88,7 +89,8 @@ fn own_in(
     row: &ByteRecord,
 ) -> Result<u32, FieldFault>
     requires { 1 ≤ number }
-    ensures found { Finds (λ place. place) result (own_in number places.now flight.now (fields_of row.now)) }
+    ensures found { Finds (λ place. place) result
+        (own_in number places.now flight.now (fields_of row.now)) }
     ensures own { IfOk result (λ place. IsTrue (is_own places.now flight.now place)) }
 {
     let name = name_in(row, number)?;
@@ -102,8 +104,10 @@ fn start_in(
     flight: &FlightDraft,
     row: &ByteRecord,
 ) -> Result<u32, FieldFault>
-    ensures found { Finds (λ place. place) result (start_in places.now flight.now (fields_of row.now)) }
-    ensures start { IfOk result (λ place. IsTrue (place == flight.now.from || is_among flight.now.reached place)) }
+    ensures found { Finds (λ place. place) result
+        (start_in places.now flight.now (fields_of row.now)) }
+    ensures start { IfOk result
+        (λ place. IsTrue (place == flight.now.from || is_among flight.now.reached place)) }
 {
     let place = own_in(3, places, flight, row)?;
     if place != flight.from && !is_among(flight.reached.items(), place) {
@@ -131,11 +135,13 @@ fn end_in(
     from: u32,
     row: &ByteRecord,
 ) -> Result<u32, FieldFault>
-    ensures found { Finds (λ place. place) result (end_in places.now total flight.now from (fields_of row.now)) }
+    ensures found { Finds (λ place. place) result
+        (end_in places.now total flight.now from (fields_of row.now)) }
     ensures own { IfOk result (λ place. IsTrue (is_own places.now flight.now place)) }
     ensures once { IfOk result (λ place. is_joined flight.now.legs from place ≡ false) }
     ensures onward { IfOk result (λ place. is_back flight.now from place ≡ false) }
-    ensures few { IfOk result (λ place. (adds_node flight.now place && is_full total flight.now) ≡ false) }
+    ensures few { IfOk result
+        (λ place. (adds_node flight.now place && is_full total flight.now) ≡ false) }
 {
     let place = own_in(4, places, flight, row)?;
     let refused = |cause| Err(FieldFault { field: 4, cause });
@@ -160,7 +166,8 @@ pub fn leg_of(
     row: &ByteRecord,
 ) -> Result<PlaceLeg, FieldFault>
     requires { length flight.now.legs < most_legs }
-    ensures found { Finds (λ leg. leg) result (leg_of places.now total flight.now (fields_of row.now)) }
+    ensures found { Finds (λ leg. leg) result
+        (leg_of places.now total flight.now (fields_of row.now)) }
     ensures valid { IfOk result (IsNewLeg places.now total flight.now) }
 {
     let from = start_in(places, flight, row)?;

@@ -1,31 +1,30 @@
 //! Reads the text of a scenario: the day, its places and their capacities, its flights with their
 //! legs and costs, and its connections.
 //!
-//!     // How many flights the day of a text has, or where the text has its first fault.
+//!     // How many flights the day of a text has, or why it isn't read.
 //!     fn flights_of(alloc: Global, text: &[u8]) -> Result<usize, Refusal> {
-//!         match read_scenario(alloc, text) {
-//!             Ok(scenario) => Ok(scenario.flights().len()),
-//!             Err(Refusal::Text(fault)) => Err(Refusal::Text(fault)),
-//!             Err(Refusal::OutOfMemory) => Err(Refusal::OutOfMemory),
-//!         }
+//!         let scenario = read_scenario(alloc, text)?;
+//!         Ok(scenario.flights().len())
 //!     }
 //!
 //! A text is records of comma-separated fields, one kind of record a line (`day`, `airport`,
 //! `sector`, `cap`, `flight`, `leg`, `connect`, `table`, `cost`, `note`). `scenario_of` in `specs/`
-//! says what a text means: a fold of one step a record over the records that `csv` gives, where each
-//! step checks field by field, so that what it answers is the scenario or the first fault, by record,
-//! then field, then cause. `read_scenario` is proved to answer exactly that (clauses `scenario` and
-//! `fault`). Want of memory is the third answer, of which no clause says when it comes.
+//! says what a text means: a fold of one step a record over the records that `csv` gives, where
+//! each step checks field by field, so that what it answers is the scenario or the first fault, by
+//! record, then field, then cause. `read_scenario` is proved to answer exactly that (clauses
+//! `scenario` and `fault`). Want of memory is the third answer, of which no clause says when it
+//! comes.
 //!
 //! A text that reads is the text of a valid scenario, by the definition alone
-//! (`texts_that_read_are_valid`), and what `read_scenario` answers is known to be valid without a second
-//! test: the draft keeps the rules at every record (`IsDraft`), and a network whose destination is
-//! reached and that has no dead end is a route.
+//! (`texts_that_read_are_valid`), and what `read_scenario` answers is known to be valid without a
+//! second test: the draft keeps the rules at every record (`IsDraft`), and a network whose
+//! destination is reached and that has no dead end is a route.
 //!
-//! Memory: the text, the longest record, the scenario, and as much again as the names and legs of its
-//! flights while they are read; nothing grows with the number of records that add nothing. Time: the
-//! length of the text, a look-up by hash for each name, for each leg the at most 64 legs and 32 nodes
-//! of its flight, for each change of capacities its periods, and for each connection those before it.
+//! Memory: the text, the longest record, the scenario, and as much again as the names and legs of
+//! its flights while they are read; nothing grows with the number of records that add nothing.
+//! Time: the length of the text, a look-up by hash for each name, for each leg the at most 64 legs
+//! and 32 nodes of its flight, for each change of capacities its periods, and for each connection
+//! those before it.
 #![tactic(auto)]
 
 ghost use Rattle.std.specs.Prelude.{◌≡◌, ◌≤◌, Ok, Err, IfOk, length};

@@ -26,7 +26,8 @@ impl NamedList<Place> {
     /// Changes a place's capacities. It takes no memory.
     pub fn change(&mut self, change: CapChange)
         requires here { change.place < length self.old }
-        requires within { (place : Place) → slice_get self.old change.place ≡ Some place → Reaches change place }
+        requires within { (place : Place) → slice_get self.old change.place ≡ Some place
+            → Reaches change place }
         ensures { self.new ≡ changed_at (with_change change) self.old change.place }
     {
         change_place(&mut self.items[change.place as usize], change);
@@ -75,7 +76,8 @@ pub fn airport_of(
     names: &NameIndex,
     row: &ByteRecord,
 ) -> Result<Place, RecordError>
-    ensures found { Gives (λ place. place) result (airport_of periods names.now (fields_of row.now)) }
+    ensures found { Gives (λ place. place) result
+        (airport_of periods names.now (fields_of row.now)) }
     ensures valid { IfOk result (IsPlace periods) }
     ensures fresh { IfOk result (λ place. position_of place.name names.now ≡ None) }
     ensures room { OnOk result (length names.now < most_places) }
@@ -100,7 +102,8 @@ pub fn sector_of(
     names: &NameIndex,
     row: &ByteRecord,
 ) -> Result<Place, RecordError>
-    ensures found { Gives (λ place. place) result (sector_of periods names.now (fields_of row.now)) }
+    ensures found { Gives (λ place. place) result
+        (sector_of periods names.now (fields_of row.now)) }
     ensures valid { IfOk result (IsPlace periods) }
     ensures fresh { IfOk result (λ place. position_of place.name names.now ≡ None) }
     ensures room { OnOk result (length names.now < most_places) }

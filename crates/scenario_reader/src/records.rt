@@ -35,9 +35,12 @@ fn flight_of(
     number: u32,
     row: &ByteRecord,
 ) -> Result<FlightDraft, RecordError>
-    ensures found { Gives (λ flight. flight) result (flight_of draft.now number (fields_of row.now)) }
-    ensures valid { IfOk result (IsFlightDraft draft.now.day.periods draft.now.places draft.now.tables) }
-    ensures fresh { IfOk result (λ flight. position_of flight.name (flight_names draft.now.flights) ≡ None) }
+    ensures found { Gives (λ flight. flight) result
+        (flight_of draft.now number (fields_of row.now)) }
+    ensures valid { IfOk result
+        (IsFlightDraft draft.now.day.periods draft.now.places draft.now.tables) }
+    ensures fresh { IfOk result
+        (λ flight. position_of flight.name (flight_names draft.now.flights) ≡ None) }
     ensures empty { IfOk result (λ flight. flight.reached ≡ []) }
     ensures room { OnOk result (length draft.now.flights < most_flights) }
     ensures few { OnOk result (node_total draft.now.flights + 2 ≤ most_nodes_in_all) }
@@ -63,9 +66,11 @@ fn flight_of(
 // The leg that a `leg` record tells, and the position of its flight.
 #[tactic(auto, unfolding(crate::specs::Legs::leg_in))]
 fn leg_in(draft: &Draft, row: &ByteRecord) -> Result<(u32, PlaceLeg), FieldFault>
-    ensures found { Finds (λ found. (found.0, found.1)) result (leg_in draft.now (fields_of row.now)) }
+    ensures found { Finds (λ found. (found.0, found.1)) result
+        (leg_in draft.now (fields_of row.now)) }
     ensures here { IfOk result (λ found. found.0 < length draft.now.flights) }
-    ensures valid { IfOk result (λ found. (flight : TheFlightDraft) → slice_get draft.now.flights found.0 ≡ Some flight
+    ensures valid { IfOk result (λ found. (flight : TheFlightDraft)
+        → slice_get draft.now.flights found.0 ≡ Some flight
         → IsNewLeg draft.now.places (node_total draft.now.flights) flight found.1) }
 {
     let (k, flight) = flight_in(draft.flights(), row)?;

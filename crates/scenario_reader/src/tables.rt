@@ -128,7 +128,8 @@ fn has_tables(cost: Cost) -> bool
 
 // The flight, with its position, which has no tables yet.
 fn untabled_at(flights: &[FlightDraft], k: u32) -> Result<(u32, &FlightDraft), FieldFault>
-    ensures found { Finds (λ found. (found.0, found.1.now)) result (untabled_at k (slice_get flights.now k)) }
+    ensures found { Finds (λ found. (found.0, found.1.now)) result
+        (untabled_at k (slice_get flights.now k)) }
     ensures here { IfOk result (λ found. slice_get flights.now found.0 ≡ Some found.1.now) }
 {
     match flights.get(k as usize) {
@@ -149,7 +150,8 @@ fn untabled_in<'a>(
     flights: &'a NamedList<FlightDraft>,
     row: &ByteRecord,
 ) -> Result<(u32, &'a FlightDraft), FieldFault>
-    ensures found { Finds (λ found. (found.0, found.1.now)) result (untabled_in flights.now (fields_of row.now)) }
+    ensures found { Finds (λ found. (found.0, found.1.now)) result
+        (untabled_in flights.now (fields_of row.now)) }
     ensures here { IfOk result (λ found. slice_get flights.now found.0 ≡ Some found.1.now) }
 {
     let k = known_in(2, flights.names(), row)?;
@@ -165,7 +167,8 @@ fn table_in(
     row: &ByteRecord,
 ) -> Result<u32, FieldFault>
     requires { 1 ≤ number }
-    ensures found { Finds (λ table. table) result (table_in number least tables.now (fields_of row.now)) }
+    ensures found { Finds (λ table. table) result
+        (table_in number least tables.now (fields_of row.now)) }
     ensures long { IfOk result (λ table. least ≤ value_count (slice_get tables.now table)) }
 {
     let table = known_in(number, tables.names(), row)?;
@@ -185,7 +188,8 @@ pub fn pricing_of(
     tables: &NamedList<CostTable>,
     row: &ByteRecord,
 ) -> Result<Pricing, FieldFault>
-    ensures found { Finds (λ pricing. pricing) result (pricing_of flights.now tables.now (fields_of row.now)) }
+    ensures found { Finds (λ pricing. pricing) result
+        (pricing_of flights.now tables.now (fields_of row.now)) }
     ensures valid { IfOk result (IsPricing flights.now tables.now) }
 {
     let (k, flight) = untabled_in(flights, row)?;

@@ -43,12 +43,12 @@ abbrev pub ArePlainLines : List Fields → Type 0
 ArePlainLines [] = Unit {0}
 ArePlainLines (line ∷ lines) = IsPlainLine line × ArePlainLines lines
 
--- ---- what `csv` reads
 
 plain_field : (field : List ℕ) → IsPlain field → field_text default_writer field ≡ field
 plain_field field plain = rw plain refl
 
-plain_more : (fields : Fields) → ArePlain fields → fields_text default_writer fields ≡ more_fields fields
+plain_more : (fields : Fields) → ArePlain fields
+    → fields_text default_writer fields ≡ more_fields fields
 unfolding fields_text
 plain_more [] plain = refl
 plain_more (field ∷ fields) plain = rw (plain_field field plain.0, plain_more fields plain.1) refl
@@ -57,15 +57,18 @@ plain_row : (line : Fields) → IsPlainLine line → row_text default_writer lin
 unfolding is_blank
 plain_row [] plain = absurd plain
 plain_row (field ∷ []) plain = absurd plain
-plain_row (field ∷ next ∷ fields) plain = rw (plain_field field plain.0, plain_more (next ∷ fields) plain.1) refl
+plain_row (field ∷ next ∷ fields) plain =
+    rw (plain_field field plain.0, plain_more (next ∷ fields) plain.1) refl
 
 -- the next record of lines is the first line
 first_line : (line : Fields) (tail : List ℕ) → IsPlainLine line
-    → next_record default_config st.StartRecord [] [] (line_of line ++ tail) ≡ Some (line, st.StartRecord, tail)
+    → next_record default_config st.StartRecord [] [] (line_of line ++ tail)
+    ≡ Some (line, st.StartRecord, tail)
 first_line [] tail plain = absurd plain
 first_line (field ∷ []) tail plain = absurd plain
 first_line (field ∷ next ∷ fields) tail plain =
-    subst (λ (text : List ℕ). next_record default_config st.StartRecord [] [] (text ++ tail) ≡ Some (field ∷ next ∷ fields, st.StartRecord, tail))
+    subst (λ (text : List ℕ). next_record default_config st.StartRecord [] [] (text ++ tail)
+    ≡ Some (field ∷ next ∷ fields, st.StartRecord, tail))
     (plain_row (field ∷ next ∷ fields) plain) (read-write (field ∷ next ∷ fields) tail)
 
 no_lines : (more : ℕ) → records_from default_config more st.StartRecord [] ≡ []
@@ -79,9 +82,12 @@ unfolding records_from
 all_lines [] more plain = no_lines (0 + more)
 all_lines (line ∷ lines) more plain =
     let most : length (line ∷ lines) + more ≡ suc (length lines + more) = omega arith in
-    let step : records_from default_config (suc (length lines + more)) st.StartRecord (line_of line ++ lines_of lines) ≡ line ∷ lines =
-    rw (first_line line (lines_of lines) plain.0) (ap (λ (rows : List Fields). line ∷ rows) (all_lines lines more plain.1)) in
-    ap (λ (n : ℕ). records_from default_config n st.StartRecord (line_of line ++ lines_of lines)) most ∙ step
+    let step : records_from default_config (suc (length lines + more)) st.StartRecord
+    (line_of line ++ lines_of lines) ≡ line ∷ lines =
+    rw (first_line line (lines_of lines) plain.0)
+    (ap (λ (rows : List Fields). line ∷ rows) (all_lines lines more plain.1)) in
+    ap (λ (n : ℕ). records_from default_config n st.StartRecord (line_of line ++ lines_of lines))
+    most ∙ step
 
 some_bytes : (line : Fields) → 1 ≤ length (line_of line)
 some_bytes [] = omega arith
@@ -89,7 +95,8 @@ some_bytes (field ∷ fields) = omega (arith, length-append (field ++ more_field
 
 few_lines : (lines : List Fields) → length lines ≤ length (lines_of lines)
 few_lines [] = omega arith
-few_lines (line ∷ lines) = omega (arith, some_bytes line, few_lines lines, length-append (line_of line) (lines_of lines))
+few_lines (line ∷ lines) =
+    omega (arith, some_bytes line, few_lines lines, length-append (line_of line) (lines_of lines))
 
 -- a text that doesn't begin with the first byte of the mark has no mark
 no_mark : (b : ℕ) (rest : List ℕ) → (b == 0xEF) ≡ false → strip_bom (b ∷ rest) ≡ b ∷ rest
@@ -99,24 +106,29 @@ no_mark b (c ∷ []) other = refl
 no_mark b (c ∷ d ∷ rest) other = rw other refl
 
 -- lines of plain fields are read as these fields
-pub rows_of_lines : (lines : List Fields) (b : ℕ) (rest : List ℕ) → ArePlainLines lines → lines_of lines ≡ b ∷ rest → (b == 0xEF) ≡ false
+pub rows_of_lines : (lines : List Fields) (b : ℕ) (rest : List ℕ) → ArePlainLines lines
+    → lines_of lines ≡ b ∷ rest → (b == 0xEF) ≡ false
     → rows_of (lines_of lines) ≡ lines
 rows_of_lines lines b rest plain begins other =
-    let start : strip_bom (lines_of lines) ≡ lines_of lines = ap strip_bom begins ∙ no_mark b rest other ∙ sym begins in
-    let room : length (lines_of lines) + 1 ≡ length lines + (length (lines_of lines) + 1 - length lines) = omega (arith, few_lines lines) in
+    let start : strip_bom (lines_of lines) ≡ lines_of lines =
+    ap strip_bom begins ∙ no_mark b rest other ∙ sym begins in
+    let room : length (lines_of lines) + 1 ≡ length lines
+    + (length (lines_of lines) + 1 - length lines) = omega (arith, few_lines lines) in
     ap (λ (text : List ℕ). records_from default_config (length text + 1) st.StartRecord text) start
     ∙ ap (λ (most : ℕ). records_from default_config most st.StartRecord (lines_of lines)) room
     ∙ all_lines lines (length (lines_of lines) + 1 - length lines) plain
 
--- ---- names and numbers are plain
 
 plain_byte : (b : ℕ) → b ≢ 44 → b ≢ 34 → b ≢ 13 → b ≢ 10 → needs_byte default_writer b ≡ false
-plain_byte b comma quote return feed = rw (ne_eqb b 44 comma, ne_eqb b 34 quote, ne_eqb b 13 return, ne_eqb b 10 feed) refl
+plain_byte b comma quote return feed =
+    rw (ne_eqb b 44 comma, ne_eqb b 34 quote, ne_eqb b 13 return, ne_eqb b 10 feed) refl
 
 plain_name_byte : (b : ℕ) → is_name_byte b ≡ true → needs_byte default_writer b ≡ false
 plain_name_byte b named =
-    plain_byte b (λ is. false≢true (subst (λ (c : ℕ). is_name_byte c ≡ true) is named)) (λ is. false≢true (subst (λ (c : ℕ). is_name_byte c ≡ true) is named))
-    (λ is. false≢true (subst (λ (c : ℕ). is_name_byte c ≡ true) is named)) (λ is. false≢true (subst (λ (c : ℕ). is_name_byte c ≡ true) is named))
+    plain_byte b (λ is. false≢true (subst (λ (c : ℕ). is_name_byte c ≡ true) is named))
+    (λ is. false≢true (subst (λ (c : ℕ). is_name_byte c ≡ true) is named))
+    (λ is. false≢true (subst (λ (c : ℕ). is_name_byte c ≡ true) is named))
+    (λ is. false≢true (subst (λ (c : ℕ). is_name_byte c ≡ true) is named))
 
 both_hold : (a b : Bool) → (a && b) ≡ true → (a ≡ true) × (b ≡ true)
 both_hold true b e = (refl, e)
@@ -130,16 +142,23 @@ plain_name (b ∷ bytes) named =
 
 glyph_plain : (d : ℕ) → d < 10 → needs_byte default_writer (digit_glyph false d) ≡ false
 glyph_plain d few =
-    rw (lt-ltb d 10 few) (plain_byte (48 + d) (λ is. absurd (omega (arith, is))) (λ is. absurd (omega (arith, is))) (λ is. absurd (omega (arith, is))) (λ is. absurd (omega (arith, is))))
+    rw (lt-ltb d 10 few) (plain_byte (48 + d) (λ is. absurd (omega (arith, is)))
+    (λ is. absurd (omega (arith, is))) (λ is. absurd (omega (arith, is)))
+    (λ is. absurd (omega (arith, is))))
 
-digits_plain : (most n : ℕ) (more : List ℕ) → IsPlain more → IsPlain (digits_onto most 10 false n more)
+digits_plain : (most n : ℕ) (more : List ℕ) → IsPlain more
+    → IsPlain (digits_onto most 10 false n more)
 digits_plain zero n more plain = plain
 digits_plain (suc most) n more plain =
-    let first : IsPlain (digit_glyph false (n % 10) ∷ more) = rw (glyph_plain (n % 10) (omega arith)) plain in
-    or_cases (n / 10 == 0) first (digits_plain most (n / 10) (digit_glyph false (n % 10) ∷ more) first)
+    let first : IsPlain (digit_glyph false (n % 10) ∷ more) =
+    rw (glyph_plain (n % 10) (omega arith)) plain in
+    or_cases (n / 10 == 0) first
+    (digits_plain most (n / 10) (digit_glyph false (n % 10) ∷ more) first)
   where
-    or_cases : (last : Bool) → IsPlain (digit_glyph false (n % 10) ∷ more) → IsPlain (digits_onto most 10 false (n / 10) (digit_glyph false (n % 10) ∷ more))
-        → IsPlain (if last then digit_glyph false (n % 10) ∷ more else digits_onto most 10 false (n / 10) (digit_glyph false (n % 10) ∷ more))
+    or_cases : (last : Bool) → IsPlain (digit_glyph false (n % 10) ∷ more)
+        → IsPlain (digits_onto most 10 false (n / 10) (digit_glyph false (n % 10) ∷ more))
+        → IsPlain (if last then digit_glyph false (n % 10)
+        ∷ more else digits_onto most 10 false (n / 10) (digit_glyph false (n % 10) ∷ more))
     or_cases true here rest = here
     or_cases false here rest = rest
 
@@ -159,4 +178,6 @@ three_hold false b c e = absurd (false≢true e)
 
 -- a name is plain
 pub plain_if_name : (bytes : List ℕ) → is_name bytes ≡ true → IsPlain bytes
-plain_if_name bytes named = plain_name bytes (three_hold (nat_le 1 (length bytes)) (nat_le (length bytes) 32) (list_all is_name_byte bytes) named)
+plain_if_name bytes named =
+    plain_name bytes (three_hold (nat_le 1 (length bytes)) (nat_le (length bytes) 32)
+    (list_all is_name_byte bytes) named)

@@ -25,7 +25,8 @@ after c = by (eqb c 13)
 
 leaves_field : (c : ℕ) → Leaves (in_field default_config c)
 leaves_field c =
-    chosen (eqb c 44) _ _ (λ e. cc) (chosen (ends_with default_config.terminator c) _ _ (λ e. after c) (λ e. cc))
+    chosen (eqb c 44) _ _ (λ e. cc)
+    (chosen (ends_with default_config.terminator c) _ _ (λ e. after c) (λ e. cc))
 
 leaves_start : (c : ℕ) → Leaves (start_field default_config c)
 leaves_start c = chosen (eqb c 34) _ _ (λ e. cc) (leaves_field c)
@@ -53,14 +54,16 @@ taken_eq : (bytes : List ℕ) (x y : Read) → x ≡ y → IsTaken bytes x → I
 taken_eq bytes x y e t = rw (← e) t
 
 taken_more : (c : ℕ) (rest : List ℕ) (read : Read) → IsTaken rest read → IsTaken (c ∷ rest) read
-taken_more c rest read t = record { fits = omega arith; shorter = λ h. omega arith; start = t.start }
+taken_more c rest read t =
+    record { fits = omega arith; shorter = λ h. omega arith; start = t.start }
 
 pub taken : (bytes : List ℕ) (s : State) (fields : Fields) (field : List ℕ) (read : Read)
     → next_record default_config s fields field bytes ≡ Some read → IsTaken bytes read
 unfolding next_record
 taken [] s fields field read e = at_end (ends_at_end s) e
   where
-    at_end : (b : Bool) → cond b (Some (fields ++ (field ∷ []), st.StartRecord, [])) None ≡ Some read → IsTaken [] read
+    at_end : (b : Bool) → cond b (Some (fields ++ (field ∷ []), st.StartRecord, [])) None
+        ≡ Some read → IsTaken [] read
     at_end true e =
         taken_eq [] (fields ++ (field ∷ []), st.StartRecord, []) read (same_Some _ _ e)
         (record { fits = omega arith; shorter = λ h. absurd (omega arith); start = refl })
@@ -70,13 +73,25 @@ taken (c ∷ rest) s fields field read e =
   where
     by : (b : Bool) → is_end (step default_config s c).1 ≡ b
         → cond (is_end (step default_config s c).1)
-        (Some (fields_after (step default_config s c).1 fields field, (step default_config s c).0, rest))
-        (next_record default_config (step default_config s c).0 (fields_after (step default_config s c).1 fields field) (field_after (step default_config s c).1 c field) rest)
+        (Some (
+          fields_after (step default_config s c).1 fields field,
+          (step default_config s c).0,
+          rest,
+        ))
+        (next_record default_config (step default_config s c).0
+        (fields_after (step default_config s c).1 fields field)
+        (field_after (step default_config s c).1 c field) rest)
         ≡ Some read
-        → (next_record default_config (step default_config s c).0 (fields_after (step default_config s c).1 fields field) (field_after (step default_config s c).1 c field) rest ≡ Some read → IsTaken rest read)
+        → (next_record default_config (step default_config s c).0
+        (fields_after (step default_config s c).1 fields field)
+        (field_after (step default_config s c).1 c field) rest ≡ Some read → IsTaken rest read)
         → IsTaken (c ∷ rest) read
     by true ends e more =
-        taken_eq (c ∷ rest) (fields_after (step default_config s c).1 fields field, (step default_config s c).0, rest) read (same_Some _ _ (rw ends at e))
+        taken_eq (c ∷ rest) (
+          fields_after (step default_config s c).1 fields field,
+          (step default_config s c).0,
+          rest,
+        ) read (same_Some _ _ (rw ends at e))
         (record { fits = omega arith; shorter = λ h. omega arith; start = leaves s c ends })
     by false ends e more = taken_more c rest read (more (rw ends at e))
 
@@ -91,16 +106,20 @@ took_byte [] s read start e = let none = none_left s start in absurd cc
 took_byte (c ∷ rest) s read start e = (taken (c ∷ rest) s [] [] read e).shorter (omega arith)
 
 -- the count by which the definition goes down makes no difference, where it is above the bytes
-enough : (n m : ℕ) (s : State) (bytes : List ℕ) → ends_at_end s ≡ false → length bytes < n → length bytes < m
+enough : (n m : ℕ) (s : State) (bytes : List ℕ) → ends_at_end s ≡ false → length bytes < n
+    → length bytes < m
     → records_from default_config n s bytes ≡ records_from default_config m s bytes
 unfolding records_from
 enough zero m s bytes start p q = absurd (omega arith)
 enough (suc n) zero s bytes start p q = absurd (omega arith)
-enough (suc n) (suc m) s bytes start p q = by (next_record default_config s [] [] bytes) refl (enough n m)
+enough (suc n) (suc m) s bytes start p q =
+    by (next_record default_config s [] [] bytes) refl (enough n m)
   where
     by : (o : Option Read) → next_record default_config s [] [] bytes ≡ o
-        → ((t : State) (rest : List ℕ) → ends_at_end t ≡ false → length rest < n → length rest < m → records_from default_config n t rest ≡ records_from default_config m t rest)
-        → records_next (records_from default_config n) o ≡ records_next (records_from default_config m) o
+        → ((t : State) (rest : List ℕ) → ends_at_end t ≡ false → length rest < n → length rest < m
+        → records_from default_config n t rest ≡ records_from default_config m t rest)
+        → records_next (records_from default_config n) o
+        ≡ records_next (records_from default_config m) o
     by None e more = refl
     by (Some read) e more =
         let byte = took_byte bytes s read start e in
@@ -117,22 +136,26 @@ first_row s bytes read start e =
     let one : length bytes + 1 ≡ suc (length bytes) = omega arith in
     rw (one, e)
     (ap (λ (rows : List Fields). read.0 ∷ rows)
-    (enough (length bytes) (length read.2 + 1) read.1 read.2 (taken bytes s [] [] read e).start byte (omega arith)))
+    (enough (length bytes) (length read.2 + 1) read.1 read.2 (taken bytes s [] [] read e).start byte
+    (omega arith)))
 
-pub no_row : (s : State) (bytes : List ℕ) → next_record default_config s [] [] bytes ≡ None → rows_from s (Some bytes) ≡ []
+pub no_row : (s : State) (bytes : List ℕ) → next_record default_config s [] [] bytes ≡ None
+    → rows_from s (Some bytes) ≡ []
 unfolding records_from
 no_row s bytes e =
     let one : length bytes + 1 ≡ suc (length bytes) = omega arith in
     rw (one, e) refl
 
 -- there are no more records than bytes
-few : (n : ℕ) (s : State) (bytes : List ℕ) → ends_at_end s ≡ false → length (records_from default_config n s bytes) ≤ length bytes
+few : (n : ℕ) (s : State) (bytes : List ℕ) → ends_at_end s ≡ false
+    → length (records_from default_config n s bytes) ≤ length bytes
 unfolding records_from
 few zero s bytes start = omega arith
 few (suc n) s bytes start = by (next_record default_config s [] [] bytes) refl (few n)
   where
     by : (o : Option Read) → next_record default_config s [] [] bytes ≡ o
-        → ((t : State) (rest : List ℕ) → ends_at_end t ≡ false → length (records_from default_config n t rest) ≤ length rest)
+        → ((t : State) (rest : List ℕ) → ends_at_end t ≡ false
+        → length (records_from default_config n t rest) ≤ length rest)
         → length (records_next (records_from default_config n) o) ≤ length bytes
     by None e more = omega arith
     by (Some read) e more =
@@ -140,7 +163,8 @@ few (suc n) s bytes start = by (next_record default_config s [] [] bytes) refl (
         let rest = more read.1 read.2 (taken bytes s [] [] read e).start in
         omega arith
 
-pub few_rows : (s : State) (bytes : List ℕ) → ends_at_end s ≡ false → length (rows_from s (Some bytes)) ≤ length bytes
+pub few_rows : (s : State) (bytes : List ℕ) → ends_at_end s ≡ false
+    → length (rows_from s (Some bytes)) ≤ length bytes
 few_rows s bytes start = few (length bytes + 1) s bytes start
 
 strip_fits : (bytes : List ℕ) → length (strip_bom bytes) ≤ length bytes

@@ -16,7 +16,8 @@ field_in fields number = present_at number (slice_get fields (number - 1))
 
 -- the record has no field past the last
 abbrev pub ends_after : Fields → ℕ → Result (Unit {0}) FieldFault
-ends_after fields last = if nat_lt last (length fields) then Err (fault_in (last + 1) ExtraField) else Ok tt
+ends_after fields last =
+    if nat_lt last (length fields) then Err (fault_in (last + 1) ExtraField) else Ok tt
 
 -- the field, which has to be a name
 unfoldable pub name_in : Fields → ℕ → Result (List ℕ) FieldFault

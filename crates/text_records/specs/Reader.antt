@@ -18,7 +18,8 @@ rows_left false reader = rows_from (reader_state reader) (bytes_left reader)
 
 -- whether the next read is of a record: there is no header row that would come first
 abbrev pub gives_rows : Reader (Bor (List ℕ)) → Bool
-gives_rows reader = took_first reader || (not (names_headers reader) && not (is_some (reader_headers reader)))
+gives_rows reader = took_first reader ||
+    (not (names_headers reader) && not (is_some (reader_headers reader)))
 
 -- The reader stands where a record may start, and reads records of any length with the defaults.
 pub record IsReady (reader : Reader (Bor (List ℕ))) : Type 0 where

@@ -7,7 +7,8 @@ use Rattle.csv.specs.declared.parser.State.{State}
 abbrev pub Fields : Type 0
 Fields = List (List ℕ)
 
--- the records of a text, as `csv` gives them with its defaults: no header row, commas and double quotes
+-- the records of a text, as `csv` gives them with its defaults: no header row, commas and double
+-- quotes
 abbrev pub rows_of : List ℕ → List Fields
 rows_of bytes = records default_config (strip_bom bytes)
 

@@ -48,7 +48,8 @@ impl<'a> Rows<'a> {
     /// and 8 bytes a field, in blocks that grow by doubling. Where there is none, nothing is left,
     /// and what `row` holds isn't said.
     pub fn next_row(&mut self, row: &mut ByteRecord) -> Result<bool, OutOfMemory>
-        ensures takes { IfOk result (λ found. TakesRow found self.old (fields_of row.new) self.new) }
+        ensures takes { IfOk result
+            (λ found. TakesRow found self.old (fields_of row.new) self.new) }
         ensures ends { result ≡ Ok false → self.new ≡ [] }
         ensures stops { OnErr result (self.new ≡ []) }
     {

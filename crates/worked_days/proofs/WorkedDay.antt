@@ -26,7 +26,6 @@ use Rattle.flow_types.specs.Words.{is_name}
 use Rattle.flow_types.proofs.PlaceFacts.{has_kind-within}
 use Rattle.worked_days.specs.Days.{all_day, back, beside, day_with, flight_with, legs_with, places_with, there, there_and_back, trip_at, two_flights}
 
--- ---- the days are scenarios
 
 -- two names that are one have one letter at each place; the letters below are `O`, `D`, `S`, `F`,
 -- `G`, `1` and `2`
@@ -50,21 +49,41 @@ pub record AreEnds (from to : ℕ) : Type 0 where
   pub destination : to < 2
   pub apart : from ≢ to
 
-module _ (leave arrive inside : ℕ) (few_leave : leave ≤ most_capacity) (few_arrive : arrive ≤ most_capacity) (few_inside : inside ≤ most_capacity) where
+module _ (leave arrive inside : ℕ) (few_leave : leave ≤ most_capacity)
+    (few_arrive : arrive ≤ most_capacity) (few_inside : inside ≤ most_capacity) where
   places_are : All (IsPlace 8) (places_with leave arrive inside)
   places_are =
       let nine : All (λ c. c ≤ most_capacity) (all_day 9) = all_day_within 9 (omega arith) in
       all_three (IsPlace 8) _ _ _
-      (record { name = refl; first_count = refl; second_count = refl; first = all_day_within leave few_leave; second = nine })
-      (record { name = refl; first_count = refl; second_count = refl; first = nine; second = all_day_within arrive few_arrive })
-      (record { name = refl; first_count = refl; second_count = refl; first = all_day_within inside few_inside; second = All-nil (λ c. c ≤ most_capacity) })
+      (record {
+        name = refl;
+        first_count = refl;
+        second_count = refl;
+        first = all_day_within leave few_leave;
+        second = nine;
+      })
+      (record {
+        name = refl;
+        first_count = refl;
+        second_count = refl;
+        first = nine;
+        second = all_day_within arrive few_arrive;
+      })
+      (record {
+        name = refl;
+        first_count = refl;
+        second_count = refl;
+        first = all_day_within inside few_inside;
+        second = All-nil (λ c. c ≤ most_capacity);
+      })
 
   airport_at : (k : ℕ) → k < 2 → IsTrue (is_airport (slice_get (places_with leave arrive inside) k))
   airport_at zero within = refl
   airport_at (suc zero) within = refl
   airport_at (suc (suc k)) within = absurd (omega (arith, within))
 
-  module _ (name : List ℕ) (named : is_name name ≡ true) (from to departs : ℕ) (ends : AreEnds from to) (early : departs < 6) where
+  module _ (name : List ℕ) (named : is_name name ≡ true) (from to departs : ℕ)
+      (ends : AreEnds from to) (early : departs < 6) where
     abbrev flight : Flight
     flight = flight_with name from to departs (Linear 1 2)
 
@@ -76,14 +95,26 @@ module _ (leave arrive inside : ℕ) (few_leave : leave ≤ most_capacity) (few_
       first = refl;
       last = refl;
       sectors = sectors;
-      different = pairs_three (λ a b. a ≢ b) from 2 to (λ is. omega (arith, is, ends.origin)) ends.apart (λ is. omega (arith, is, ends.destination));
-      each_leg = all_two (IsLeg 3) _ _ (record { upward = omega arith; within = omega arith; least = omega arith }) (record { upward = omega arith; within = omega arith; least = omega arith });
+      different = pairs_three (λ a b. a ≢ b) from 2 to
+          (λ is. omega (arith, is, ends.origin)) ends.apart
+          (λ is. omega (arith, is, ends.destination));
+      each_leg = all_two (IsLeg 3) _ _ (record {
+        upward = omega arith;
+        within = omega arith;
+        least = omega arith;
+      }) (record {
+        upward = omega arith;
+        within = omega arith;
+        least = omega arith;
+      });
       once = pairs_two IsOtherLeg _ _ (λ from. absurd (omega (arith, from)));
       order = refl;
       entered = entered;
       left = left;
     } where
-      sectors : (k : ℕ) → 0 < k → k + 1 < 3 → IsTrue (is_sector (slice_get (places_with leave arrive inside) (slice_index flight.nodes k)))
+      sectors : (k : ℕ) → 0 < k → k + 1 < 3
+          → IsTrue (is_sector (slice_get (places_with leave arrive inside)
+          (slice_index flight.nodes k)))
       sectors zero inner within = absurd (omega (arith, inner))
       sectors (suc zero) inner within = refl
       sectors (suc (suc k)) inner within = absurd (omega (arith, within))
@@ -114,7 +145,11 @@ module _ (leave arrive inside : ℕ) (few_leave : leave ≤ most_capacity) (few_
     }
 
   outward : AreEnds 0 1
-  outward = record { origin = omega arith; destination = omega arith; apart = λ is. omega (arith, is) }
+  outward = record {
+    origin = omega arith;
+    destination = omega arith;
+    apart = λ is. omega (arith, is);
+  }
 
   pub there_flies : IsFlight 8 (places_with leave arrive inside) [] there
   there_flies = flight_is (codes "F1") refl 0 1 0 outward (omega arith)
@@ -124,18 +159,31 @@ module _ (leave arrive inside : ℕ) (few_leave : leave ≤ most_capacity) (few_
 
   pub back_flies : IsFlight 8 (places_with leave arrive inside) [] back
   back_flies =
-      let inward : AreEnds 1 0 = record { origin = omega arith; destination = omega arith; apart = λ is. omega (arith, is) } in
+      let inward : AreEnds 1 0 =
+      record {
+        origin = omega arith;
+        destination = omega arith;
+        apart = λ is. omega (arith, is);
+      } in
       flight_is (codes "G1") refl 1 0 3 inward (omega arith)
 
   -- a day of the first flight and another one
-  pub day_is : (second : Flight) (connections : List Connection) → IsFlight 8 (places_with leave arrive inside) [] second → there.name ≢ second.name
-      → length second.nodes ≤ 3 → length connections ≤ 1 → All (IsConnection (there ∷ second ∷ [])) connections → AllPairs IsOtherConnection connections
+  pub day_is : (second : Flight) (connections : List Connection)
+      → IsFlight 8 (places_with leave arrive inside) [] second → there.name ≢ second.name
+      → length second.nodes ≤ 3 → length connections ≤ 1
+      → All (IsConnection (there ∷ second ∷ [])) connections
+      → AllPairs IsOtherConnection connections
       → IsScenario (day_with (places_with leave arrive inside) second connections)
   day_is second connections flies other short few each once = record {
     day = record {
       year_from = omega arith;
       year_to = omega arith;
-      date = record { month_from = omega arith; month_to = omega arith; day_from = omega arith; day_to = omega arith };
+      date = record {
+        month_from = omega arith;
+        month_to = omega arith;
+        day_from = omega arith;
+        day_to = omega arith;
+      };
       hour = omega arith;
       minute = omega arith;
       minutes_from = omega arith;
@@ -145,9 +193,13 @@ module _ (leave arrive inside : ℕ) (few_leave : leave ≤ most_capacity) (few_
     };
     places_few = omega arith;
     places = places_are;
-    place_names = pairs_three (λ (a b : Place). a.name ≢ b.name) _ _ _ (λ is. let letter : 79 ≡ 68 = by_letter 0 is in omega (arith, letter)) (λ is. let letter : 79 ≡ 83 = by_letter 0 is in omega (arith, letter)) (λ is. let letter : 68 ≡ 83 = by_letter 0 is in omega (arith, letter));
+    place_names = pairs_three (λ (a b : Place). a.name ≢ b.name) _ _ _ (λ is. let letter : 79 ≡ 68 =
+        by_letter 0 is in omega (arith, letter)) (λ is. let letter : 79 ≡ 83 = by_letter 0 is in
+        omega (arith, letter)) (λ is. let letter : 68 ≡ 83 = by_letter 0 is in
+        omega (arith, letter));
     flights_few = omega arith;
-    flights = all_two (IsFlight 8 (places_with leave arrive inside) []) there second there_flies flies;
+    flights = all_two (IsFlight 8 (places_with leave arrive inside) []) there second there_flies
+        flies;
     flight_names = pairs_two (λ (a b : Flight). a.name ≢ b.name) there second other;
     nodes_few = omega (arith, short);
     tables_few = omega arith;
@@ -160,34 +212,64 @@ module _ (leave arrive inside : ℕ) (few_leave : leave ≤ most_capacity) (few_
 
   pub two_flights-valid : IsScenario (two_flights leave arrive inside)
   two_flights-valid =
-      day_is beside [] beside_flies (λ is. let letter : 49 ≡ 50 = by_letter 1 is in omega (arith, letter)) (omega arith) (omega arith)
+      day_is beside [] beside_flies (λ is. let letter : 49 ≡ 50 = by_letter 1 is in
+      omega (arith, letter)) (omega arith) (omega arith)
       (All-nil (IsConnection (there ∷ beside ∷ []))) (no_pairs IsOtherConnection)
 
-pub there_and_back-valid : (leave turnaround : ℕ) → leave ≤ most_capacity → turnaround ≤ most_delay → IsScenario (there_and_back leave turnaround)
+pub there_and_back-valid : (leave turnaround : ℕ) → leave ≤ most_capacity → turnaround ≤ most_delay
+    → IsScenario (there_and_back leave turnaround)
 there_and_back-valid leave turnaround few short =
     let connection : Connection = record { first = 0; second = 1; turnaround = turnaround } in
-    day_is leave 9 9 few (omega arith) (omega arith) back (connection ∷ []) (back_flies leave 9 9 few (omega arith) (omega arith))
-    (λ is. let letter : 70 ≡ 71 = by_letter 0 is in omega (arith, letter)) (omega arith) (omega arith)
-    (all_one (IsConnection (there ∷ back ∷ [])) connection (record { first = omega arith; second = omega arith; together = refl; turnaround = short }))
+    day_is leave 9 9 few (omega arith) (omega arith) back (connection ∷ [])
+    (back_flies leave 9 9 few (omega arith) (omega arith))
+    (λ is. let letter : 70 ≡ 71 = by_letter 0 is in
+    omega (arith, letter)) (omega arith) (omega arith)
+    (all_one (IsConnection (there ∷ back ∷ [])) connection (record {
+      first = omega arith;
+      second = omega arith;
+      together = refl;
+      turnaround = short;
+    }))
     (λ i j d less within. absurd (omega (arith, less, within)))
 
 -- There is one way on from each node.
 pub one_way_on : IsChain (legs_with 2)
 one_way_on = pairs_two (λ (a b : Leg). a.from ≢ b.from) _ _ (λ is. omega (arith, is))
 
--- ---- trips
 
 -- Such a trip in the flight's windows, with two periods inside the sector, is one of the flight.
-pub trip_is : (name : List ℕ) (from to sd : ℕ) (cost : Cost) (departure arrival : ℕ) → sd ≤ departure → departure ≤ min (sd + 4) 7
-    → sd + 2 ≤ arrival → arrival ≤ min (sd + 2 + 5) 7 → departure + 2 ≤ arrival → IsTrip 8 (flight_with name from to sd cost) (trip_at departure arrival)
+pub trip_is : (name : List ℕ) (from to sd : ℕ) (cost : Cost) (departure arrival : ℕ)
+    → sd ≤ departure → departure ≤ min (sd + 4) 7
+    → sd + 2 ≤ arrival → arrival ≤ min (sd + 2 + 5) 7 → departure + 2 ≤ arrival
+    → IsTrip 8 (flight_with name from to sd cost) (trip_at departure arrival)
 trip_is name from to sd cost departure arrival early late after before long = (
   refl,
   record { early = early; late = late },
   (
-    (0, record { from = 0; to = 1; least = 0 }, omega arith, refl, record { from = refl; to = refl; least = omega arith }),
+    (
+      0,
+      record { from = 0; to = 1; least = 0 },
+      omega arith,
+      refl,
+      record {
+        from = refl;
+        to = refl;
+        least = omega arith;
+      },
+    ),
     record { early = omega arith; late = omega arith },
     (
-      (1, record { from = 1; to = 2; least = 2 }, omega arith, refl, record { from = refl; to = refl; least = omega arith }),
+      (
+        1,
+        record { from = 1; to = 2; least = 2 },
+        omega arith,
+        refl,
+        record {
+          from = refl;
+          to = refl;
+          least = omega arith;
+        },
+      ),
       record { early = after; late = before },
       refl,
     ),
@@ -195,16 +277,19 @@ trip_is name from to sd cost departure arrival early late after before long = (
 )
 
 pub there_is : IsTrip 8 there (trip_at 0 2)
-there_is = trip_is (codes "F1") 0 1 0 (Linear 1 2) 0 2 (omega arith) (omega arith) (omega arith) (omega arith) (omega arith)
+there_is = trip_is (codes "F1") 0 1 0 (Linear 1 2) 0 2 (omega arith) (omega arith) (omega arith)
+    (omega arith) (omega arith)
 
-pub beside_is : (departure arrival : ℕ) → departure ≤ 4 → arrival ≤ 7 → departure + 2 ≤ arrival → IsTrip 8 beside (trip_at departure arrival)
+pub beside_is : (departure arrival : ℕ) → departure ≤ 4 → arrival ≤ 7 → departure + 2 ≤ arrival
+    → IsTrip 8 beside (trip_at departure arrival)
 beside_is departure arrival late before long =
-    trip_is (codes "F2") 0 1 0 (Linear 1 2) departure arrival (omega arith) (omega (arith, late)) (omega (arith, long)) (omega (arith, before)) long
+    trip_is (codes "F2") 0 1 0 (Linear 1 2) departure arrival (omega arith) (omega (arith, late))
+    (omega (arith, long)) (omega (arith, before)) long
 
 pub back_is : IsTrip 8 back (trip_at 3 5)
-back_is = trip_is (codes "G1") 1 0 3 (Linear 1 2) 3 5 (omega arith) (omega arith) (omega arith) (omega arith) (omega arith)
+back_is = trip_is (codes "G1") 1 0 3 (Linear 1 2) 3 5 (omega arith) (omega arith) (omega arith)
+    (omega arith) (omega arith)
 
--- ---- counts within capacities, as computed
 
 -- the test holds of each number below n
 abbrev pub all_below : ℕ → (ℕ → Bool) → Bool
@@ -214,7 +299,8 @@ all_below (suc n) test = test 0 && all_below n (λ k. test (suc k))
 below : (n k : ℕ) (test : ℕ → Bool) → all_below n test ≡ true → k < n → test k ≡ true
 below zero k test all less = absurd (omega (arith, less))
 below (suc n) zero test all less = (and_parts (test 0) _ all).0
-below (suc n) (suc k) test all less = below n k (λ k. test (suc k)) (and_parts (test 0) _ all).1 (omega (arith, less))
+below (suc n) (suc k) test all less =
+    below n k (λ k. test (suc k)) (and_parts (test 0) _ all).1 (omega (arith, less))
 
 least_or_same : (a b : ℕ) → nat_le a b ≡ true → a ≤ b
 least_or_same a b test = grind (arith, nat_tests)
@@ -222,18 +308,25 @@ least_or_same a b test = grind (arith, nat_tests)
 module _ (parts : Parts) (plan : List (List Stop)) where
   -- the counts are within the capacities of this kind in each place and period
   abbrev pub fits : CapKind → (ℕ → ℕ → ℕ) → Bool
-  fits kind count = all_below (length parts.places) (λ k. all_below parts.day.periods (λ t. nat_le (count k t) (capacity_of parts.places kind k t)))
+  fits kind count = all_below (length parts.places)
+      (λ k. all_below parts.day.periods
+      (λ t. nat_le (count k t) (capacity_of parts.places kind k t)))
 
   fits_at : (kind : CapKind) (count : ℕ → ℕ → ℕ) → fits kind count ≡ true
-      → (k t : ℕ) → IsTrue (has_kind kind (slice_get parts.places k)) → t < parts.day.periods → count k t ≤ capacity_of parts.places kind k t
+      → (k t : ℕ) → IsTrue (has_kind kind (slice_get parts.places k)) → t < parts.day.periods
+      → count k t ≤ capacity_of parts.places kind k t
   fits_at kind count all k t has period =
       let test : ℕ → ℕ → Bool = λ k t. nat_le (count k t) (capacity_of parts.places kind k t) in
-      let place = below (length parts.places) k (λ k. all_below parts.day.periods (test k)) all (has_kind-within kind parts.places k has) in
-      least_or_same (count k t) (capacity_of parts.places kind k t) (below parts.day.periods t (test k) place period)
+      let place = below (length parts.places) k (λ k. all_below parts.day.periods (test k)) all
+      (has_kind-within kind parts.places k has) in
+      least_or_same (count k t) (capacity_of parts.places kind k t)
+      (below parts.day.periods t (test k) place period)
 
   -- a plan of trips with their turnarounds is feasible where its counts fit
-  pub feasible_is : AreTrips parts.day.periods parts.flights plan → All (KeepsTurn plan) parts.connections
-      → fits kind.Dep (departures_at parts.flights plan) ≡ true → fits kind.Arr (arrivals_at parts.flights plan) ≡ true
+  pub feasible_is : AreTrips parts.day.periods parts.flights plan
+      → All (KeepsTurn plan) parts.connections
+      → fits kind.Dep (departures_at parts.flights plan) ≡ true
+      → fits kind.Arr (arrivals_at parts.flights plan) ≡ true
       → fits kind.Sector (occupancy_at parts.flights plan) ≡ true → IsFeasible parts plan
   feasible_is trips turns departures arrivals sectors = record {
     trips = trips;

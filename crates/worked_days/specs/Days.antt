@@ -17,7 +17,8 @@ all_day n = n ∷ n ∷ n ∷ n ∷ n ∷ n ∷ n ∷ n ∷ []
 
 -- an airport with capacities to leave and to arrive at, and a sector with one to be inside
 abbrev pub airport_with : List ℕ → ℕ → ℕ → Place
-airport_with name leave arrive = record { name = name; kind = Airport; first = all_day leave; second = all_day arrive }
+airport_with name leave arrive =
+    record { name = name; kind = Airport; first = all_day leave; second = all_day arrive }
 
 abbrev pub sector_with : List ℕ → ℕ → Place
 sector_with name inside = record { name = name; kind = Sector; first = all_day inside; second = [] }
@@ -26,11 +27,16 @@ sector_with name inside = record { name = name; kind = Sector; first = all_day i
 -- sector
 abbrev pub places_with : ℕ → ℕ → ℕ → List Place
 places_with leave arrive inside =
-    airport_with (codes "ORIG") leave 9 ∷ airport_with (codes "DEST") 9 arrive ∷ sector_with (codes "S") inside ∷ []
+    airport_with (codes "ORIG") leave 9 ∷ airport_with (codes "DEST") 9 arrive
+    ∷ sector_with (codes "S") inside ∷ []
 
 -- the legs through the sector, which takes so long
 abbrev pub legs_with : ℕ → List Leg
-legs_with least = record { from = 0; to = 1; least = 0 } ∷ record { from = 1; to = 2; least = least } ∷ []
+legs_with least = record { from = 0; to = 1; least = 0 } ∷ record {
+  from = 1;
+  to = 2;
+  least = least;
+} ∷ []
 
 -- a flight that is scheduled to take two periods, the least that it can take
 abbrev pub flight_with : List ℕ → ℕ → ℕ → ℕ → Cost → Flight
@@ -77,7 +83,11 @@ two_flights leave arrive inside = day_with (places_with leave arrive inside) bes
 -- there and back, with a capacity to leave the first airport, and a turnaround
 abbrev pub there_and_back : ℕ → ℕ → Parts
 there_and_back leave turnaround =
-    day_with (places_with leave 9 9) back (record { first = 0; second = 1; turnaround = turnaround } ∷ [])
+    day_with (places_with leave 9 9) back (record {
+      first = 0;
+      second = 1;
+      turnaround = turnaround;
+    } ∷ [])
 
 abbrev pub stop_at : ℕ → ℕ → Stop
 stop_at node time = record { node = node; time = time }

@@ -70,7 +70,8 @@ fn flight(
     to: u32,
     departs: u8,
 ) -> Result<Flight, OutOfMemory>
-    ensures { IfOk result (λ flight. flight ≡ days.flight_with name.now from to departs (Linear 1 2)) }
+    ensures { IfOk result
+        (λ flight. flight ≡ days.flight_with name.now from to departs (Linear 1 2)) }
 {
     let legs = [
         Leg {

@@ -15,7 +15,8 @@ pub overflow_add-time : goal.overflow_add-time
 overflow_add-time c =
     let flight = c.args.flight.now in
     let end = ap length c.items-nodes.ensures in
-    let next = least_after-next flight.legs c.loop-node.node (length flight.nodes) c.loop-node.invariant.from (omega arith) in
+    let next = least_after-next flight.legs c.loop-node.node
+    (length flight.nodes) c.loop-node.invariant.from (omega arith) in
     let taken = rw c.items-legs.ensures at c.least_from.ensures in
     omega (arith, c.requires.has)
 
@@ -29,10 +30,18 @@ loop-node-preserved c =
     let from = c.loop-node.invariant.from in
     let scheduled : flight.sa ≤ earliest_arrival flight = omega arith in
     record {
-      so_far = rw (c.in_ok-push-2.ensures.items, c.arrive-time.ensures, c.least_from.ensures, c.items-legs.ensures, end)
-          (sym (stop_next flight c.loop-node.stops.items at n c.loop-node.time from within) ∙ c.loop-node.invariant.so_far);
+      so_far = rw (
+        c.in_ok-push-2.ensures.items,
+        c.arrive-time.ensures,
+        c.least_from.ensures,
+        c.items-legs.ensures,
+        end,
+      )
+          (sym (stop_next flight c.loop-node.stops.items at n c.loop-node.time from within)
+          ∙ c.loop-node.invariant.so_far);
       early = rw (c.arrive-time.ensures, c.least_from.ensures, c.items-legs.ensures, end)
-          (early_next flight at n c.loop-node.time (earliest_arrival flight) from within scheduled c.loop-node.invariant.early);
+          (early_next flight at n c.loop-node.time
+          (earliest_arrival flight) from within scheduled c.loop-node.invariant.early);
       from = omega arith;
     }
 
@@ -40,6 +49,8 @@ pub returns : goal.returns
 returns c =
     let flight = c.args.flight.now in
     let end = ap length c.items-nodes.ensures in
-    let none = stops_end flight c.loop-node.node (length flight.nodes) c.loop-node.time (omega arith) in
+    let none = stops_end flight c.loop-node.node (length flight.nodes) c.loop-node.time
+    (omega arith) in
     let stops = c.loop-node.stops.items in
-    c.from_vec.ensures ∙ (sym (append-nil stops) ∙ (ap (λ more. stops ++ more) (sym none) ∙ c.loop-node.invariant.so_far))
+    c.from_vec.ensures ∙ (sym (append-nil stops)
+    ∙ (ap (λ more. stops ++ more) (sym none) ∙ c.loop-node.invariant.so_far))

@@ -6,7 +6,10 @@ use Rattle.chain_plan.proofs.earliest.earliest_trip.Given as goal
 abbrev pub invariant-loop-node : goal.invariant-loop-node
 invariant-loop-node l =
     record {
-      so_far : l.stops.items ++ earliest_from l.flight (l.node - 1) l.time (length l.flight.nodes - l.node) ≡ earliest_trip l.flight;
-      early : l.time + least_after l.flight.legs (l.node - 1) (length l.flight.nodes - l.node) ≤ earliest_arrival l.flight;
+      so_far : l.stops.items
+          ++ earliest_from l.flight (l.node - 1) l.time (length l.flight.nodes - l.node)
+          ≡ earliest_trip l.flight;
+      early : l.time + least_after l.flight.legs (l.node - 1) (length l.flight.nodes - l.node)
+          ≤ earliest_arrival l.flight;
       from : 1 ≤ l.node;
     }

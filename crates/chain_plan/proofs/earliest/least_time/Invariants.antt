@@ -6,7 +6,8 @@ use Rattle.chain_plan.proofs.earliest.least_time.Given as goal
 abbrev pub invariant-loop-node : goal.invariant-loop-node
 invariant-loop-node l =
     record {
-      so_far : l.time + least_after l.legs (l.node - 1) (length l.flight.nodes - l.node) ≡ least_time l.flight;
+      so_far : l.time + least_after l.legs (l.node - 1) (length l.flight.nodes - l.node)
+          ≡ least_time l.flight;
       small : l.time ≤ 65536 * l.node;
       from : 1 ≤ l.node;
     }

@@ -20,13 +20,21 @@ returns-then-not-has_earliest-clause-sound c =
     let is = rw c.flights-flights.ensures at c.index-flights-at.is in
     let long = ap length c.flights-flights.ensures in
     let periods = ap (λ (day : Day). day.periods) c.day-periods.ensures in
-    λ plan feasible. none_feasible parts.places parts.tables parts.day.periods parts.flights plan c.args.s.now.valid.flights c.requires feasible.trips
-    (c.loop-at.at, flight, omega arith, sym is, λ has. false≢true (c.if-not-has_earliest.ensures.1 (rw periods has)))
+    λ plan feasible. none_feasible parts.places parts.tables parts.day.periods parts.flights plan
+    c.args.s.now.valid.flights c.requires feasible.trips (
+      c.loop-at.at,
+      flight,
+      omega arith,
+      sym is,
+      λ has. false≢true
+          (c.if-not-has_earliest.ensures.1 (rw periods has)),
+    )
 
 pub least_pair-least-requires-clause-flight : goal.least_pair-least-requires-clause-flight
 least_pair-least-requires-clause-flight c =
     let long = ap length c.flights-flights.ensures in
-    slice_get_read (parts_of c.args.s.now).flights _ c.loop-at.at c.index-flights-at.result refl (omega arith) (rw c.flights-flights.ensures at c.index-flights-at.is)
+    slice_get_read (parts_of c.args.s.now).flights _ c.loop-at.at c.index-flights-at.result refl
+    (omega arith) (rw c.flights-flights.ensures at c.index-flights-at.is)
 
 pub loop-at-preserved : goal.loop-at-preserved
 loop-at-preserved c =
@@ -42,10 +50,12 @@ loop-at-preserved c =
     let more = total-push (λ pair. pair) so_far.0 v in
     let few = c.args.s.now.valid.flights_few in
     record {
-      has = All-more (HasEarliest parts.day.periods) parts.flights at flight (omega arith) c.loop-at.invariant.has (subst (HasEarliest parts.day.periods) is has);
+      has = All-more (HasEarliest parts.day.periods) parts.flights at flight
+          (omega arith) c.loop-at.invariant.has (subst (HasEarliest parts.day.periods) is has);
       pairs = (
         so_far.0 ++ v ∷ [],
-        zip_more (IsLeastPair parts.day.periods parts.tables) parts.flights so_far.0 at flight v (omega arith) is so_far.1 c.least_pair-least.ensures.least,
+        zip_more (IsLeastPair parts.day.periods parts.tables) parts.flights so_far.0 at flight v
+            (omega arith) is so_far.1 c.least_pair-least.ensures.least,
         omega (arith, ints, more, so_far.2),
       );
       low = omega (arith, ints);
@@ -58,7 +68,9 @@ returns-clause-sound c =
     let so_far = c.loop-at.invariant.pairs in
     let long = ap length c.flights-flights.ensures in
     let all = take_all c.loop-at.at parts.flights (omega arith) in
-    let least = subst (λ (flights : List Flight). AllZip (IsLeastPair parts.day.periods parts.tables) flights so_far.0) all so_far.1 in
+    let least = subst (λ (flights : List Flight). AllZip
+    (IsLeastPair parts.day.periods parts.tables) flights so_far.0) all so_far.1 in
     λ plan feasible.
-    let below = pairs_below parts.places parts.tables parts.day.periods parts.flights plan so_far.0 c.args.s.now.valid.flights c.requires feasible.trips least in
+    let below = pairs_below parts.places parts.tables parts.day.periods parts.flights plan so_far.0
+    c.args.s.now.valid.flights c.requires feasible.trips least in
     omega (arith, ints, below, so_far.2)

@@ -9,7 +9,9 @@ loop-taken-preserved g c =
     let read = c.in_ok-count.ensures in
     record {
       within = search rules;
-      read = λ bytes is. front-put_mid bytes c.loop-taken.buffer _ c.read_at.new.into c.loop-taken.taken _ c.in_ok-count.count loop.within (loop.read bytes is) (read.part bytes (ap (λ held. bytes_told held c.args.name.now) loop.held ∙ is));
+      read = λ bytes is. front-put_mid bytes c.loop-taken.buffer _ c.read_at.new.into
+          c.loop-taken.taken _ c.in_ok-count.count loop.within (loop.read bytes is)
+          (read.part bytes (ap (λ held. bytes_told held c.args.name.now) loop.held ∙ is));
       faults = read.unfailed ∙ loop.faults;
       held = read.kept.held ∙ loop.held;
       stores = read.kept.store_faults ∙ loop.stores;

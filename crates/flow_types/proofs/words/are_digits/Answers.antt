@@ -7,5 +7,6 @@ use Rattle.flow_types.proofs.words.are_digits.Goals as goal
 
 pub returns : goal.returns
 returns c =
-    all_from_yields_List is_ascii_digit _ _ _ c.all.ensures.ran (YieldsList-from_slice c.args.bytes.now cc) (λ x b q k. search (rules, tests))
+    all_from_yields_List is_ascii_digit _ _ _ c.all.ensures.ran
+    (YieldsList-from_slice c.args.bytes.now cc) (λ x b q k. search (rules, tests))
     ∙ digits_are_all c.args.bytes.now

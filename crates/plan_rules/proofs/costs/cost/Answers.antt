@@ -36,8 +36,11 @@ loop-at-preserved c =
     let same = AreTrips-length parts.day.periods parts.flights c.args.plan.now c.requires in
     let long = ap length c.items-trips.ensures in
     let within : at < length parts.flights = omega arith in
-    let next = rw (← add-one at) at (plan_cost-next parts.tables parts.flights plan at trip within (omega arith)) in
-    let value = c.trip_cost-cost.ensures.value ∙ ap (trip_cost_at parts.tables (flight_at c.args.s.now at)) (c.items.ensures ∙ c.index-trips-at.is) in
+    let next = rw (← add-one at)
+    at (plan_cost-next parts.tables parts.flights plan at trip within (omega arith)) in
+    let value = c.trip_cost-cost.ensures.value
+    ∙ ap (trip_cost_at parts.tables (flight_at c.args.s.now at))
+    (c.items.ensures ∙ c.index-trips-at.is) in
     let few = c.args.s.now.valid.flights_few in
     record {
       so_far = omega (arith, ints, next, value);
@@ -50,6 +53,7 @@ returns c =
     let parts = parts_of c.args.s.now in
     let same = AreTrips-length parts.day.periods parts.flights c.args.plan.now c.requires in
     let long = ap length c.items-trips.ensures in
-    let end = plan_cost-end parts.tables parts.flights c.items-trips.result.now c.loop-at.at (omega arith) (omega arith) in
+    let end = plan_cost-end parts.tables parts.flights c.items-trips.result.now
+    c.loop-at.at (omega arith) (omega arith) in
     let whole = ap (plan_cost parts.tables parts.flights) c.items-trips.ensures in
     omega (arith, ints, end, whole, c.loop-at.invariant.so_far)

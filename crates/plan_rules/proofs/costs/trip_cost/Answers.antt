@@ -10,9 +10,12 @@ returns-clause-value c =
     let parts = parts_of c.args.s.now in
     let details = c.index-flights-flight.result in
     let here : slice_get parts.flights c.args.flight ≡ Some details =
-    slice_get_read parts.flights _ c.args.flight details refl c.requires (rw c.flights.ensures at c.index-flights-flight.is) in
+    slice_get_read parts.flights _ c.args.flight details refl c.requires
+    (rw c.flights.ensures at c.index-flights-flight.is) in
     let paid = rw c.saturating_sub.ensures at c.total-paid.ensures.value in
     let saved = rw c.saturating_sub-2.ensures at c.credit-saved.ensures.value in
-    let is = trip_cost_is parts.tables (flight_at c.args.s.now c.args.flight) details c.args.stops.now c.in-Some.departure c.in-Some-arrival_of.arrival here
+    let is = trip_cost_is parts.tables
+    (flight_at c.args.s.now c.args.flight) details c.args.stops.now c.in-Some.departure
+    c.in-Some-arrival_of.arrival here
     c.in-Some.ensures c.in-Some-arrival_of.ensures in
     omega (arith, ints, paid, saved, is)

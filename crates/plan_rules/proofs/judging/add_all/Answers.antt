@@ -13,7 +13,9 @@ pub loop-at-init : goal.loop-at-init
 loop-at-init c =
     let parts = parts_of c.args.s.now in
     subst (λ (trips : List (List Stop)). AreLoads parts trips c.args.loads.now)
-    (first_trips-zero parts.flights c.args.plan.now (AreTrips-length parts.day.periods parts.flights c.args.plan.now c.requires.trips)) c.requires.none
+    (first_trips-zero parts.flights c.args.plan.now
+    (AreTrips-length parts.day.periods parts.flights c.args.plan.now c.requires.trips))
+    c.requires.none
 
 pub overflow_cast-at : goal.overflow_cast-at
 overflow_cast-at c =
@@ -35,12 +37,16 @@ loop-at-preserved c =
     let trip = c.index-plan-at.result in
     let same = AreTrips-length parts.day.periods parts.flights plan c.requires.trips in
     let more : set (first_trips at plan) at c.items.result.now ≡ first_trips (at + 1) plan =
-    ap (set (first_trips at plan) at) (c.items.ensures ∙ c.index-plan-at.is) ∙ first_trips-more plan at trip (omega arith)
+    ap (set (first_trips at plan) at) (c.items.ensures ∙ c.index-plan-at.is)
+    ∙ first_trips-more plan at trip (omega arith)
     ∙ ap (λ n. first_trips n plan) (sym (add-one at)) in
     let its = λ (flight : Flight) (here : slice_get parts.flights at ≡ Some flight).
-    subst (IsTrip parts.day.periods flight) (sym (c.items.ensures ∙ c.index-plan-at.is)) (AreTrips-at parts.day.periods parts.flights plan at trip flight c.requires.trips here (omega arith)) in
+    subst (IsTrip parts.day.periods flight) (sym (c.items.ensures ∙ c.index-plan-at.is))
+    (AreTrips-at parts.day.periods parts.flights plan at trip flight c.requires.trips here
+    (omega arith)) in
     subst (λ (trips : List (List Stop)). AreLoads parts trips c.add.new.self) more
-    (c.add.ensures.trips (first_trips at plan) c.loop-at.invariant (first_trips-next plan at (omega arith)) its)
+    (c.add.ensures.trips (first_trips at plan) c.loop-at.invariant
+    (first_trips-next plan at (omega arith)) its)
 
 pub returns : goal.returns
 returns c =

@@ -7,7 +7,8 @@ use Rattle.plan_rules.proofs.judging.check.Goals as goal
 
 pub add_all-requires-clause-trips : goal.add_all-requires-clause-trips
 add_all-requires-clause-trips c =
-    rw c.items-2.ensures (plan_trips_from (parts_of c.args.s.now) c.args.plan.now (rw c.items.ensures at c.in_ok-check_trips.ensures))
+    rw c.items-2.ensures (plan_trips_from (parts_of c.args.s.now) c.args.plan.now
+    (rw c.items.ensures at c.in_ok-check_trips.ensures))
 
 pub returns-clause-broken : goal.returns-clause-broken
 returns-clause-broken c =

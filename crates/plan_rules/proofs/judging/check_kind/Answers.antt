@@ -12,5 +12,7 @@ returns-in_err-check_place c =
     let places = ap length c.places-place-end.ensures in
     let exit = err_from_is_err_and c.from_residual.result c.from_residual.ensures.1 in
     rw (exit.1, exit.2)
-    (first_below-found (length parts.places) c.loop-place.place (first_over_in parts c.args.kind (load_at c.args.loads.now c.args.kind)) c.in_err-check_place.field-0.0
+    (first_below-found (length parts.places) c.loop-place.place
+    (first_over_in parts c.args.kind (load_at c.args.loads.now c.args.kind))
+    c.in_err-check_place.field-0.0
     c.loop-place.invariant c.in_err-check_place.ensures (omega arith))

@@ -6,4 +6,5 @@ use Rattle.plan_rules.proofs.judging.check_kind.Given as goal
 
 -- no place so far is over its capacity
 abbrev pub invariant-loop-place : goal.invariant-loop-place
-invariant-loop-place l = first_below l.place (first_over_in (parts_of l.s) l.kind (load_at l.loads l.kind)) ≡ None
+invariant-loop-place l =
+    first_below l.place (first_over_in (parts_of l.s) l.kind (load_at l.loads l.kind)) ≡ None

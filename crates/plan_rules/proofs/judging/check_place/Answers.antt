@@ -19,6 +19,9 @@ returns-then-load-capacity c =
     let has : has_kind kind (slice_get parts.places place) ≡ true = cc in
     let periods = ap (λ (d : Day). d.periods) c.day-period-end.ensures in
     place_with parts kind load place has
-    ∙ first_below-found parts.day.periods period (broken_capacity parts kind load place) c.over.result c.loop-period.invariant
-    (capacity_over parts kind load place period c.load-load.result c.capacity-capacity.result c.over.result c.load-load.ensures c.capacity-capacity.ensures c.if-load-capacity.true c.over.ensures)
+    ∙ first_below-found parts.day.periods period
+    (broken_capacity parts kind load place) c.over.result c.loop-period.invariant
+    (capacity_over parts kind load place period c.load-load.result c.capacity-capacity.result
+    c.over.result c.load-load.ensures c.capacity-capacity.ensures c.if-load-capacity.true
+    c.over.ensures)
     (omega arith)

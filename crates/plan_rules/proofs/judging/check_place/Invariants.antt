@@ -7,4 +7,5 @@ use Rattle.plan_rules.proofs.judging.check_place.Given as goal
 -- no period so far is over the capacity
 abbrev pub invariant-loop-period : goal.invariant-loop-period
 invariant-loop-period l =
-    first_below l.period (broken_capacity (parts_of l.s) l.kind (load_at l.loads l.kind) l.place) ≡ None
+    first_below l.period (broken_capacity (parts_of l.s) l.kind (load_at l.loads l.kind) l.place)
+    ≡ None

@@ -10,12 +10,22 @@ pub returns-in_err-check_turn : goal.returns-in_err-check_turn
 returns-in_err-check_turn c =
     let exit = err_from_is_err_and c.from_residual.result c.from_residual.ensures.1 in
     rw (exit.1, exit.2)
-    (first_along-found (broken_turn (arrival_at c.args.loads.now) (departure_at c.args.loads.now)) c.args.connections.now c.loop-at.at
-    (get_or c.args.connections.now c.loop-at.at (record { first = 0; second = 0; turnaround = 0 })) c.in_err-check_turn.field-0.0
-    c.loop-at.invariant c.loop-at-test.true (get_or_default c.args.connections.now c.loop-at.at _ _ c.loop-at-test.true) c.in_err-check_turn.ensures)
+    (first_along-found (broken_turn (arrival_at c.args.loads.now) (departure_at c.args.loads.now))
+    c.args.connections.now c.loop-at.at
+    (get_or c.args.connections.now c.loop-at.at (record {
+      first = 0;
+      second = 0;
+      turnaround = 0;
+    })) c.in_err-check_turn.field-0.0
+    c.loop-at.invariant c.loop-at-test.true
+    (get_or_default c.args.connections.now c.loop-at.at _ _ c.loop-at-test.true)
+    c.in_err-check_turn.ensures)
 
 pub loop-at-preserved : goal.loop-at-preserved
 loop-at-preserved c =
-    first_along-next (broken_turn (arrival_at c.args.loads.now) (departure_at c.args.loads.now)) c.args.connections.now c.loop-at.at
+    first_along-next (broken_turn (arrival_at c.args.loads.now) (departure_at c.args.loads.now))
+    c.args.connections.now c.loop-at.at
     (get_or c.args.connections.now c.loop-at.at (record { first = 0; second = 0; turnaround = 0 }))
-    c.loop-at.invariant c.loop-at-test.true (get_or_default c.args.connections.now c.loop-at.at _ _ c.loop-at-test.true) c.in_ok-check_turn.ensures
+    c.loop-at.invariant c.loop-at-test.true
+    (get_or_default c.args.connections.now c.loop-at.at _ _ c.loop-at-test.true)
+    c.in_ok-check_turn.ensures

@@ -7,5 +7,7 @@ use Rattle.plan_rules.proofs.trip_counts.add_arrival.Goals as goal
 pub returns-in-Some : goal.returns-in-Some
 returns-in-Some c =
     let stop = c.in-Some.stop.now in
-    adds_same (λ k t. one_if ((c.place_at.result == k) && (stop.time == t))) (λ k t. arrives_at k t c.args.flight.now c.args.stops.now) c.args.grid.now c.add.new.self
-    (λ k t k_in t_in. arrives_last c.args.stops.now stop c.in-Some.ensures.value c.place_at.result c.args.flight.now c.place_at.ensures k t) c.add.ensures
+    adds_same (λ k t. one_if ((c.place_at.result == k) && (stop.time == t)))
+    (λ k t. arrives_at k t c.args.flight.now c.args.stops.now) c.args.grid.now c.add.new.self
+    (λ k t k_in t_in. arrives_last c.args.stops.now stop c.in-Some.ensures.value c.place_at.result
+    c.args.flight.now c.place_at.ensures k t) c.add.ensures

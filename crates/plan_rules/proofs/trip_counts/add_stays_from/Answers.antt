@@ -13,13 +13,21 @@ loop-next-preserved c =
     let next = get_or rest i (record { node = 0; time = 0 }) in
     λ new left. c.loop-next.invariant new
     (adds_same _ (λ k t. stays_from k t flight stop (drop i rest)) c.loop-next.grid new
-    (λ k t k_in t_in. stays_next flight stop rest i (record { node = 0; time = 0 }) c.place_at.result k t (omega arith) c.place_at.ensures)
-    (adds_then (λ k t. one_if ((c.place_at.result == k) && nat_le stop.time t && nat_lt t next.time)) (λ k t. stays_from k t flight next (drop (i + 1) rest))
+    (λ k t k_in t_in. stays_next flight stop rest i (record {
+      node = 0;
+      time = 0;
+    }) c.place_at.result k t (omega arith) c.place_at.ensures)
+    (adds_then (λ k t. one_if
+    ((c.place_at.result == k) && nat_le stop.time t && nat_lt t next.time))
+    (λ k t. stays_from k t flight next (drop (i + 1) rest))
     c.loop-next.grid c.add_stay.new.self new c.add_stay.ensures left))
 
 pub returns : goal.returns
 returns c =
     c.loop-next.invariant c.loop-next.grid
-    (adds_same (λ k t. 0) (λ k t. stays_from k t c.args.flight.now c.loop-next.stop (drop c.loop-next.next-index c.args.rest.now)) c.loop-next.grid c.loop-next.grid
-    (λ k t k_in t_in. stays_end c.args.flight.now c.loop-next.stop c.args.rest.now c.loop-next.next-index k t (omega arith))
+    (adds_same (λ k t. 0)
+    (λ k t. stays_from k t c.args.flight.now c.loop-next.stop
+    (drop c.loop-next.next-index c.args.rest.now)) c.loop-next.grid c.loop-next.grid
+    (λ k t k_in t_in. stays_end c.args.flight.now c.loop-next.stop c.args.rest.now
+    c.loop-next.next-index k t (omega arith))
     (adds_none c.loop-next.grid))

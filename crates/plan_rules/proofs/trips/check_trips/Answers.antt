@@ -14,8 +14,11 @@ returns-in_err-check_trip c =
     let at = c.loop-at.at in
     let flight = c.index-flights-at.result in
     let exit = err_from_is_err_and c.from_residual.result c.from_residual.ensures.1 in
-    let read = trip_read periods plan at flight c.index-plan-at.result c.items.result.now (omega arith) c.index-plan-at.is c.items.ensures in
-    let found = first_along-found (broken_trip_in periods plan) flights at flight c.in_err-check_trip.field-0.0 c.loop-at.invariant.none
+    let read = trip_read periods plan at flight c.index-plan-at.result c.items.result.now
+    (omega arith) c.index-plan-at.is c.items.ensures in
+    let found = first_along-found
+    (broken_trip_in periods plan) flights at flight c.in_err-check_trip.field-0.0
+    c.loop-at.invariant.none
     (omega arith) c.index-flights-at.is (read ∙ c.in_err-check_trip.ensures) in
     rw (exit.1, exit.2, ← c.flights-flights.ensures, ← c.day-periods.ensures)
     (none_or _ _ (number_to (length plan) (length flights) c.if-plan-flights.false) ∙ found)
@@ -27,8 +30,11 @@ loop-at-preserved c =
     let plan = c.args.plan.now in
     let at = c.loop-at.at in
     let flight = c.index-flights-at.result in
-    let read = trip_read periods plan at flight c.index-plan-at.result c.items.result.now (omega arith) c.index-plan-at.is c.items.ensures in
+    let read = trip_read periods plan at flight c.index-plan-at.result c.items.result.now
+    (omega arith) c.index-plan-at.is c.items.ensures in
     record {
       same_length = c.loop-at.invariant.same_length;
-      none = first_along-next (broken_trip_in periods plan) flights at flight c.loop-at.invariant.none (omega arith) c.index-flights-at.is (read ∙ c.in_ok-check_trip.ensures);
+      none = first_along-next
+          (broken_trip_in periods plan) flights at flight c.loop-at.invariant.none
+          (omega arith) c.index-flights-at.is (read ∙ c.in_ok-check_trip.ensures);
     }

@@ -6,4 +6,5 @@ use Rattle.plan_text.proofs.names.names_of_places.Goals as goal
 pub add-requires-clause-fresh : goal.add-requires-clause-fresh
 add-requires-clause-fresh c =
     rw (c.items.ensures, c.loop-place.invariant)
-    (fresh (λ (place : Place). place.name) c.args.places.now c.loop-place.place-index c.place-item.result c.requires.different (omega arith) c.place-item.is)
+    (fresh (λ (place : Place). place.name) c.args.places.now c.loop-place.place-index
+    c.place-item.result c.requires.different (omega arith) c.place-item.is)

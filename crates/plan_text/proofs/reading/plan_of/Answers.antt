@@ -8,7 +8,8 @@ use Rattle.plan_text.proofs.reading.plan_of.Goals as goal
 pub returns-in_err-records_step : goal.returns-in_err-records_step
 returns-in_err-records_step c =
     let none : c.in_ok-trips.trips ≡ none_read (parts_of c.args.s.now).flights = search rules in
-    let exit = err_from_is_err_and c.from_residual-in_err-records_step.result c.from_residual-in_err-records_step.ensures.1 in
+    let exit = err_from_is_err_and c.from_residual-in_err-records_step.result
+    c.from_residual-in_err-records_step.ensures.1 in
     rw (exit.1, exit.2, ← c.of_text-rows.ensures.rows)
     (plan_refused _ _ _ (rw (← none, ← c.in_ok-scenario.ensures) c.in_err-records_step.ensures))
 

@@ -7,7 +7,8 @@ use Rattle.scenario_reader.proofs.reading.scenario_of.Goals as goal
 
 pub returns-then-not-branch : goal.returns-then-not-branch
 returns-then-not-branch c =
-    no_first _ (sym c.of_text-rows.ensures.rows ∙ rw c.if-not-branch.true at c.in_ok-next_row.ensures.takes)
+    no_first _ (sym c.of_text-rows.ensures.rows
+    ∙ rw c.if-not-branch.true at c.in_ok-next_row.ensures.takes)
 
 pub returns-in-Err : goal.returns-in-Err
 returns-in-Err c =
@@ -19,7 +20,8 @@ pub returns-in_err-records_step : goal.returns-in_err-records_step
 returns-in_err-records_step c =
     let here : rows_of c.args.text.now ≡ fields_of c.next_row.new.row ∷ c.next_row.new.self =
     sym c.of_text-rows.ensures.rows ∙ rw c.if-not-branch.false at c.in_ok-next_row.ensures.takes in
-    let exit = err_from_is_err_and c.from_residual-in_err-records_step.result c.from_residual-in_err-records_step.ensures.1 in
+    let exit = err_from_is_err_and c.from_residual-in_err-records_step.result
+    c.from_residual-in_err-records_step.ensures.1 in
     rw (exit.1, exit.2) (rest_refused _ _ _ _ _ here c.in-Ok.ensures c.in_err-records_step.ensures)
 
 pub returns : goal.returns

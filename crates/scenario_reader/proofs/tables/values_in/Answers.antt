@@ -7,9 +7,11 @@ use Rattle.scenario_reader.proofs.tables.values_in.Goals as goal
 
 pub returns-in_err-value_in-clause-found : goal.returns-in_err-value_in-clause-found
 returns-in_err-value_in-clause-found c =
-    let exit = err_from_is_err_and c.from_residual-in_err-value_in.result c.from_residual-in_err-value_in.ensures.1 in
+    let exit = err_from_is_err_and c.from_residual-in_err-value_in.result
+    c.from_residual-in_err-value_in.ensures.1 in
     let here = rest_at _ c.loop-at.at _ c.in_ok-field_in.ensures in
-    rw (exit.1, exit.2) (refused_at _ _ c.loop-at.at _ _ _ here c.in_err-value_in.ensures.found c.loop-at.invariant.0)
+    rw (exit.1, exit.2) (refused_at _ _ c.loop-at.at _ _ _ here c.in_err-value_in.ensures.found
+    c.loop-at.invariant.0)
 
 pub loop-at-preserved : goal.loop-at-preserved
 loop-at-preserved c =
@@ -27,4 +29,6 @@ loop-at-preserved c =
 
 pub returns-clause-found : goal.returns-clause-found
 returns-clause-found c =
-    all_done _ _ c.loop-at.at _ (past_end _ _ (rw (c.min-at-end.ensures, c.len.ensures) at c.loop-at-test.false) c.loop-at.invariant.3) c.loop-at.invariant.0
+    all_done _ _ c.loop-at.at _
+    (past_end _ _ (rw (c.min-at-end.ensures, c.len.ensures) at c.loop-at-test.false)
+    c.loop-at.invariant.3) c.loop-at.invariant.0

@@ -8,5 +8,6 @@ use Rattle.scenario_reader.proofs.tables.values_in.Given as goal
 -- what is left decides
 abbrev pub invariant-loop-at : goal.invariant-loop-at
 invariant-loop-at l =
-    (with_values l.values (values_from (l.at + 1) (drop l.at (fields_of l.row))) ≡ values_from 3 (drop 2 (fields_of l.row)))
+    (with_values l.values (values_from (l.at + 1) (drop l.at (fields_of l.row)))
+    ≡ values_from 3 (drop 2 (fields_of l.row)))
     × (All IsValue l.values) × (length l.values + 2 ≡ l.at) × (l.at ≤ 514)

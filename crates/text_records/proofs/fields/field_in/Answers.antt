@@ -5,7 +5,8 @@ use Rattle.text_records.proofs.fields.field_in.Goals as goal
 
 pub returns-in-Some : goal.returns-in-Some
 returns-in-Some c =
-    let found : slice_get (fields_of c.args.row.now) (c.args.number - 1) ≡ Some c.in-Some.bytes.now =
+    let found : slice_get (fields_of c.args.row.now) (c.args.number - 1)
+    ≡ Some c.in-Some.bytes.now =
     sym (c.in-Some.ensures.value ∙ field_at-slice_get _ _) in
     rw found
 

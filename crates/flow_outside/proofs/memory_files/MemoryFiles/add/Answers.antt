@@ -11,5 +11,13 @@ returns-clause-ok c =
     let held = ap held_by c.in_ok-insert.ensures.entries
     ∙ held_by-insert_entry files.files.entries c.in_ok-name.name c.in_ok-bytes.bytes
     ∙ ap₂ (insert (held_by files.files.entries)) c.in_ok-name.ensures.ok (search rules) in
-    ap (λ (h : Held). record { held = h; calls = files.schedule; faults = files.faults; store_faults = files.store_faults }) held
-    ∙ ap (λ (v : FilesView). record v { held = insert v.held c.args.name.now c.args.bytes.now }) c.self.view_is
+    ap (λ (h : Held). record {
+      held = h;
+      calls = files.schedule;
+      faults = files.faults;
+      store_faults = files.store_faults;
+    }) held
+    ∙ ap (λ (v : FilesView). record v {
+      held =
+          insert v.held c.args.name.now c.args.bytes.now;
+    }) c.self.view_is

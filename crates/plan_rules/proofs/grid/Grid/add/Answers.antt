@@ -6,11 +6,14 @@ use Rattle.plan_rules.proofs.grid.Grid.add.Goals as goal
 pub returns-then-period-periods : goal.returns-then-period-periods
 returns-then-period-periods c =
     let s = c.self.inside in
-    let inside = mul-add-lt c.args.place s.periods c.args.period s.places (omega arith) (omega arith) in
+    let inside = mul-add-lt c.args.place s.periods c.args.period s.places (omega arith)
+    (omega arith) in
     rw (← c.self.view_is) (record {
       places = refl;
       periods = refl;
       each = λ k t k_in t_in fits.
           rw (c.saturating_add.ensures, c.from-then-period-periods.ensures, c.from.ensures)
-          (one_more s.counts.items s.periods c.args.place c.args.period k t c.index.result.now (omega arith) t_in (omega (arith, c.self.invariant, s.counts.ok.0)) (rw (c.from-then-period-periods.ensures, c.from.ensures) at c.index.ensures) fits);
+          (one_more s.counts.items s.periods c.args.place c.args.period k t c.index.result.now
+          (omega arith) t_in (omega (arith, c.self.invariant, s.counts.ok.0))
+          (rw (c.from-then-period-periods.ensures, c.from.ensures) at c.index.ensures) fits);
     })

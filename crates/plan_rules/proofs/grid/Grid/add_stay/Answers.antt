@@ -6,7 +6,10 @@ use Rattle.plan_rules.proofs.grid.Grid.add_stay.Goals as goal
 
 pub loop-period-init : goal.loop-period-init
 loop-period-init c = record {
-  so_far = adds_same (λ k t. 0) (λ k t. one_if ((c.args.place == k) && nat_le c.args.from t && nat_lt t c.args.from)) c.args.self.now c.args.self.now (λ k t k_in t_in. stay_none c.args.place c.args.from k t) (adds_none c.args.self.now);
+  so_far = adds_same (λ k t. 0)
+      (λ k t. one_if ((c.args.place == k) && nat_le c.args.from t && nat_lt t c.args.from))
+      c.args.self.now c.args.self.now (λ k t k_in t_in. stay_none c.args.place c.args.from k t)
+      (adds_none c.args.self.now);
   upto = omega arith;
 }
 
@@ -14,9 +17,12 @@ pub loop-period-preserved : goal.loop-period-preserved
 loop-period-preserved c =
     let a = c.args in let now = c.loop-period.period in
     record {
-      so_far = adds_same _ (λ k t. one_if ((a.place == k) && nat_le a.from t && nat_lt t (now + 1))) a.self.now c.add.new.self
+      so_far = adds_same _ (λ k t. one_if ((a.place == k) && nat_le a.from t && nat_lt t (now + 1)))
+          a.self.now c.add.new.self
           (λ k t k_in t_in. stay_more a.place a.from k t now c.loop-period.auto.period)
-          (adds_then (λ k t. one_if ((a.place == k) && nat_le a.from t && nat_lt t now)) (λ k t. one_if ((a.place == k) && (now == t))) a.self.now c.loop-period.self c.add.new.self c.loop-period.invariant.so_far c.add.ensures);
+          (adds_then (λ k t. one_if ((a.place == k) && nat_le a.from t && nat_lt t now))
+          (λ k t. one_if ((a.place == k) && (now == t))) a.self.now c.loop-period.self
+          c.add.new.self c.loop-period.invariant.so_far c.add.ensures);
       upto = omega arith;
     }
 
@@ -24,6 +30,9 @@ pub returns : goal.returns
 returns c =
     let a = c.args in let now = c.loop-period.period in
     let periods = ap (λ (cells : Cells). cells.periods) c.self.view_is in
-    adds_same (λ k t. one_if ((a.place == k) && nat_le a.from t && nat_lt t now)) (λ k t. one_if ((a.place == k) && nat_le a.from t && nat_lt t a.to)) a.self.now c.loop-period.self
-    (λ k t k_in t_in. stay_all a.place a.from k t now a.to a.self.now.periods t_in (omega (arith, c.min-period-end.ensures)) (omega (arith, c.min-period-end.ensures)))
+    adds_same (λ k t. one_if ((a.place == k) && nat_le a.from t && nat_lt t now))
+    (λ k t. one_if ((a.place == k) && nat_le a.from t && nat_lt t a.to)) a.self.now
+    c.loop-period.self
+    (λ k t k_in t_in. stay_all a.place a.from k t now a.to a.self.now.periods t_in
+    (omega (arith, c.min-period-end.ensures)) (omega (arith, c.min-period-end.ensures)))
     c.loop-period.invariant.so_far

@@ -6,6 +6,7 @@ use Rattle.plan_rules.proofs.grid.Grid.add_stay.Given as goal
 abbrev pub invariant-loop-period : goal.invariant-loop-period
 invariant-loop-period l =
     record {
-      so_far : Adds (λ k t. one_if ((l.place == k) && nat_le l.from t && nat_lt t l.period)) l.fn.self l.self;
+      so_far : Adds (λ k t. one_if ((l.place == k) && nat_le l.from t && nat_lt t l.period))
+          l.fn.self l.self;
       upto : l.period ≤ max l.from l.period-end;
     }

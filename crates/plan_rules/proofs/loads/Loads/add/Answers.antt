@@ -9,7 +9,10 @@ returns-clause-trips c =
     let parts = parts_of c.args.s.now in
     let flight = c.index-flights-flight.result in
     let here : slice_get parts.flights c.args.flight ≡ Some flight =
-    slice_get_read parts.flights _ c.args.flight flight refl c.requires.flight (rw c.flights.ensures at c.index-flights-flight.is) in
+    slice_get_read parts.flights _ c.args.flight flight refl c.requires.flight
+    (rw c.flights.ensures at c.index-flights-flight.is) in
     λ trips are absent trip.
-    AreLoads-add parts c.args.s.now.valid.flights_few trips are.each c.args.flight flight c.args.stops.now here absent
-    (trip_there parts.day.periods flight c.args.stops.now (trip flight here)) c.args.self.now c.add_trip.new.self are c.add_trip.ensures c.requires.flight
+    AreLoads-add parts c.args.s.now.valid.flights_few trips are.each c.args.flight flight
+    c.args.stops.now here absent
+    (trip_there parts.day.periods flight c.args.stops.now (trip flight here)) c.args.self.now
+    c.add_trip.new.self are c.add_trip.ensures c.requires.flight

@@ -13,9 +13,18 @@ returns c =
     let long = length-replicate (length c.flights-flights.result.now) none ∙ flights in
     AreLoads-none _ _
     (record {
-      departures = record { wide = c.in_ok-new.ensures.size.0 ∙ places; long = c.in_ok-new.ensures.size.1 ∙ periods };
-      arrivals = record { wide = c.in_ok-new-2.ensures.size.0 ∙ places; long = c.in_ok-new-2.ensures.size.1 ∙ periods };
-      inside = record { wide = c.in_ok-new-3.ensures.size.0 ∙ places; long = c.in_ok-new-3.ensures.size.1 ∙ periods };
+      departures = record {
+        wide = c.in_ok-new.ensures.size.0 ∙ places;
+        long = c.in_ok-new.ensures.size.1 ∙ periods;
+      };
+      arrivals = record {
+        wide = c.in_ok-new-2.ensures.size.0 ∙ places;
+        long = c.in_ok-new-2.ensures.size.1 ∙ periods;
+      };
+      inside = record {
+        wide = c.in_ok-new-3.ensures.size.0 ∙ places;
+        long = c.in_ok-new-3.ensures.size.1 ∙ periods;
+      };
       leaves = ap length c.in_ok-no_times.ensures ∙ long;
       arrives = ap length c.in_ok-no_times-2.ensures ∙ long;
     })

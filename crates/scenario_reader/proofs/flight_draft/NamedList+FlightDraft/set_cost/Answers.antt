@@ -10,4 +10,5 @@ invariant_of-self c = c.self.invariant ∙ sym (names-set _ _ _ _ c.index_mut.en
 pub returns : goal.returns
 returns c =
     rw (← c.self.view_is)
-    (set-changed (with_cost c.args.cost) _ _ c.index_mut.result.now _ (rw (← c.self.view_is) at c.requires) c.index_mut.ensures.value refl)
+    (set-changed (with_cost c.args.cost) _ _ c.index_mut.result.now _
+    (rw (← c.self.view_is) at c.requires) c.index_mut.ensures.value refl)
