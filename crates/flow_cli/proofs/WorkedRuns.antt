@@ -214,7 +214,7 @@ module _ (text plan : List ℕ) (few : length text ≤ most_text_bytes)
     unfailed = refl;
   })
 
--- Where the name isn't there, and where the words are no command's.
+-- Where the name isn't there, and where the words make no command.
 abbrev no_files : Held
 no_files = from_entries []
 

@@ -11,7 +11,7 @@ use Rattle.flow_cli.specs.Planning.{IsOfPlan}
 use Rattle.flow_cli.specs.Reading.{IsQuiet}
 use Rattle.flow_cli.specs.Words.{Asked, Judged, Planned, asked, usage_text}
 
--- the answer to words that are no command's
+-- the answer to words that make no command
 pub record IsUsage (answer : Printed) : Type 0 where
   pub ends : answer.status ≡ Usage
   pub text : answer.text ≡ usage_text

@@ -78,7 +78,7 @@ found_front test none [] x k h = absurd (false≢true (sym none ∙ h))
 found_front test none (first ∷ xs) x zero h = h
 found_front test none (first ∷ xs) x (suc k) h = found_front test none xs x k h
 
--- the same of two that are found in two lists
+-- two that are found in two lists are found in the longer ones
 both_front : (xs ys : List ℕ) (x y i j : ℕ) → is_same_place (slice_get xs i) (slice_get ys j) ≡ true
     → is_same_place (slice_get (xs ++ x ∷ []) i) (slice_get (ys ++ y ∷ []) j) ≡ true
 both_front xs ys x y i j h =
