@@ -27,7 +27,6 @@ use Rattle.flow_cli.specs.Lines.{line_text}
 use Rattle.flow_cli.specs.Status.{status_of}
 use Rattle.flow_cli.specs.Texts.{IsShort, IsShortBound, bound_word, claim_text, cost_word, plan_text, report_text, status_word, trips_text}
 
-
 -- a record of two fields
 abbrev pair : List ℕ → List ℕ → Fields
 pair label word = label ∷ word ∷ []
@@ -40,7 +39,6 @@ claim_rows cost bound nodes rows =
 
 abbrev cost_of : Parts → Option (List (List Stop)) → Option ℤ
 cost_of parts plan = option_map (plan_cost parts.tables parts.flights) plan
-
 
 plain_status : (s : Status) → IsPlain (status_word s)
 plain_status status.Done = refl
@@ -73,7 +71,6 @@ plain_claim cost bound nodes rows plain = (
     ((refl, (plain_bound bound, tt)), ((refl, (plain_decimal nodes, tt)), plain)),
   ),
 )
-
 
 label_line : (label word : List ℕ)
     → (label ++ (44 ∷ word)) ++ codes "\n" ≡ line_of (pair label word)
@@ -143,7 +140,6 @@ rows_of_report parts plan bound nodes valid feasible =
     ∙ rows_of_lines (claim_rows cost bound nodes rows) 115 _
     (plain_claim cost bound nodes rows (plain_plan parts plan valid feasible)) refl refl
 
-
 pub plan_of_report : (parts : Parts) (plan : List (List Stop)) (bound : Bound) (nodes : ℕ)
     → IsScenario parts → IsFeasible parts plan
     → plan_of parts (report_text parts (Some plan) bound nodes) ≡ Ok plan
@@ -165,7 +161,6 @@ plan_of_report parts plan bound nodes valid feasible =
     ap (plan_from parts) (rows_of_report parts (Some plan) bound nodes valid feasible)
     ∙ plan_is parts (claim_rows cost bound nodes rows) (map Some plan) told
     ∙ ap (λ (trips : List (List Stop)). Ok trips) (trips_of_all plan)
-
 
 same_number : (m n : ℕ) → m < 10 ^ 64 → n < 10 ^ 64 → decimal m ≡ decimal n → m ≡ n
 same_number m n few few_too same =

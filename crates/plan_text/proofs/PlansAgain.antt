@@ -29,7 +29,6 @@ seam front x rest =
     (omega (arith, length-append front (x ∷ rest)))
     ∙ ap Some (get_or-append_seam front x rest x)
 
-
 -- the records of the trips
 abbrev pub trip_rows : List Place → List Flight → List (List Stop) → List Fields
 trip_rows places flights [] = []
@@ -100,7 +99,6 @@ module _ (parts : Parts) (valid : IsScenario parts) where
 pub trips_of_all : (plan : List (List Stop)) → trips_of (map Some plan) ≡ plan
 trips_of_all [] = refl
 trips_of_all (trip ∷ plan) = ap (λ (trips : List (List Stop)). trip ∷ trips) (trips_of_all plan)
-
 
 stops_line : (places : List Place) (flight : Flight) (stops : List Stop)
     → stops_text places flight stops ≡ more_fields (stop_fields places flight stops)

@@ -19,7 +19,6 @@ use Rattle.plan_text.specs.Trips.{TripsRead, trip_of}
 use Rattle.plan_text.specs.declared.kind.Kind.{Kind}
 use Rattle.plan_text.specs.declared.kind.Kind.TheVariants as kind
 
-
 module _ (parts : Parts) (at : ℕ) (trips : TripsRead) (left : List Fields)
     (total : Result TripsRead Fault) where
   pub next_record : (next : TripsRead) (rest : List Fields) (fields : Fields) → left ≡ fields ∷ rest
@@ -47,7 +46,6 @@ module _ (parts : Parts) (at : ℕ) (trips : TripsRead) (left : List Fields)
       let step : records_step parts at trips left ≡ Ok trips = rw here refl in
       sym so_far ∙ step
 
-
 module _ (parts : Parts) (rows : List Fields) where
   pub plan_is : (trips : TripsRead) → records_step parts 1 (none_read parts.flights) rows ≡ Ok trips
       → plan_from parts rows ≡ Ok (trips_of trips)
@@ -59,7 +57,6 @@ module _ (parts : Parts) (rows : List Fields) where
   unfolding plan_from
   plan_refused refusal.OutOfMemory refuses = tt
   plan_refused (refusal.Text fault) refuses = rw refuses refl
-
 
 in_record_ok : (at : ℕ) (r : Result TripsRead FieldFault) (next : TripsRead)
     → in_record at r ≡ Ok next → r ≡ Ok next

@@ -21,7 +21,6 @@ use Rattle.plan_text.specs.Names.{flight_names, node_named}
 use Rattle.plan_text.specs.Trips.{TripsRead, flight_in, stop_in, stops_from, trip_of}
 use Rattle.plan_text.proofs.WrittenTrips.{name_back, named_at, node_back, number_in_back}
 
-
 pub record IsReadBack (periods : ℕ) (flight : Flight) (stop : Stop) : Type 0 where
   pub node : stop.node < length flight.nodes
   pub time : stop.time < periods
@@ -81,7 +80,6 @@ module _ (periods : ℕ) (some : 1 ≤ periods) (flight : Flight)
   few_stops [] is = absurd is
   few_stops (stop ∷ rest) is = let left = nodes_left stop rest is.2 in omega (arith, left)
 
-
 some_airport : (place : Option Place) → is_airport place ≡ true → (found : Place)
     × (place ≡ Some found)
 some_airport None is = absurd (false≢true is)
@@ -113,7 +111,6 @@ module _ (periods : ℕ) (places : List Place) (tables : List _) (flight : Fligh
         subst (λ (n : ℕ). IsThere (place_at flight n)) last_is
         (subst IsThere (sym valid.route.last)
         (some_airport (slice_get places flight.to) valid.destination))
-
 
 abbrev pub stop_fields : List Place → Flight → List Stop → Fields
 stop_fields places flight [] = []

@@ -145,7 +145,6 @@ a_bad_period_before_a_field_too_many : read (codes "trip,F1" ++ (pairs 31 ++ cod
 unfolding text_on_literals
 a_bad_period_before_a_field_too_many = refl
 
-
 a_line : trip_text (two_flights 1 9 9).places there (trip_at 0 2)
     ≡ codes "trip,F1,ORIG,0,S,0,DEST,2\n"
 unfolding digits

@@ -15,7 +15,6 @@ use Rattle.text_records.specs.Names.{position_of}
 use Rattle.text_records.specs.Rows.{Fields}
 use Rattle.text_records.proofs.NameFacts.{position-map}
 
-
 -- a number that fits the digits that a number may have is read back
 pub number_back : (n : ℕ) → n < 10 ^ 18 → number_of (decimal n) ≡ Some n
 number_back n few =
@@ -41,7 +40,6 @@ module _ (fields : Fields) (number : ℕ) where
   unfolding number_in
   number_in_back n high there few within =
       rw (there, number_back n few, le-leb 0 n (omega arith), le-leb n high within) refl
-
 
 pub found_at : {X : Type 0} (p : X → Bool) (xs : List X) (k : ℕ) (d : X) → k < length xs
     → ((i : ℕ) → i < k → p (get_or xs i d) ≡ false) → p (get_or xs k d) ≡ true

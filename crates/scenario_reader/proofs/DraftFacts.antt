@@ -43,7 +43,6 @@ use Rattle.text_records.proofs.NameFacts.{position-none}
 use Rattle.scenario_reader.proofs.NetworkFacts.{network_grows}
 use Rattle.scenario_reader.proofs.PlaceFacts.{length_new}
 
-
 same_bytes : (name : List ℕ) → bytes_eq name name ≡ true
 same_bytes name = nat_list_eq_equiv.refl name
 
@@ -69,7 +68,6 @@ names_more name_of xs x apart fresh =
     all_pairs_push (λ a b. name_of a ≢ name_of b) xs x apart
     (λ k d h. name_apart name_of xs (name_of x) k d none h)
 
-
 -- what is found in a list is found in the longer one
 found_front : {X : Type 0} (test : Option X → Bool) → test None ≡ false
     → (xs : List X) (x : X) (k : ℕ)
@@ -89,7 +87,6 @@ both_front xs ys x y i j h =
     none_at : (o : Option ℕ) → is_same_place o None ≡ false
     none_at None = refl
     none_at (Some a) = refl
-
 
 -- what is an airport or a sector stays one
 pub record Keeps (places later : List Place) : Type 0 where
@@ -128,7 +125,6 @@ flight_kept periods places later tables flight keeps valid = record {
   network = network_kept places later flight keeps valid.network;
 }
 
-
 pub parts_with_place : (draft : DraftParts) (place : Place) → IsValidDraft draft
     → IsPlace draft.day.periods place
     → position_of place.name (place_names draft.places) ≡ None → length draft.places < 1000
@@ -154,7 +150,6 @@ parts_with_place draft place valid one fresh room = record {
   connections = valid.connections;
   connected_once = valid.connected_once;
 }
-
 
 pub total_push : (flights : List FlightDraft) (flight : FlightDraft)
     → node_total (flights ++ flight ∷ []) ≡ node_total flights + node_count flight
@@ -197,7 +192,6 @@ parts_with_flight draft flight valid one fresh room few = record {
   connected_once = valid.connected_once;
 }
 
-
 -- flights that begin and end as before meet as before
 meeting_kept : (flights later : List FlightDraft) (connection : Connection)
     → origins later ≡ origins flights → destinations later ≡ destinations flights
@@ -214,7 +208,6 @@ names_changed : (change : FlightDraft → FlightDraft)
     → AllPairs (λ a b. a.name ≢ b.name) (changed_at change flights k)
 names_changed change same flights k apart =
     pairs_changed (λ (f : FlightDraft). f.name) change same flights k apart
-
 
 flight_with_leg : (periods : ℕ) (places : List Place) (tables : List CostTable) (total : ℕ)
     (flight : FlightDraft) (leg : PlaceLeg) → IsFlightDraft periods places tables flight
@@ -289,7 +282,6 @@ parts_with_leg draft k leg flight valid here new = record {
       (valid.connections j d h);
   connected_once = valid.connected_once;
 }
-
 
 flight_with_cost : (periods : ℕ) (places : List Place) (tables : List CostTable) (cost : Cost)
     (flight : FlightDraft) → IsFlightDraft periods places tables flight
@@ -368,7 +360,6 @@ parts_with_pricing draft pricing valid new = record {
   connected_once = valid.connected_once;
 }
 
-
 cost_with_table : (tables : List CostTable) (table : CostTable) (mg md : ℕ) (cost : Cost)
     → is_cost tables mg md cost ≡ true → is_cost (tables ++ table ∷ []) mg md cost ≡ true
 cost_with_table tables table mg md (Linear on_ground airborne) h = h
@@ -417,7 +408,6 @@ parts_with_table draft table valid one fresh room = record {
   connected_once = valid.connected_once;
 }
 
-
 connection_apart : (connections : List Connection) (connection : Connection) (k : ℕ)
     (d : Connection)
     → are_connected connections connection.first connection.second ≡ false → k < length connections
@@ -456,7 +446,6 @@ parts_with_connection draft connection valid one once room = record {
       valid.connected_once
       (λ k d h. connection_apart draft.connections connection k d once h);
 }
-
 
 filled_length : (from count value : ℕ) (caps : List ℕ)
     → length (filled from count value caps) ≡ length caps
@@ -594,7 +583,6 @@ reaches day places flights tables connections nodes change valid new place here 
     by kind.Sector place_kind e has one = rw one.first_count new.within
     by kind.Arr Airport e has one = rw (one.second_count, e) new.within
     by kind.Arr Sector e has one = absurd (false≢true (rw e at has))
-
 
 abbrev parts : Day → List Place → List FlightDraft → List CostTable → List Connection → DraftParts
 parts day places flights tables connections =

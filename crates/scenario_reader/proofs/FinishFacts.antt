@@ -25,7 +25,6 @@ use Rattle.scenario_reader.proofs.PlaceFacts.{node_outside}
 use Rattle.scenario_reader.proofs.RouteFacts.{flight_is, passed_few}
 use Rattle.text_records.proofs.StepFacts.{bound, given, needed, ok_is}
 
-
 pub node_found : (nodes : List ℕ) (place k : ℕ) → position (λ node. node == place) nodes ≡ Some k
     → k ≡ node_of nodes place
 node_found nodes place k h = by (ltb (node_of nodes place) (length nodes)) (node_of nodes place) h
@@ -38,7 +37,6 @@ pub node_missing : (nodes : List ℕ) (place : ℕ) → position (λ node. node 
     → length nodes ≡ node_of nodes place
 node_missing nodes place h =
     sym (node_outside nodes place (position-none (λ node. node == place) nodes h))
-
 
 -- the flights so far, and then those that the rest becomes
 abbrev pub with_front : List Flight → Result (List Flight) Fault → Result (List Flight) Fault
@@ -91,7 +89,6 @@ all_done front flights i total le so_far =
     let step : with_front front (finished_flights (drop i flights)) ≡ Ok front =
     rw (drop_all i flights le) (ap (λ (fs : List Flight). Ok fs) (append-nil front)) in
     sym so_far ∙ step
-
 
 -- a valid flight came to its end as this one
 pub record IsFinished (flight : FlightDraft) (found : Flight) : Type 0 where
@@ -181,7 +178,6 @@ few_nodes periods places tables (flight ∷ flights) (found ∷ founds) all b =
       sum_by-cons node_count flight
           flights,
     ) (omega arith)
-
 
 same_origins : (flights : List FlightDraft) (founds : List Flight) → Become flights founds
     → map (λ (f : Flight). f.from) founds ≡ origins flights

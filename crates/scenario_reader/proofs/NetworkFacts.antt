@@ -16,7 +16,6 @@ use Rattle.scenario_reader.specs.declared.flight_draft.FlightDraft.{FlightDraft}
 use Rattle.scenario_reader.specs.declared.flight_draft.PlaceLeg.{PlaceLeg}
 use Rattle.scenario_reader.proofs.PlaceFacts.{All-new, among_added, among_new, apart_new, holds_among, length_new, node_new, node_not_before, node_outside, node_within, not_among_new}
 
-
 pub clash : (b : Bool) → b ≡ true → b ≡ false → ⊥
 clash b holds fails = let one : true ≡ false = sym holds ∙ fails in absurd (false≢true (sym one))
 
@@ -47,7 +46,6 @@ differ_back a b h =
 
 same_back : (a b : ℕ) → eqb a b ≡ true → eqb b a ≡ true
 same_back a b h = eq-eqb b a (sym (eqb-true a b h))
-
 
 cons_new : (b : Bool) (first : ℕ) (places : List ℕ) (new : ℕ)
     → with_new b (first ∷ places) new ≡ first ∷ with_new b places new
@@ -86,7 +84,6 @@ starts_stay b visits reached start to (leg ∷ legs) all =
       starts_stay b visits reached start to legs (λ k d h. all (suc k) d (omega arith)),
     ) refl
 
-
 pub in_order-push : (next : ℕ) (starts : List ℕ) (start : ℕ) → in_order next starts ≡ true
     → start ≤ next_start next starts
     → in_order next (starts ++ start ∷ []) ≡ true
@@ -105,7 +102,6 @@ pub next_start-push : (next : ℕ) (starts : List ℕ) (start : ℕ)
     → next_start next (starts ++ start ∷ []) ≡ max (next_start next starts) (start + 1)
 next_start-push next [] start = refl
 next_start-push next (first ∷ starts) start = next_start-push (max next (first + 1)) starts start
-
 
 any_front : (p : PlaceLeg → Bool) (legs : List PlaceLeg) (leg : PlaceLeg) → list_any p legs ≡ true
     → list_any p (legs ++ leg ∷ []) ≡ true

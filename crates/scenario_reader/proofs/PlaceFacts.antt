@@ -7,7 +7,6 @@ use Rattle.std.proofs.lemmas.List.Quantifiers.{all_pairs_push}
 use Rattle.scenario_reader.specs.Finish.{node_of}
 use Rattle.scenario_reader.specs.Legs.{is_among, with_new}
 
-
 pub among_first : (place : ℕ) (places : List ℕ) → is_among (place ∷ places) place ≡ true
 among_first place places = rw (eq-eqb place place refl) refl
 
@@ -60,7 +59,6 @@ holds_among P (x ∷ xs) place all h =
       | inl e ↦ rw (← eqb-true x place e) (all 0 place (omega arith))
       | inr rest ↦ holds_among P xs place (λ k d within. all (suc k) d (omega arith)) rest
     ]
-
 
 pub node_within : (xs : List ℕ) (place : ℕ) → is_among xs place ≡ true
     → node_of xs place < length xs
@@ -137,7 +135,6 @@ node_of_at xs k apart h =
         | inr upto ↦ omega arith
       ]
     ]
-
 
 pub among_new : (b : Bool) (xs : List ℕ) (new place : ℕ) → is_among xs place ≡ true
     → is_among (with_new b xs new) place ≡ true

@@ -13,7 +13,6 @@ use Rattle.scenario_reader.specs.Finish.{finished}
 use Rattle.scenario_reader.specs.Reading.{first_step, record_step, records_step, scenario_from}
 use Rattle.scenario_reader.specs.DraftParts.{DraftParts}
 
-
 pub next_record : (at : ℕ) (draft next : DraftParts) (left rest : List Fields) (fields : Fields)
     (total : Result DraftParts Fault)
     → left ≡ fields ∷ rest → record_step draft at fields ≡ Ok next
@@ -39,7 +38,6 @@ unfolding records_step
 no_record at draft left total here so_far =
     let step : records_step at draft left ≡ Ok draft = rw here refl in
     sym so_far ∙ step
-
 
 pub no_first : (rows : List Fields) → rows ≡ [] → scenario_from rows ≡ Err (fault_at 1 1 NoDay)
 unfolding scenario_from

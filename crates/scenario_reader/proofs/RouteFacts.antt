@@ -31,7 +31,6 @@ not_both (Some place) airport sector = by (is_airport_kind place.kind) airport s
     by true airport sector = false≢true sector
     by false airport sector = false≢true airport
 
-
 passed_sector : (places : List Place) (flight : FlightDraft) → IsNetwork places flight → (k d : ℕ)
     → k < length flight.passed
     → IsTrue (is_sector (slice_get places (get_or flight.passed k d)))
@@ -75,7 +74,6 @@ different periods places tables flight valid =
     before_last (suc k) d h e = not_both _ valid.destination
         (ap (λ (p : ℕ). is_sector (slice_get places p)) (sym e)
         ∙ passed_sector places flight valid.network k d (omega arith))
-
 
 among_nodes : (periods : ℕ) (places : List Place) (tables : List CostTable) (flight : FlightDraft)
     → IsEnded periods places tables flight → (leg : PlaceLeg)
@@ -152,7 +150,6 @@ in_order-legs nodes next (leg ∷ legs) =
     ap (λ (b : Bool). nat_le (node_of nodes leg.from) next && b)
     (in_order-legs nodes (max next (node_of nodes leg.from + 1)) legs)
 
-
 any_map : (p : PlaceLeg → Bool) (q : Leg → Bool) (nodes : List ℕ) (legs : List PlaceLeg)
     → ((leg : PlaceLeg) → p leg ≡ true → q (leg_between nodes leg) ≡ true)
     → list_any p legs ≡ true → list_any q (map (leg_between nodes) legs) ≡ true
@@ -181,7 +178,6 @@ leaves nodes legs k apart within h =
     (λ leg e. eq-eqb (node_of nodes leg.from) k
     (ap (node_of nodes) (eqb-true leg.from (get_or nodes k 0) e)
     ∙ node_of_at nodes k apart within)) h
-
 
 pub route_is : (periods : ℕ) (places : List Place) (tables : List CostTable) (flight : FlightDraft)
     → IsEnded periods places tables flight

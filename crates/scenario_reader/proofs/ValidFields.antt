@@ -13,7 +13,6 @@ use Rattle.scenario_reader.specs.Moments.{IsMoment}
 use Rattle.scenario_reader.specs.declared.date.Moment.{Moment}
 use Rattle.text_records.proofs.StepFacts.{bound, done, given, holds, ok_is, passed, refused}
 
-
 pub name_is : (fields : Fields) (number : ℕ) (name : List ℕ) → name_in fields number ≡ Ok name
     → IsTrue (is_name name)
 unfolding name_in
@@ -43,7 +42,6 @@ new_name_is limit names fields name e =
       fresh = nothing_is (position_of read.0 names) fresh.0;
       room = leb-false limit (length names) room.0;
     })
-
 
 pub record IsWithin (low high value : ℕ) : Type 0 where
   pub from : low ≤ value
@@ -85,7 +83,6 @@ later_is periods first last number read fields fault some is e =
           ltb-false read first kept.0;
       within = omega arith;
     })
-
 
 part_within : (low high : ℕ) (spelled : Option ℕ) (value : ℕ) → within low high spelled ≡ Ok value
     → IsWithin low high value

@@ -30,7 +30,6 @@ use Rattle.scenario_reader.specs.declared.flight_draft.Hours.{Hours}
 use Rattle.text_records.proofs.StepFacts.{bound, given, holds, ok_is, passed}
 use Rattle.scenario_reader.proofs.ValidFields.{IsLater, later_is, moment_is, new_name_is, number_is}
 
-
 pub day_is : (fields : Fields) (day : Day) → day_of fields ≡ Ok day → IsDay day
 unfolding day_of
 day_is fields day e =
@@ -58,7 +57,6 @@ day_is fields day e =
       periods_from = many.from;
       periods_to = many.to;
     })
-
 
 -- a valid place of a new name, with room for it
 pub record IsNewPlace (periods : ℕ) (names : List (List ℕ)) (place : Place) : Type 0 where
@@ -109,7 +107,6 @@ sector_is periods names fields place e =
       fresh = new.fresh;
       room = new.room;
     })
-
 
 airport_there : (number : ℕ) (places : List Place) (known : Option ℕ) (place : ℕ)
     → airport_at number places known ≡ Ok place → IsTrue (is_airport (slice_get places place))
@@ -250,7 +247,6 @@ flight_is draft at fields flight some e =
       few = ltb-false most_nodes_in_all (node_total draft.flights + 2) few.0;
     })
 
-
 kind_there : (kind : CapKind) (places : List Place) (fields : Fields) (place : ℕ)
     → place_in kind places fields ≡ Ok place → IsTrue (has_kind kind (slice_get places place))
 unfolding place_in
@@ -284,7 +280,6 @@ change_is periods places fields change some e =
       within = later.within;
       few = (number_is fields 6 0 most_capacity value.0 value.1).to;
     })
-
 
 -- a connection of two flights that meet, new and with room for it
 pub record IsNewConnection (flights : List FlightDraft) (connections : List Connection)

@@ -21,7 +21,6 @@ use Rattle.scenario_reader.proofs.FinishFacts.{within_list}
 use Rattle.text_records.proofs.StepFacts.{bound, given, holds, ok_is, passed}
 use Rattle.scenario_reader.proofs.ValidFields.{new_name_is}
 
-
 signed_within : (most n : ℕ) (negative : Bool) → n ≤ most → (neg_ℤ (pos most) ≤ℤ signed negative n)
     × (signed negative n ≤ℤ pos most)
 signed_within most n true le = (omega (arith, ints), omega (arith, ints))
@@ -106,7 +105,6 @@ table_is names fields table e =
       fresh = new.fresh;
       room = new.room;
     })
-
 
 untabled_there : (flights : List FlightDraft) (k : ℕ) (found : ℕ × FlightDraft)
     → untabled_at k (slice_get flights k) ≡ Ok found → slice_get flights found.0 ≡ Some found.1

@@ -31,7 +31,6 @@ use Rattle.scenario_reader.proofs.ValidLegs.{leg_found}
 use Rattle.scenario_reader.proofs.ValidRecords.{airport_is, change_is, connection_is, day_is, flight_is, IsNewPlace, sector_is}
 use Rattle.scenario_reader.proofs.ValidTables.{pricing_is, table_is}
 
-
 place_added : (draft : DraftParts) (place : Place) → IsValidDraft draft
     → IsNewPlace draft.day.periods (place_names draft.places) place
     → IsValidDraft (with_place draft place)
@@ -141,7 +140,6 @@ after_record draft next at fields valid e =
     let word = bound (field_in fields 1) _ next e in
     after_kind draft next at fields (kind_of word.0) valid word.2
 
-
 in_record_ok : (at : ℕ) (read : Result DraftParts FieldFault) (next : DraftParts)
     → in_record at read ≡ Ok next → read ≡ Ok next
 in_record_ok at (Ok x) next e = cc
@@ -197,7 +195,6 @@ after_first fields draft e =
     let day = bound (day_by_kind fields (kind_of word.0)) _ draft word.2 in
     subst IsValidDraft (ok_is _ draft day.2)
     (day_alone day.0 (day_of_kind fields (kind_of word.0) day.0 day.1))
-
 
 ended : (draft : DraftParts) (parts : Parts) → IsValidDraft draft → finished draft ≡ Ok parts
     → IsScenario parts

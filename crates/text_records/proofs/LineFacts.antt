@@ -43,7 +43,6 @@ abbrev pub ArePlainLines : List Fields → Type 0
 ArePlainLines [] = Unit {0}
 ArePlainLines (line ∷ lines) = IsPlainLine line × ArePlainLines lines
 
-
 plain_field : (field : List ℕ) → IsPlain field → field_text default_writer field ≡ field
 plain_field field plain = rw plain refl
 
@@ -117,7 +116,6 @@ rows_of_lines lines b rest plain begins other =
     ap (λ (text : List ℕ). records_from default_config (length text + 1) st.StartRecord text) start
     ∙ ap (λ (most : ℕ). records_from default_config most st.StartRecord (lines_of lines)) room
     ∙ all_lines lines (length (lines_of lines) + 1 - length lines) plain
-
 
 plain_byte : (b : ℕ) → b ≢ 44 → b ≢ 34 → b ≢ 13 → b ≢ 10 → needs_byte default_writer b ≡ false
 plain_byte b comma quote return feed =

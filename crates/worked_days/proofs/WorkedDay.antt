@@ -26,7 +26,6 @@ use Rattle.flow_types.specs.Words.{is_name}
 use Rattle.flow_types.proofs.PlaceFacts.{has_kind-within}
 use Rattle.worked_days.specs.Days.{all_day, back, beside, day_with, flight_with, legs_with, places_with, there, there_and_back, trip_at, two_flights}
 
-
 -- two names that are one have one letter at each place; the letters below are `O`, `D`, `S`, `F`,
 -- `G`, `1` and `2`
 by_letter : {a b : List ℕ} (k : ℕ) → a ≡ b → slice_index a k ≡ slice_index b k
@@ -236,7 +235,6 @@ there_and_back-valid leave turnaround few short =
 pub one_way_on : IsChain (legs_with 2)
 one_way_on = pairs_two (λ (a b : Leg). a.from ≢ b.from) _ _ (λ is. omega (arith, is))
 
-
 -- Such a trip in the flight's windows, with two periods inside the sector, is one of the flight.
 pub trip_is : (name : List ℕ) (from to sd : ℕ) (cost : Cost) (departure arrival : ℕ)
     → sd ≤ departure → departure ≤ min (sd + 4) 7
@@ -289,7 +287,6 @@ beside_is departure arrival late before long =
 pub back_is : IsTrip 8 back (trip_at 3 5)
 back_is = trip_is (codes "G1") 1 0 3 (Linear 1 2) 3 5 (omega arith) (omega arith) (omega arith)
     (omega arith) (omega arith)
-
 
 -- the test holds of each number below n
 abbrev pub all_below : ℕ → (ℕ → Bool) → Bool
