@@ -2,6 +2,7 @@
 ghost use Rattle.std.specs.Prelude.{◌≡◌, IfOk, drop, map, string_bytes};
 ghost use Rattle.std.specs.Process.{exit_status};
 ghost use Rattle.std.specs.Vec.Iter.{into_iter_items};
+ghost use Rattle.flow_outside.specs.Seen.{AreKept};
 ghost use Rattle.flow_cli.specs.Answer.{Ends};
 ghost use Rattle.flow_cli.specs.Exit.{ExitsWith, words_given};
 ghost use Rattle.flow_cli.specs.Outside.{change};
@@ -16,16 +17,17 @@ use std::{env, io};
 
 /// Runs the program on what the environment answers about its words, and gives what the process is
 /// to end with: the number of `run`'s status for the words behind the program's name. Words of
-/// which one isn't UTF-8 are those of no command. It takes memory for the words, besides that of
-/// `run`.
+/// which one isn't UTF-8 are those of no command. What the files hold stays as it was. It takes
+/// memory for the words, besides that of `run`.
 pub fn exit_code<F: Files, S: Sink>(
     alloc: Global,
     args: io::Result<env::Args>,
     files: &mut F,
     out: &mut S,
 ) -> ExitCode
-    ensures { ExitsWith (change (F.seen files.old) (F.seen files.new))
+    ensures exits { ExitsWith (change (F.seen files.old) (F.seen files.new))
         (change (S.seen out.old) (S.seen out.new)) (words_given args) (exit_status result) }
+    ensures kept { AreKept (F.seen files.old) (F.seen files.new) }
 {
     let status = run_given(alloc, args, files, out);
     ExitCode::from(status.number())
@@ -38,8 +40,9 @@ fn run_given<F: Files, S: Sink>(
     files: &mut F,
     out: &mut S,
 ) -> Status
-    ensures { Ends (change (F.seen files.old) (F.seen files.new))
+    ensures ends { Ends (change (F.seen files.old) (F.seen files.new))
         (change (S.seen out.old) (S.seen out.new)) (words_given args) result }
+    ensures kept { AreKept (F.seen files.old) (F.seen files.new) }
 {
     match words_of(alloc, args) {
         Ok(words) => run(alloc, &words, files, out),

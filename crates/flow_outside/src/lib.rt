@@ -17,9 +17,10 @@
 //! calls that were named; a program hands in [`HostFiles`] and [`HostSink`].
 //!
 //! Nobody can rule a fault of a device out, so each object counts its faults. A call answers a
-//! fault only where the object's count rose in that call, and leaves the count as it was after any
-//! other answer: a body can neither blame the device by itself nor hide a fault. A count is 64 bits
-//! wide and stops at its last value, where a fault needs no rise.
+//! fault only where the object's count rose in that call or the name to read isn't there, and
+//! leaves the count as it was after any other answer: a body can neither blame the device by itself
+//! nor hide a fault. A count is 64 bits wide and stops at its last value, where a fault needs no
+//! rise.
 //!
 //! What is proved, by these clauses:
 //!
