@@ -20,12 +20,12 @@ use Rattle.scenario_reader.proofs.ValidTexts.{text_is}
 use Rattle.scenario_reader.specs.Reading.{scenario_of}
 use Rattle.flow_cli.specs.declared.status.Status.{Status}
 use Rattle.flow_cli.specs.declared.status.Status.TheVariants.{BadPlan, BadScenario, Broken, Done, ReadFault, Usage}
-use Rattle.flow_cli.specs.Answer.{Ends}
+use Rattle.flow_cli.specs.Answer.{Ends, IsAnswer}
 use Rattle.flow_cli.specs.Faults.{fault_text, too_long_text}
 use Rattle.flow_cli.specs.Judging.{IsVerdict}
-use Rattle.flow_cli.specs.Outside.{change}
-use Rattle.flow_cli.specs.Reading.{IsDayOf, IsTextOf}
-use Rattle.flow_cli.specs.Words.{usage_text}
+use Rattle.flow_cli.specs.Outside.{Change, change}
+use Rattle.flow_cli.specs.Reading.{IsDayOf, IsNoDay, IsTextOf}
+use Rattle.flow_cli.specs.Words.{asked, usage_text}
 use Rattle.worked_days.specs.Days.{two_flights}
 use Rattle.flow_cli.proofs.WorkedCases.{is_day_of_chains, keeps, on_time, optimal_day, optimal_text}
 
@@ -41,13 +41,30 @@ text_held held name text holds few = record {
   within = few;
 }
 
+-- files that stay as they were
+abbrev unchanged : Held → Change FilesSeen
+unchanged held =
+    let files : FilesSeen = record { held = Some held; faults = 0; store_faults = 0 } in
+    change files files
+
 -- a run on these files prints this text, and ends with this status
 abbrev EndsOn : Held → List (List ℕ) → List ℕ → Status → Type 0
 EndsOn held words text status =
-    let files : FilesSeen = record { held = Some held; faults = 0; store_faults = 0 } in
     let empty : SinkSeen = record { written = Some []; faults = 0 } in
-    Ends (change files files)
-    (change empty (record { written = Some text; faults = 0 })) words status
+    Ends (unchanged held) (change empty (record { written = Some text; faults = 0 })) words status
+
+-- a run with this answer
+run_answers : (held : Held) (words : List (List ℕ)) (text : List ℕ) (status : Status)
+    → IsAnswer (unchanged held) (asked words) (record { text = text; status = status })
+    → EndsOn held words text status
+run_answers held words text status of_words = inl (record {
+  answer = record { text = text; status = status };
+  of_words = of_words;
+  quiet = λ other. refl;
+  ends = refl;
+  whole = refl;
+  unfailed = refl;
+})
 
 abbrev day_name : List ℕ
 day_name = codes "day.csv"
@@ -83,19 +100,14 @@ module _ (text plan : List ℕ) (few : length text ≤ most_text_bytes)
   -- a day of chains is planned
   run_is_planned : scenario_of text ≡ Ok (two_flights 2 9 9)
       → EndsOn files plan_words optimal_text Done
-  run_is_planned read = inl (record {
-    answer = record { text = optimal_text; status = Done };
-    of_words = inl (record {
-      parts = two_flights 2 9 9;
-      day = day_held (two_flights 2 9 9) read;
-      chains = is_day_of_chains;
-      planned = optimal_day;
-    });
-    quiet = λ other. refl;
-    ends = refl;
-    whole = refl;
-    unfailed = refl;
-  })
+  run_is_planned read =
+      run_answers files plan_words optimal_text Done
+      (inl (record {
+        parts = two_flights 2 9 9;
+        day = day_held (two_flights 2 9 9) read;
+        chains = is_day_of_chains;
+        planned = optimal_day;
+      }))
 
   -- a text that is no scenario is refused by its first fault, by both commands
   abbrev fault : Fault
@@ -105,41 +117,29 @@ module _ (text plan : List ℕ) (few : length text ≤ most_text_bytes)
   unfolding digits
   fault_is_printed = refl
 
+  no_day : scenario_of text ≡ Err fault
+      → IsNoDay (Some files) day_name
+      (record { text = codes "refused,11,4,BackLeg\n"; status = BadScenario })
+  no_day read = record {
+    bytes = text;
+    source = day_text;
+    fault = fault;
+    read = read;
+    ends = refl;
+    text = sym fault_is_printed;
+  }
+
   plan_is_refused : scenario_of text ≡ Err fault
       → EndsOn files plan_words (codes "refused,11,4,BackLeg\n") BadScenario
-  plan_is_refused read = inl (record {
-    answer = record { text = codes "refused,11,4,BackLeg\n"; status = BadScenario };
-    of_words = inr (inr (inl (record {
-      bytes = text;
-      source = day_text;
-      fault = fault;
-      read = read;
-      ends = refl;
-      text = sym fault_is_printed;
-    })));
-    quiet = λ other. refl;
-    ends = refl;
-    whole = refl;
-    unfailed = refl;
-  })
+  plan_is_refused read =
+      run_answers files plan_words (codes "refused,11,4,BackLeg\n") BadScenario
+      (inr (inr (inl (no_day read))))
 
   judge_is_refused : scenario_of text ≡ Err fault
       → EndsOn files judge_words (codes "refused,11,4,BackLeg\n") BadScenario
-  judge_is_refused read = inl (record {
-    answer = record { text = codes "refused,11,4,BackLeg\n"; status = BadScenario };
-    of_words = inr (inl (record {
-      bytes = text;
-      source = day_text;
-      fault = fault;
-      read = read;
-      ends = refl;
-      text = sym fault_is_printed;
-    }));
-    quiet = λ other. refl;
-    ends = refl;
-    whole = refl;
-    unfailed = refl;
-  })
+  judge_is_refused read =
+      run_answers files judge_words (codes "refused,11,4,BackLeg\n") BadScenario
+      (inr (inl (no_day read)))
 
   -- a plan that keeps every rule, and the same plan where one may leave in a period
   module _ (leave : ℕ) (read : scenario_of text ≡ Ok (two_flights leave 9 9)) where
@@ -147,24 +147,19 @@ module _ (text plan : List ℕ) (few : length text ≤ most_text_bytes)
         → plan_of (two_flights leave 9 9) plan ≡ Ok on_time
         → IsVerdict (two_flights leave 9 9) on_time (record { text = printed; status = status })
         → EndsOn files judge_words printed status
-    judged printed status plan_read verdict = inl (record {
-      answer = record { text = printed; status = status };
-      of_words = inl (record {
-        parts = two_flights leave 9 9;
-        day = day_held (two_flights leave 9 9) read;
-        judged = inl (record {
-          bytes = plan;
-          source = plan_text;
-          plan = on_time;
-          read = plan_read;
-          verdict = verdict;
-        });
-      });
-      quiet = λ other. refl;
-      ends = refl;
-      whole = refl;
-      unfailed = refl;
-    })
+    judged printed status plan_read verdict =
+        run_answers files judge_words printed status
+        (inl (record {
+          parts = two_flights leave 9 9;
+          day = day_held (two_flights leave 9 9) read;
+          judged = inl (record {
+            bytes = plan;
+            source = plan_text;
+            plan = on_time;
+            read = plan_read;
+            verdict = verdict;
+          });
+        }))
 
   run_is_kept : scenario_of text ≡ Ok (two_flights 2 9 9)
       → plan_of (two_flights 2 9 9) plan ≡ Ok on_time
@@ -194,55 +189,40 @@ module _ (text plan : List ℕ) (few : length text ≤ most_text_bytes)
   no_plan_of : scenario_of text ≡ Ok (two_flights 1 9 9)
       → plan_of (two_flights 1 9 9) plan ≡ Err fault
       → EndsOn files judge_words (codes "refused,11,4,BackLeg\n") BadPlan
-  no_plan_of read plan_read = inl (record {
-    answer = record { text = codes "refused,11,4,BackLeg\n"; status = BadPlan };
-    of_words = inl (record {
-      parts = two_flights 1 9 9;
-      day = day_held (two_flights 1 9 9) read;
-      judged = inr (inl (record {
-        bytes = plan;
-        source = plan_text;
-        fault = fault;
-        read = plan_read;
-        ends = refl;
-        text = sym fault_is_printed;
-      }));
-    });
-    quiet = λ other. refl;
-    ends = refl;
-    whole = refl;
-    unfailed = refl;
-  })
+  no_plan_of read plan_read =
+      run_answers files judge_words (codes "refused,11,4,BackLeg\n") BadPlan
+      (inl (record {
+        parts = two_flights 1 9 9;
+        day = day_held (two_flights 1 9 9) read;
+        judged = inr (inl (record {
+          bytes = plan;
+          source = plan_text;
+          fault = fault;
+          read = plan_read;
+          ends = refl;
+          text = sym fault_is_printed;
+        }));
+      }))
 
 -- Where the name isn't there, and where the words make no command.
 abbrev no_files : Held
 no_files = from_entries []
 
 run_is_fault : EndsOn no_files plan_words (codes "fault,read\n") ReadFault
-run_is_fault = inl (record {
-  answer = record { text = codes "fault,read\n"; status = ReadFault };
-  of_words = inr (inr (inr
-      (inr (record {
-        ends = refl;
-        failed = λ has. absurd
-            (false≢true (subst IsSome (get-from_entries nat_list_cmp_total [] day_name) has));
-        text = refl;
-      }))));
-  quiet = λ other. refl;
-  ends = refl;
-  whole = refl;
-  unfailed = refl;
-})
+run_is_fault =
+    run_answers no_files plan_words (codes "fault,read\n") ReadFault
+    (inr (inr (inr
+    (inr (record {
+      ends = refl;
+      failed = λ has. absurd
+          (false≢true (subst IsSome (get-from_entries nat_list_cmp_total [] day_name) has));
+      text = refl;
+    })))))
 
 run_is_usage : EndsOn no_files (codes "plan" ∷ []) usage_text Usage
-run_is_usage = inl (record {
-  answer = record { text = usage_text; status = Usage };
-  of_words = record { ends = refl; text = refl };
-  quiet = λ other. refl;
-  ends = refl;
-  whole = refl;
-  unfailed = refl;
-})
+run_is_usage =
+    run_answers no_files (codes "plan" ∷ []) usage_text Usage
+    (record { ends = refl; text = refl })
 
 -- A text of a byte too many is refused by its size.
 size_is_printed : too_long_text (most_text_bytes + 1) ≡ codes "refused,toolong,67108865\n"

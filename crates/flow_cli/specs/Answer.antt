@@ -27,7 +27,7 @@ pub record IsWritten (files : Change FilesSeen) (out : Change SinkSeen) (words :
     (status : Status) : Type 0 where
   pub answer : Printed
   pub of_words : IsAnswer files (asked words) answer
-  pub quiet : IsQuiet files answer
+  pub quiet : IsQuiet files answer.status
   pub ends : status ≡ answer.status
   pub whole : out.now.written ≡ appended out.before.written answer.text
   pub unfailed : out.now.faults ≡ out.before.faults
@@ -37,18 +37,21 @@ pub record IsCutShort (files : Change FilesSeen) (out : Change SinkSeen) (words 
     (status : Status) : Type 0 where
   pub answer : Printed
   pub of_words : IsAnswer files (asked words) answer
-  pub quiet : IsQuiet files answer
+  pub quiet : IsQuiet files answer.status
   pub ends : status ≡ WriteFault
   pub part : AppendsPart out.before.written out.now.written answer.text
   pub failed : Rose out.before.faults out.now.faults
 
--- there was no memory for the answer, and nothing is written
-pub record IsUnwritten (out : Change SinkSeen) (status : Status) : Type 0 where
+-- there was no memory for the answer: nothing is written, and the count of faults is as it was
+pub record IsUnwritten (files : Change FilesSeen) (out : Change SinkSeen)
+    (status : Status) : Type 0 where
   pub ends : status ≡ OutOfMemory
+  pub quiet : IsQuiet files status
   pub same : out.now.written ≡ out.before.written
   pub unfailed : out.now.faults ≡ out.before.faults
 
 -- how a run with these words ends
 abbrev pub Ends : Change FilesSeen → Change SinkSeen → List (List ℕ) → Status → Type 0
 Ends files out words status =
-    IsWritten files out words status ⊎ (IsCutShort files out words status ⊎ IsUnwritten out status)
+    IsWritten files out words status
+    ⊎ (IsCutShort files out words status ⊎ IsUnwritten files out status)

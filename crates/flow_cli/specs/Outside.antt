@@ -1,5 +1,6 @@
 -- The outside of the program before a piece of work and after it, and what is printed.
 use Rattle.std.specs.Prelude.{ℕ, List}
+use Rattle.std.specs.Cow.{cow_slice_items}
 use Rattle.flow_cli.specs.declared.answer.Answer.{Answer}
 use Rattle.flow_cli.specs.declared.status.Status.{Status}
 
@@ -17,4 +18,4 @@ pub record Printed : Type 0 where
   pub status : Status
 
 abbrev pub printed_by : Answer → Printed
-printed_by answer = record { text = answer.text.items; status = answer.status }
+printed_by answer = record { text = cow_slice_items answer.text; status = answer.status }

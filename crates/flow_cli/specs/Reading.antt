@@ -1,25 +1,26 @@
 -- What is read under a name: a text, the day of a text, or why there is none.
 use Rattle.std.specs.Prelude.{◌≡◌, ◌⊎◌, ℕ, ◌<◌, ◌≤◌, List, length, codes, Option, Ok, Err}
 use Rattle.flow_outside.specs.Counts.{Rose}
-use Rattle.flow_outside.specs.Held.{Held, Told, HasName}
+use Rattle.flow_outside.specs.Held.{Held, IfTold, HasName}
 use Rattle.flow_outside.specs.Seen.{FilesSeen}
 use Rattle.flow_types.specs.declared.fault.Fault.{Fault}
 use Rattle.flow_types.specs.Valid.{IsScenario}
 use Rattle.flow_types.specs.declared.parts.Parts.{Parts}
 use Rattle.flow_types.specs.Limits.{most_text_bytes}
 use Rattle.scenario_reader.specs.Reading.{scenario_of}
+use Rattle.flow_cli.specs.declared.status.Status.{Status}
 use Rattle.flow_cli.specs.declared.status.Status.TheVariants.{BadScenario, ReadFault, TooLong}
 use Rattle.flow_cli.specs.Faults.{fault_text, too_long_text}
 use Rattle.flow_cli.specs.Outside.{Change, Printed}
 
--- only an answer that a read failed raises the count of faults
-abbrev pub IsQuiet : Change FilesSeen → Printed → Type 0
-IsQuiet files answer = (answer.status ≡ ReadFault → ⊥) → files.now.faults ≡ files.before.faults
+-- the count of faults rises only where the status is that of a read fault
+abbrev pub IsQuiet : Change FilesSeen → Status → Type 0
+IsQuiet files status = (status ≡ ReadFault → ⊥) → files.now.faults ≡ files.before.faults
 
 -- the name is there and holds these bytes, no more than a text may have
 pub record IsTextOf (held : Option Held) (name bytes : List ℕ) : Type 0 where
   pub present : HasName held name
-  pub source : Told held name (λ told. bytes ≡ told)
+  pub source : IfTold held name (λ told. bytes ≡ told)
   pub within : length bytes ≤ most_text_bytes
 
 -- the name is there and holds more bytes than a text may have
@@ -27,7 +28,7 @@ pub record IsTooMany (held : Option Held) (name : List ℕ) (answer : Printed) :
   pub present : HasName held name
   pub ends : answer.status ≡ TooLong
   pub size : ℕ
-  pub source : Told held name (λ told. size ≡ length told)
+  pub source : IfTold held name (λ told. size ≡ length told)
   pub above : most_text_bytes < size
   pub text : answer.text ≡ too_long_text size
 

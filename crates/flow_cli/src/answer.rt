@@ -1,27 +1,39 @@
 //! What a run answers, and how a piece of its work ends early.
-ghost use Rattle.std.specs.Prelude.{◌≡◌, IfOk};
+ghost use Rattle.std.specs.Prelude.{◌≡◌};
+ghost use Rattle.flow_cli.specs.declared.answer.EarlyEnd.TheVariants as early;
+ghost use Rattle.flow_cli.specs.Outside.{printed_by};
 
 use crate::status::Status;
 use flow_types::OutOfMemory;
-use std::alloc::Global;
+use std::borrow::CowSlice;
 
 /// What is printed, and how the run ends.
 #[derive(Drop)]
 pub struct Answer {
-    pub text: Vec<u8>,
+    pub text: CowSlice<'static, u8>,
     pub status: Status,
 }
 
 impl Answer {
-    /// The answer of this text.
-    pub fn of(alloc: Global, text: &[u8], status: Status) -> Result<Self, OutOfMemory>
-        ensures { IfOk result (λ answer. (answer.text.items ≡ text.now)
-            × (answer.status ≡ status)) }
+    /// The answer of a text that was made.
+    pub fn of(text: Vec<u8>, status: Status) -> Self
+        ensures { printed_by result ≡ record { text = text.items; status = status } }
     {
-        Ok(Answer {
-            text: Vec::from_slice(alloc, text)?,
+        Answer {
+            text: CowSlice::Owned(text),
             status,
-        })
+        }
+    }
+
+    /// The answer of a text that is always the same. It takes no memory, so a want of memory can't
+    /// come in the place of a read fault.
+    pub fn fixed(text: &'static [u8], status: Status) -> Self
+        ensures { printed_by result ≡ record { text = text.now; status = status } }
+    {
+        Answer {
+            text: CowSlice::Borrowed(text),
+            status,
+        }
     }
 }
 
@@ -34,10 +46,7 @@ pub enum EarlyEnd {
 }
 
 impl From<OutOfMemory> for EarlyEnd {
-    ghost use Rattle.std.specs.Prelude.{◌≡◌};
-    ghost use Rattle.flow_cli.specs.declared.answer.EarlyEnd.TheVariants as halt;
-
-    ghost from_gives = { λ _ e. e ≡ halt.OutOfMemory };
+    ghost from_gives = { λ _ e. e ≡ early.OutOfMemory };
 
     fn from(_: OutOfMemory) -> Self {
         EarlyEnd::OutOfMemory

@@ -40,7 +40,7 @@ pub fn fault_line(alloc: Global, fault: Fault) -> Result<Vec<u8>, OutOfMemory>
     let mut line = Vec::new(alloc);
     put(&mut line, b"refused")?;
     put_number(alloc, &mut line, u64::from(fault.at))?;
-    put_number(alloc, &mut line, u64::from(fault.field))?;
+    put_number(alloc, &mut line, fault.field as u64)?;
     put_field(&mut line, cause_word(fault.cause))?;
     put(&mut line, b"\n")?;
     Ok(line)

@@ -2,7 +2,7 @@
 ghost use Rattle.std.specs.Prelude.{◌≡◌, IfOk};
 ghost use Rattle.flow_outside.specs.Seen.{AreKept};
 ghost use Rattle.flow_types.specs.Scenario.{parts_of};
-ghost use Rattle.flow_cli.specs.Answers.{IfAnswered};
+ghost use Rattle.flow_cli.specs.Answers.{IfAnswered, work_status};
 ghost use Rattle.flow_cli.specs.Judging.{IsOfJudge, IsOfPlanOf, IsVerdict};
 ghost use Rattle.flow_cli.specs.Outside.{change, printed_by};
 ghost use Rattle.flow_cli.specs.Reading.{IsQuiet};
@@ -28,7 +28,7 @@ pub fn judge_named<F: Files>(
 ) -> Result<Answer, EarlyEnd>
     ensures answered { IfAnswered result
         (IsOfJudge (change (F.seen files.old) (F.seen files.new)) name.now plan.now) }
-    ensures quiet { IfAnswered result (IsQuiet (change (F.seen files.old) (F.seen files.new))) }
+    ensures quiet { IsQuiet (change (F.seen files.old) (F.seen files.new)) (work_status result) }
     ensures kept { AreKept (F.seen files.old) (F.seen files.new) }
 {
     let s = day_of(alloc, files, name)?;
@@ -44,16 +44,13 @@ fn judge_of<F: Files>(
 ) -> Result<Answer, EarlyEnd>
     ensures answered { IfAnswered result
         (IsOfPlanOf (parts_of s.now) (change (F.seen files.old) (F.seen files.new)) name.now) }
-    ensures quiet { IfAnswered result (IsQuiet (change (F.seen files.old) (F.seen files.new))) }
+    ensures quiet { IsQuiet (change (F.seen files.old) (F.seen files.new)) (work_status result) }
     ensures kept { AreKept (F.seen files.old) (F.seen files.new) }
 {
     let text = text_of(alloc, files, name)?;
     match read_plan(alloc, s, &text) {
         Ok(plan) => Ok(judge_plan(alloc, s, &plan)?),
-        Err(Refusal::Text(fault)) => Ok(Answer {
-            text: fault_line(alloc, fault)?,
-            status: Status::BadPlan,
-        }),
+        Err(Refusal::Text(fault)) => Ok(Answer::of(fault_line(alloc, fault)?, Status::BadPlan)),
         Err(Refusal::OutOfMemory) => Err(EarlyEnd::OutOfMemory),
     }
 }
@@ -66,13 +63,10 @@ fn judge_plan(alloc: Global, s: &Scenario, plan: &Plan) -> Result<Answer, OutOfM
     first_broken_rules_are_first();
     let mut loads = Loads::new(alloc, s)?;
     match judge(&mut loads, s, plan) {
-        Verdict::Keeps { cost } => Ok(Answer {
-            text: keeps_line(alloc, cost)?,
-            status: Status::Done,
-        }),
-        Verdict::Breaks(broken) => Ok(Answer {
-            text: broken_line(alloc, s, plan, broken)?,
-            status: Status::Broken,
-        }),
+        Verdict::Keeps { cost } => Ok(Answer::of(keeps_line(alloc, cost)?, Status::Done)),
+        Verdict::Breaks(broken) => Ok(Answer::of(
+            broken_line(alloc, s, plan, broken)?,
+            Status::Broken,
+        )),
     }
 }

@@ -3,7 +3,7 @@ ghost use Rattle.std.specs.Prelude.{◌≡◌, IfOk};
 ghost use Rattle.chain_plan.specs.Chains.{IsDayOfChains};
 ghost use Rattle.flow_outside.specs.Seen.{AreKept};
 ghost use Rattle.flow_types.specs.Scenario.{parts_of};
-ghost use Rattle.flow_cli.specs.Answers.{IfAnswered};
+ghost use Rattle.flow_cli.specs.Answers.{IfAnswered, work_status};
 ghost use Rattle.flow_cli.specs.Outside.{change, printed_by};
 ghost use Rattle.flow_cli.specs.Planning.{IsOfPlan, IsPlannedDay};
 ghost use Rattle.flow_cli.specs.Reading.{IsQuiet};
@@ -21,12 +21,12 @@ use std::alloc::Global;
 pub fn plan_named<F: Files>(alloc: Global, files: &mut F, name: &str) -> Result<Answer, EarlyEnd>
     ensures answered { IfAnswered result
         (IsOfPlan (change (F.seen files.old) (F.seen files.new)) name.now) }
-    ensures quiet { IfAnswered result (IsQuiet (change (F.seen files.old) (F.seen files.new))) }
+    ensures quiet { IsQuiet (change (F.seen files.old) (F.seen files.new)) (work_status result) }
     ensures kept { AreKept (F.seen files.old) (F.seen files.new) }
 {
     let s = day_of(alloc, files, name)?;
     if !is_day_of_chains(&s) {
-        return Ok(Answer::of(alloc, b"refused,notyet\n", Status::BadScenario)?);
+        return Ok(Answer::fixed(b"refused,notyet\n", Status::BadScenario));
     }
     Ok(plan_day(alloc, &s)?)
 }
@@ -37,8 +37,8 @@ fn plan_day(alloc: Global, s: &Scenario) -> Result<Answer, OutOfMemory>
     ensures { IfOk result (λ answer. IsPlannedDay (parts_of s.now) (printed_by answer)) }
 {
     let outcome = plan_chains(alloc, s)?;
-    Ok(Answer {
-        text: plan_report(alloc, s, &outcome, 1)?,
-        status: status_of(cost_of(&outcome), outcome.bound),
-    })
+    Ok(Answer::of(
+        plan_report(alloc, s, &outcome, 1)?,
+        status_of(cost_of(&outcome), outcome.bound),
+    ))
 }

@@ -1,8 +1,8 @@
 //! What is read under a name: a text, or the scenario of a text.
-ghost use Rattle.std.specs.Prelude.{◌≡◌, IfOk, OnOk};
+ghost use Rattle.std.specs.Prelude.{◌≡◌, IfErr, IfOk, OnOk};
 ghost use Rattle.flow_outside.specs.Seen.{AreKept};
 ghost use Rattle.flow_types.specs.Scenario.{parts_of};
-ghost use Rattle.flow_cli.specs.Answers.{IfEarly};
+ghost use Rattle.flow_cli.specs.Answers.{IfEarly, early_status};
 ghost use Rattle.flow_cli.specs.Outside.{change};
 ghost use Rattle.flow_cli.specs.Reading.{IsDayOf, IsQuiet, IsTextOf, IsUnread, IsWithoutDay};
 
@@ -19,21 +19,21 @@ pub fn text_of<F: Files>(alloc: Global, files: &mut F, name: &str) -> Result<Vec
     ensures text { IfOk result (λ text. IsTextOf (F.seen files.old).held name.now text.items) }
     ensures unread { IfEarly result
         (IsUnread (change (F.seen files.old) (F.seen files.new)) name.now) }
-    ensures quiet { IfEarly result (IsQuiet (change (F.seen files.old) (F.seen files.new))) }
+    ensures quiet { IfErr result (λ early.
+        IsQuiet (change (F.seen files.old) (F.seen files.new)) (early_status early)) }
     ensures unfailed { OnOk result ((F.seen files.new).faults ≡ (F.seen files.old).faults) }
     ensures kept { AreKept (F.seen files.old) (F.seen files.new) }
 {
     match load(alloc, files, name, MOST_TEXT_BYTES) {
         Ok(text) => Ok(text),
-        Err(LoadFault::Read) => Err(EarlyEnd::Answered(Answer::of(
-            alloc,
+        Err(LoadFault::Read) => Err(EarlyEnd::Answered(Answer::fixed(
             b"fault,read\n",
             Status::ReadFault,
-        )?)),
-        Err(LoadFault::TooLong(size)) => Err(EarlyEnd::Answered(Answer {
-            text: too_long_line(alloc, size)?,
-            status: Status::TooLong,
-        })),
+        ))),
+        Err(LoadFault::TooLong(size)) => Err(EarlyEnd::Answered(Answer::of(
+            too_long_line(alloc, size)?,
+            Status::TooLong,
+        ))),
         Err(LoadFault::OutOfMemory) => Err(EarlyEnd::OutOfMemory),
     }
 }
@@ -43,17 +43,18 @@ pub fn day_of<F: Files>(alloc: Global, files: &mut F, name: &str) -> Result<Scen
     ensures day { IfOk result (λ s. IsDayOf (F.seen files.old).held name.now (parts_of s)) }
     ensures without { IfEarly result
         (IsWithoutDay (change (F.seen files.old) (F.seen files.new)) name.now) }
-    ensures quiet { IfEarly result (IsQuiet (change (F.seen files.old) (F.seen files.new))) }
+    ensures quiet { IfErr result (λ early.
+        IsQuiet (change (F.seen files.old) (F.seen files.new)) (early_status early)) }
     ensures unfailed { OnOk result ((F.seen files.new).faults ≡ (F.seen files.old).faults) }
     ensures kept { AreKept (F.seen files.old) (F.seen files.new) }
 {
     let text = text_of(alloc, files, name)?;
     match read_scenario(alloc, &text) {
         Ok(s) => Ok(s),
-        Err(Refusal::Text(fault)) => Err(EarlyEnd::Answered(Answer {
-            text: fault_line(alloc, fault)?,
-            status: Status::BadScenario,
-        })),
+        Err(Refusal::Text(fault)) => Err(EarlyEnd::Answered(Answer::of(
+            fault_line(alloc, fault)?,
+            Status::BadScenario,
+        ))),
         Err(Refusal::OutOfMemory) => Err(EarlyEnd::OutOfMemory),
     }
 }

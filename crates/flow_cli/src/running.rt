@@ -1,9 +1,9 @@
 //! A run of the program, from its words to its status.
-ghost use Rattle.std.specs.Prelude.{◌≡◌, ◌≤◌, IfOk, map, string_bytes};
+ghost use Rattle.std.specs.Prelude.{◌≡◌, ◌≤◌, IfOk, OnErr, map, string_bytes};
 ghost use Rattle.flow_outside.specs.Counts.{Rose};
 ghost use Rattle.flow_outside.specs.Seen.{AreKept};
 ghost use Rattle.flow_cli.specs.Answer.{Ends, IsAnswer};
-ghost use Rattle.flow_cli.specs.Answers.{IfAnswered};
+ghost use Rattle.flow_cli.specs.Answers.{IfAnswered, work_status};
 ghost use Rattle.flow_cli.specs.Outside.{change, printed_by};
 ghost use Rattle.flow_cli.specs.Reading.{IsQuiet};
 ghost use Rattle.flow_cli.specs.Words.{asked};
@@ -36,8 +36,9 @@ trial N
 /// `ReadFault` where a name isn't there or a call fails, `TooLong` for a longer text, `BadScenario`
 /// for a text that is no scenario or a day that isn't planned yet, `BadPlan` for a text that is no
 /// plan, `WriteFault` where the answer isn't written to its end, and `OutOfMemory` where there is
-/// no memory; then nothing is written. What the files hold stays as it was. It takes memory for a
-/// text, the scenario, the plan with its loads, and the answer.
+/// no memory; then nothing is written. What the files hold stays as it was, and so does their count
+/// of faults where the answer isn't that a read failed. It takes memory for a text, the scenario,
+/// the plan with its loads, and the answer.
 pub fn run<F: Files, S: Sink>(alloc: Global, words: &[String], files: &mut F, out: &mut S) -> Status
     ensures answered { Ends (change (F.seen files.old) (F.seen files.new))
         (change (S.seen out.old) (S.seen out.new)) (map string_bytes words.now) result }
@@ -66,7 +67,8 @@ fn answer_to<F: Files>(
         (λ answer. IsAnswer (change (F.seen files.old) (F.seen files.new))
         (asked (map string_bytes words.now)) (printed_by answer)) }
     ensures quiet { IfOk result
-        (λ answer. IsQuiet (change (F.seen files.old) (F.seen files.new)) (printed_by answer)) }
+        (λ answer. IsQuiet (change (F.seen files.old) (F.seen files.new)) answer.status) }
+    ensures unfailed { OnErr result ((F.seen files.new).faults ≡ (F.seen files.old).faults) }
     ensures kept { AreKept (F.seen files.old) (F.seen files.new) }
 {
     match work(alloc, words, files) {
@@ -80,12 +82,12 @@ fn answer_to<F: Files>(
 fn work<F: Files>(alloc: Global, words: &[String], files: &mut F) -> Result<Answer, EarlyEnd>
     ensures answered { IfAnswered result (IsAnswer (change (F.seen files.old) (F.seen files.new))
         (asked (map string_bytes words.now))) }
-    ensures quiet { IfAnswered result (IsQuiet (change (F.seen files.old) (F.seen files.new))) }
+    ensures quiet { IsQuiet (change (F.seen files.old) (F.seen files.new)) (work_status result) }
     ensures kept { AreKept (F.seen files.old) (F.seen files.new) }
 {
     match command_of(words) {
         Some(Command::Plan { name }) => plan_named(alloc, files, name),
         Some(Command::Judge { name, plan }) => judge_named(alloc, files, name, plan),
-        None => Ok(Answer::of(alloc, USAGE, Status::Usage)?),
+        None => Ok(Answer::fixed(USAGE, Status::Usage)),
     }
 }

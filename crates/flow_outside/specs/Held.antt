@@ -13,9 +13,9 @@ abbrev pub bytes_told : Option Held → List ℕ → Option (List ℕ)
 bytes_told None name = None
 bytes_told (Some held) name = get held name
 
--- what is said of the bytes under a name, where they are told and the name is there
-abbrev pub Told : Option Held → List ℕ → (List ℕ → Type 0) → Type 0
-Told held name P = (bytes : List ℕ) → bytes_told held name ≡ Some bytes → P bytes
+-- a fact of the bytes under a name, where they are told and the name is there
+abbrev pub IfTold : Option Held → List ℕ → (List ℕ → Type 0) → Type 0
+IfTold held name P = (bytes : List ℕ) → bytes_told held name ≡ Some bytes → P bytes
 
 -- the name is there, or nothing is told
 abbrev pub HasName : Option Held → List ℕ → Type 0

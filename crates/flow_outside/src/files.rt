@@ -1,7 +1,7 @@
 //! Files, by name.
 ghost use Rattle.std.specs.Prelude.{◌≡◌, ◌≤◌, length, IfOk, OnOk, OnErr, IsErrOf};
 ghost use Rattle.flow_outside.specs.Counts.{Rose};
-ghost use Rattle.flow_outside.specs.Held.{Told, HasName, ReadsPart, stored, KeepsOthers};
+ghost use Rattle.flow_outside.specs.Held.{IfTold, HasName, ReadsPart, stored, KeepsOthers};
 ghost use Rattle.flow_outside.specs.Seen.{AreKept, FilesSeen};
 
 /// A call on files or on an output failed.
@@ -30,7 +30,7 @@ pub trait Files {
     /// that they don't have the name, and else only where `faults` rose; after an answer it stays.
     fn size(&mut self, name: &str) -> Result<u64, Failed>
         ensures length { IfOk result (λ n.
-            Told (seen self.old).held name.now (λ bytes. n ≡ length bytes)) }
+            IfTold (seen self.old).held name.now (λ bytes. n ≡ length bytes)) }
         ensures present { OnOk result (HasName (seen self.old).held name.now) }
         ensures unfailed { OnOk result ((seen self.new).faults ≡ (seen self.old).faults) }
         ensures failed { OnErr result
@@ -44,7 +44,7 @@ pub trait Files {
     fn read_at(&mut self, name: &str, place: u64, into: &mut [u8]) -> Result<usize, Failed>
         ensures within { IfOk result (λ n. n ≤ length into.old) }
         ensures part { IfOk result (λ n.
-            Told (seen self.old).held name.now
+            IfTold (seen self.old).held name.now
             (λ bytes. ReadsPart bytes place n into.old into.new)) }
         ensures present { OnOk result (HasName (seen self.old).held name.now) }
         ensures unfailed { OnOk result ((seen self.new).faults ≡ (seen self.old).faults) }

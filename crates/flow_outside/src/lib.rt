@@ -55,6 +55,3 @@ pub use memory_files::MemoryFiles;
 pub use memory_sink::MemorySink;
 pub use sink::Sink;
 pub use writing::{WriteFault, put_all};
-
-#[cfg(test)]
-mod tests;

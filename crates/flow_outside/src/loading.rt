@@ -1,7 +1,7 @@
 //! A whole text, read from files.
 ghost use Rattle.std.specs.Prelude.{◌≡◌, ◌<◌, ◌≤◌, ◌↔◌, length, take, IfOk, OnOk, OnErr, vec_len};
 ghost use Rattle.flow_outside.specs.Counts.{Rose};
-ghost use Rattle.flow_outside.specs.Held.{Told, HasName};
+ghost use Rattle.flow_outside.specs.Held.{IfTold, HasName};
 ghost use Rattle.flow_outside.specs.Loads.{OnRead, UnlessRead, IsTooLong, IfTooLong};
 ghost use Rattle.flow_outside.specs.Seen.{AreKept};
 
@@ -25,10 +25,11 @@ pub enum LoadFault {
 
 /// Loads all that the name holds, of at most `limit` bytes.
 ///
-/// `Read` comes where the files' count of faults rose in this call, and where the files tell that
-/// they don't have the name. `TooLong` comes where the name holds more bytes than the limit, and
-/// says how many. After any other answer than `Read` the count stays. What the files hold stays as
-/// it was. It takes memory for as many bytes as the name holds, and none where they are too many.
+/// `Read` comes only where the files' count of faults rose in this call or stands at its last
+/// value, or the files tell that they don't have the name. `TooLong` comes where the name holds
+/// more bytes than the limit, and says how many. After any other answer than `Read` the count
+/// stays. What the files hold stays as it was. It takes memory for as many bytes as the name holds,
+/// and none where they are too many.
 pub fn load<F: Files>(
     alloc: Global,
     files: &mut F,
@@ -36,14 +37,14 @@ pub fn load<F: Files>(
     limit: u64,
 ) -> Result<Vec<u8>, LoadFault>
     ensures text { IfOk result (λ text.
-        Told (F.seen files.old).held name.now (λ bytes. text.items ≡ bytes)) }
+        IfTold (F.seen files.old).held name.now (λ bytes. text.items ≡ bytes)) }
     ensures within { IfOk result (λ text. vec_len text ≤ limit) }
 
     ensures too_long { UnlessRead result
-        (Told (F.seen files.old).held name.now
+        (IfTold (F.seen files.old).held name.now
         (λ bytes. IsTooLong result ↔ (limit < length bytes))) }
     ensures size { IfTooLong result (λ n.
-        Told (F.seen files.old).held name.now (λ bytes. n ≡ length bytes)) }
+        IfTold (F.seen files.old).held name.now (λ bytes. n ≡ length bytes)) }
     ensures above { IfTooLong result (λ n. limit < n) }
 
     // A name that the files tell they don't have is answered by `Read`.
@@ -75,7 +76,7 @@ pub fn load<F: Files>(
 /// many bytes were read.
 fn fill<F: Files>(files: &mut F, name: &str, buffer: &mut [u8]) -> Result<usize, Failed>
     ensures within { IfOk result (λ n. n ≤ length buffer.old) }
-    ensures text { IfOk result (λ n. Told (F.seen files.old).held name.now
+    ensures text { IfOk result (λ n. IfTold (F.seen files.old).held name.now
         (λ bytes. length bytes ≡ length buffer.old → take n buffer.new ≡ bytes)) }
     ensures unfailed { OnOk result ((F.seen files.new).faults ≡ (F.seen files.old).faults) }
     ensures failed { OnErr result

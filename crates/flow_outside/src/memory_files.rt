@@ -3,7 +3,7 @@ ghost use Rattle.std.specs.Prelude.{◌≡◌, ◌↔◌, ◌-◌, length, min, 
 ghost use Rattle.std.specs.Result.{result_ok};
 ghost use Rattle.std.specs.FinMap as map;
 ghost use Rattle.std.specs.Option.{option_copied};
-ghost use Rattle.flow_outside.specs.Held.{Told, ReadsPart};
+ghost use Rattle.flow_outside.specs.Held.{IfTold, ReadsPart};
 
 use crate::schedule::{Schedule, one_more};
 use crate::{Failed, Files, StoreFault};
@@ -143,7 +143,7 @@ impl Files for MemoryFiles {
 
     fn read_at(&mut self, name: &str, place: u64, into: &mut [u8]) -> Result<usize, Failed>
         ensures answer { result_ok result ≡ count_read self.old name.now place (length into.old) }
-        ensures part { IfOk result (λ n. Told (Some self.old.held) name.now
+        ensures part { IfOk result (λ n. IfTold (Some self.old.held) name.now
             (λ bytes. ReadsPart bytes place n into.old into.new)) }
         ensures after { self.new ≡ after_read self.old }
     {

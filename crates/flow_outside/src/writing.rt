@@ -11,9 +11,9 @@ use thiserror::Error;
 #[error("the text could not be written")]
 pub struct WriteFault;
 
-/// Appends all the bytes. `WriteFault` comes only where the output's count of faults rose; a part
-/// from the front of the bytes was then appended, and not all of them. After `Ok` the count stays.
-/// It takes no memory.
+/// Appends all the bytes. `WriteFault` comes only where the output's count of faults rose, or
+/// stands at its last value; a part from the front of the bytes was then appended, and not all of
+/// them. After `Ok` the count stays. It takes no memory.
 #[tactic(auto, using(crate::proofs::Pieces::front_more))]
 pub fn put_all<S: Sink>(sink: &mut S, bytes: &[u8]) -> Result<(), WriteFault>
     ensures all { OnOk result

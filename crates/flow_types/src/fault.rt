@@ -47,6 +47,6 @@ pub struct Fault {
     /// The number of the record, from 1.
     pub at: u32,
     /// The number of the field in it, from 1.
-    pub field: u32,
+    pub field: usize,
     pub cause: Cause,
 }

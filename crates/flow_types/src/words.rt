@@ -1,9 +1,10 @@
 //! Numbers and names as texts spell them.
-ghost use Rattle.std.specs.Prelude.{◌≡◌, IsTrue};
+ghost use Rattle.std.specs.Prelude.{◌≡◌, ◌≤◌, None, Some, if◌then◌else◌, length};
 ghost use Rattle.std.specs.List.{list_all};
 ghost use Rattle.std.specs.Str.{all_ascii_digits};
 ghost use Rattle.std.specs.Str.Parse.{digits_value};
-ghost use Rattle.flow_types.specs.Words.{is_name, is_name_byte, is_number, number_of};
+ghost use Rattle.flow_types.specs.Limits.{most_digits};
+ghost use Rattle.flow_types.specs.Words.{is_name, is_name_byte, number_of};
 
 use crate::limits::{MOST_DIGITS, MOST_NAME_BYTES};
 
@@ -11,11 +12,10 @@ use crate::limits::{MOST_DIGITS, MOST_NAME_BYTES};
 pub fn parse_number(bytes: &[u8]) -> Option<u64>
     ensures { result ≡ number_of bytes.now }
 {
-    if is_number(bytes) {
-        Some(spelled_number(bytes))
-    } else {
-        None
+    if bytes.is_empty() || bytes.len() > MOST_DIGITS {
+        return None;
     }
+    spelled_number(bytes)
 }
 
 /// Whether the bytes are 1 to 32 ASCII letters, digits, `-` and `_`.
@@ -32,30 +32,20 @@ fn are_name_bytes(bytes: &[u8]) -> bool
     bytes.iter().all(|byte| is_name_byte(*byte))
 }
 
-// Whether the bytes are 1 to 18 digits.
-fn is_number(bytes: &[u8]) -> bool
-    ensures { result ≡ is_number bytes.now }
-{
-    !bytes.is_empty() && bytes.len() <= MOST_DIGITS && are_digits(bytes)
-}
-
-// Whether the bytes are all digits.
-fn are_digits(bytes: &[u8]) -> bool
-    ensures { result ≡ all_ascii_digits bytes.now }
-{
-    bytes.iter().all(|byte| byte.is_ascii_digit())
-}
-
-// The number that the digits spell.
-fn spelled_number(bytes: &[u8]) -> u64
-    requires { IsTrue (is_number bytes.now) }
-    ensures { result ≡ digits_value 10 bytes.now }
+// The number that the bytes spell, if they are all digits.
+fn spelled_number(bytes: &[u8]) -> Option<u64>
+    requires { length bytes.now ≤ most_digits }
+    ensures { result ≡ (if all_ascii_digits bytes.now then Some (digits_value 10 bytes.now)
+        else None) }
 {
     let mut value = 0u64;
     for byte in bytes {
+        if !byte.is_ascii_digit() {
+            return None;
+        }
         value = 10 * value + u64::from(*byte - b'0');
     }
-    value
+    Some(value)
 }
 
 // Whether the byte may stand in a name.

@@ -17,7 +17,7 @@ use text_records::{FieldFault, RecordError, ends_after, known_at, name_in, numbe
 const MOST_FIELDS: usize = 2 + 2 * MOST_NODES;
 
 // The node, if the name in the field of this number is that of one.
-fn node_known(number: u32, node: Option<u16>) -> Result<u16, FieldFault>
+fn node_known(number: usize, node: Option<u16>) -> Result<u16, FieldFault>
     ensures { Finds (λ k. k) result (known_at number node) }
 {
     node.ok_or(FieldFault {
@@ -47,7 +47,7 @@ fn stop_in(
     scenario: &NamedScenario,
     nodes: &[u32],
     row: &ByteRecord,
-    number: u32,
+    number: usize,
 ) -> Result<Stop, FieldFault>
     requires nodes { length nodes.now ≤ most_nodes }
     requires first { 1 ≤ number }
@@ -78,7 +78,7 @@ fn stops_in(
     let mut stops = Trip::empty(alloc);
     let mut number = 3;
     'pairs: while number <= row.len().min(MOST_FIELDS) {
-        stops.add(stop_in(scenario, nodes, row, number as u32)?)?;
+        stops.add(stop_in(scenario, nodes, row, number)?)?;
         number += 2;
     }
     Ok(stops)
@@ -98,6 +98,6 @@ pub fn trip_of(
 {
     let flight = flight_in(scenario, trips, row)?;
     let stops = stops_in(alloc, scenario, scenario.nodes_at(flight), row)?;
-    ends_after(row, MOST_FIELDS as u32)?;
+    ends_after(row, MOST_FIELDS)?;
     Ok((flight, stops))
 }

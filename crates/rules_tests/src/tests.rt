@@ -11,7 +11,7 @@ use plan_rules::{
 };
 use std::alloc::Global;
 use std::test::Fail;
-use worked_days::{plan_with, trip_at, two_flights};
+use worked_days::{plan_with, there_and_back, trip_at, two_flights};
 
 // Loads of the day, after a plan was judged whose second flight departs a period late.
 fn loads_of(alloc: Global, s: &Scenario) -> Result<Loads, OutOfMemory>
@@ -65,5 +65,15 @@ fn a_day_is_judged_and_planned(rt: HostRuntime) -> Result<(), Fail> {
     trips_are_counted_once();
     plans_that_break_nothing_are_feasible();
     first_broken_rules_are_first();
+    Ok(())
+}
+
+#[test]
+fn days_are_made(rt: HostRuntime) -> Result<(), Fail> {
+    let alloc = rt.alloc();
+    assert_eq!(rt; two_flights(alloc, 1, 9, 9)?.flights().len(), 2);
+    assert_eq!(rt; there_and_back(alloc, 1, 2)?.connections().len(), 1);
+    let plan = plan_with(alloc, &trip_at(1, 3))?;
+    assert_eq!(rt; plan.copy(alloc)?.items().len(), 2);
     Ok(())
 }

@@ -1,7 +1,8 @@
-//! Tests of whole runs over files and an output in memory, for what no answer of the built program
-//! shows: a device that fails in mid-stream, and what stands written then.
+//! Tests of files and outputs, and of whole runs over them, for what no clause and no answer of the
+//! built program shows: a device that fails in mid-stream and what stands written then, what the
+//! system's files do, and that calls succeed with ample memory.
 //!
-//! They stand above `flow_cli`, so that it isn't proved again with them:
+//! They stand above `flow_outside` and `flow_cli`, so that neither is proved again with them:
 //!
 //!     let mut files = MemoryFiles::new(alloc);
 //!     files.add("day.csv", TWO_FLIGHTS)?;
@@ -12,4 +13,6 @@
 #![tactic(auto)]
 
 #[cfg(test)]
-mod tests;
+mod outside;
+#[cfg(test)]
+mod runs;

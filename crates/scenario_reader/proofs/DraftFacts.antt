@@ -13,6 +13,7 @@ use Rattle.std.proofs.lemmas.Option.{same_Some}
 use Rattle.flow_types.specs.Routes.{is_airport, is_sector}
 use Rattle.flow_types.specs.Valid.{is_cost, IsOtherConnection, IsPlace, IsTable, value_count}
 use Rattle.flow_types.specs.declared.day.Day.{Day}
+use Rattle.flow_types.specs.Limits.{most_capacity}
 use Rattle.flow_types.specs.Lists.{filled}
 use Rattle.flow_types.specs.declared.flight.Connection.{Connection}
 use Rattle.flow_types.specs.declared.flight.Cost.{Cost}
@@ -24,7 +25,7 @@ use Rattle.flow_types.specs.declared.place.PlaceKind.{PlaceKind}
 use Rattle.flow_types.specs.declared.place.PlaceKind.TheVariants.{Airport, Sector}
 use Rattle.flow_types.specs.Capacities.{has_kind}
 use Rattle.flow_types.specs.declared.place.Place.{Place}
-use Rattle.scenario_reader.specs.Capacities.{caps_for, Reaches, with_change, with_change_of}
+use Rattle.scenario_reader.specs.Capacities.{caps_for, changed_caps, Reaches, with_change, with_change_of}
 use Rattle.scenario_reader.specs.Change.{changed_at}
 use Rattle.scenario_reader.specs.Connections.{are_connected, is_same_place}
 use Rattle.scenario_reader.specs.Drafts.{IsDraft}
@@ -454,42 +455,47 @@ filled_length from (suc count) value caps =
     length-set (filled from count value caps) (from + count) value
     ∙ filled_length from count value caps
 
-filled_few : (from count value : ℕ) (caps : List ℕ) → value ≤ 1000000 → All (λ c. c ≤ 1000000) caps
-    → All (λ c. c ≤ 1000000) (filled from count value caps)
+filled_few : (from count value : ℕ) (caps : List ℕ) → value ≤ most_capacity → All (λ c. c ≤ most_capacity) caps
+    → All (λ c. c ≤ most_capacity) (filled from count value caps)
 filled_few from zero value caps few all = all
 filled_few from (suc count) value caps few all =
-    All-set (λ c. c ≤ 1000000) (filled from count value caps) (from + count) value few
+    All-set (λ c. c ≤ most_capacity) (filled from count value caps) (from + count) value few
     (filled_few from count value caps few all)
 
+caps_changed : (change : CapChange) (caps : List ℕ) → change.value ≤ most_capacity
+    → All (λ c. c ≤ most_capacity) caps → All (λ c. c ≤ most_capacity) (changed_caps change caps)
+caps_changed change caps few all =
+    filled_few change.first (change.last + 1 - change.first) change.value caps few all
+
+count_unchanged : (change : CapChange) (caps : List ℕ)
+    → length (changed_caps change caps) ≡ length caps
+count_unchanged change caps =
+    filled_length change.first (change.last + 1 - change.first) change.value caps
+
+-- the capacities of departures, or of a sector, change
+first_changed : (periods : ℕ) (change : CapChange) (place : Place)
+    → change.value ≤ most_capacity → IsPlace periods place
+    → IsPlace periods (record place { first = changed_caps change place.first })
+first_changed periods change place few valid = record {
+  name = valid.name;
+  first_count = count_unchanged change place.first ∙ valid.first_count;
+  second_count = valid.second_count;
+  first = caps_changed change place.first few valid.first;
+  second = valid.second;
+}
+
 place_changed : (periods : ℕ) (change : CapChange) (kind : CapKind) (place : Place)
-    → change.value ≤ 1000000 → IsPlace periods place
+    → change.value ≤ most_capacity → IsPlace periods place
     → IsPlace periods (with_change_of kind change place)
-place_changed periods change kind.Dep place few valid = record {
-  name = valid.name;
-  first_count = filled_length change.first (change.last + 1 - change.first) change.value place.first
-      ∙ valid.first_count;
-  second_count = valid.second_count;
-  first = filled_few change.first
-      (change.last + 1 - change.first) change.value place.first few valid.first;
-  second = valid.second;
-}
-place_changed periods change kind.Sector place few valid = record {
-  name = valid.name;
-  first_count = filled_length change.first (change.last + 1 - change.first) change.value place.first
-      ∙ valid.first_count;
-  second_count = valid.second_count;
-  first = filled_few change.first
-      (change.last + 1 - change.first) change.value place.first few valid.first;
-  second = valid.second;
-}
+place_changed periods change kind.Dep place few valid = first_changed periods change place few valid
+place_changed periods change kind.Sector place few valid =
+    first_changed periods change place few valid
 place_changed periods change kind.Arr place few valid = record {
   name = valid.name;
   first_count = valid.first_count;
-  second_count = filled_length change.first
-      (change.last + 1 - change.first) change.value place.second ∙ valid.second_count;
+  second_count = count_unchanged change place.second ∙ valid.second_count;
   first = valid.first;
-  second = filled_few change.first
-      (change.last + 1 - change.first) change.value place.second few valid.second;
+  second = caps_changed change place.second few valid.second;
 }
 
 pub name_unchanged : (change : CapChange) (kind : CapKind) (place : Place)

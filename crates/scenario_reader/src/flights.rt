@@ -45,7 +45,7 @@ pub fn flight_name_of<'a>(
 }
 
 // The place, which has to be an airport.
-fn airport_at(number: u32, places: &[Place], place: Option<u32>) -> Result<u32, FieldFault>
+fn airport_at(number: usize, places: &[Place], place: Option<u32>) -> Result<u32, FieldFault>
     ensures found { Finds (λ place. place) result (airport_at number places.now place) }
     ensures airport { IfOk result (λ place. IsTrue (is_airport (slice_get places.now place))) }
 {

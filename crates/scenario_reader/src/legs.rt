@@ -64,7 +64,7 @@ fn is_own(places: &[Place], flight: &FlightDraft, place: u32) -> bool
 
 // The place, which has to be one that the flight may use.
 fn own_at(
-    number: u32,
+    number: usize,
     places: &[Place],
     flight: &FlightDraft,
     place: Option<u32>,
@@ -83,7 +83,7 @@ fn own_at(
 
 #[tactic(auto, unfolding(crate::specs::Legs::own_in))]
 fn own_in(
-    number: u32,
+    number: usize,
     places: &NamedList<Place>,
     flight: &FlightDraft,
     row: &ByteRecord,

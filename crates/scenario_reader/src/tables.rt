@@ -37,7 +37,7 @@ fn signed(negative: bool, n: u64) -> i64
 }
 
 // The number with its sign, which has to be within its limits.
-fn value_at(number: u32, negative: bool, size: Option<u64>) -> Result<i64, FieldFault>
+fn value_at(number: usize, negative: bool, size: Option<u64>) -> Result<i64, FieldFault>
     ensures found { Finds (λ value. value) result (value_at number negative size) }
     ensures valid { IfOk result IsValue }
 {
@@ -55,7 +55,7 @@ fn value_at(number: u32, negative: bool, size: Option<u64>) -> Result<i64, Field
 }
 
 // The value that the bytes of a field spell.
-fn value_of(number: u32, bytes: &[u8]) -> Result<i64, FieldFault>
+fn value_of(number: usize, bytes: &[u8]) -> Result<i64, FieldFault>
     ensures found { Finds (λ value. value) result (value_of number bytes.now) }
     ensures valid { IfOk result IsValue }
 {
@@ -66,12 +66,12 @@ fn value_of(number: u32, bytes: &[u8]) -> Result<i64, FieldFault>
 }
 
 // The value in the field of this number, of which the last may be the 514th.
-fn value_in(number: u32, bytes: &[u8]) -> Result<i64, FieldFault>
+fn value_in(number: usize, bytes: &[u8]) -> Result<i64, FieldFault>
     ensures found { Finds (λ value. value) result (value_in number bytes.now) }
     ensures valid { IfOk result IsValue }
     ensures within { OnOk result (number ≤ most_values + 2) }
 {
-    if number as usize > MOST_VALUES + 2 {
+    if number > MOST_VALUES + 2 {
         return Err(FieldFault {
             field: number,
             cause: Cause::ExtraField,
@@ -89,7 +89,7 @@ fn values_in(alloc: Global, row: &ByteRecord) -> Result<Values, RecordError>
 {
     let mut values = Sequence::empty(alloc);
     for at in 2..row.len().min(MOST_VALUES + 3) {
-        let number = at as u32 + 1;
+        let number = at + 1;
         values.add(value_in(number, field_in(row, number)?)?)?;
     }
     Ok(values)
@@ -161,7 +161,7 @@ fn untabled_in<'a>(
 // The table, which has so many values at the least.
 #[tactic(auto, unfolding(crate::specs::Tables::table_in))]
 fn table_in(
-    number: u32,
+    number: usize,
     least: usize,
     tables: &NamedList<CostTable>,
     row: &ByteRecord,

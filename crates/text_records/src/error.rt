@@ -11,7 +11,7 @@ use std::alloc::{AllocError, AllocFailed};
 #[derive(Clone, Copy, Debug, PartialEq, Eq)]
 pub struct FieldFault {
     /// The number of the field, from 1.
-    pub field: u32,
+    pub field: usize,
     pub cause: Cause,
 }
 

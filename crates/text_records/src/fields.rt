@@ -10,11 +10,11 @@ use csv::ByteRecord;
 use flow_types::{Cause, is_name, parse_number};
 
 /// The field of this number, from 1.
-pub fn field_in(row: &ByteRecord, number: u32) -> Result<&[u8], FieldFault>
+pub fn field_in(row: &ByteRecord, number: usize) -> Result<&[u8], FieldFault>
     requires { 1 ≤ number }
     ensures { Finds (λ bytes. bytes.now) result (field_in (fields_of row.now) number) }
 {
-    match row.get(number as usize - 1) {
+    match row.get(number - 1) {
         Some(bytes) => Ok(bytes),
         None => Err(FieldFault {
             field: number,
@@ -24,11 +24,10 @@ pub fn field_in(row: &ByteRecord, number: u32) -> Result<&[u8], FieldFault>
 }
 
 /// Whether the record has no field past this one.
-pub fn ends_after(row: &ByteRecord, last: u32) -> Result<(), FieldFault>
-    requires { last ≤ 1000 }
+pub fn ends_after(row: &ByteRecord, last: usize) -> Result<(), FieldFault>
     ensures { Finds (λ unit. unit) result (ends_after (fields_of row.now) last) }
 {
-    if row.len() > last as usize {
+    if row.len() > last {
         return Err(FieldFault {
             field: last + 1,
             cause: Cause::ExtraField,
@@ -39,7 +38,7 @@ pub fn ends_after(row: &ByteRecord, last: u32) -> Result<(), FieldFault>
 
 /// The field of this number, from 1, which has to be a name.
 #[tactic(auto, unfolding(crate::specs::Fields::name_in))]
-pub fn name_in(row: &ByteRecord, number: u32) -> Result<&[u8], FieldFault>
+pub fn name_in(row: &ByteRecord, number: usize) -> Result<&[u8], FieldFault>
     requires { 1 ≤ number }
     ensures found { Finds (λ bytes. bytes.now) result (name_in (fields_of row.now) number) }
     ensures named { IfOk result (λ bytes. IsTrue (is_name bytes.now)) }
@@ -56,7 +55,7 @@ pub fn name_in(row: &ByteRecord, number: u32) -> Result<&[u8], FieldFault>
 
 /// The number in the field of this number, from 1, which has to be within these limits.
 #[tactic(auto, unfolding(crate::specs::Fields::number_in))]
-pub fn number_in(row: &ByteRecord, number: u32, low: u64, high: u64) -> Result<u64, FieldFault>
+pub fn number_in(row: &ByteRecord, number: usize, low: u64, high: u64) -> Result<u64, FieldFault>
     requires { 1 ≤ number }
     ensures found { Finds (λ value. value) result (number_in (fields_of row.now) number low high) }
     ensures low { IfOk result (λ value. low ≤ value) }

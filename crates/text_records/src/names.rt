@@ -71,7 +71,7 @@ impl NameIndex {
 }
 
 /// The position, where there is one, of what the field of this number names.
-pub fn known_at(number: u32, position: Option<u32>) -> Result<u32, FieldFault>
+pub fn known_at(number: usize, position: Option<u32>) -> Result<u32, FieldFault>
     ensures { Finds (λ k. k) result (known_at number position) }
 {
     position.ok_or(FieldFault {
@@ -82,7 +82,7 @@ pub fn known_at(number: u32, position: Option<u32>) -> Result<u32, FieldFault>
 
 /// The position of the name in the field of this number, which has to be one of these.
 #[tactic(auto, unfolding(crate::specs::Names::known_in))]
-pub fn known_in(number: u32, names: &NameIndex, row: &ByteRecord) -> Result<u32, FieldFault>
+pub fn known_in(number: usize, names: &NameIndex, row: &ByteRecord) -> Result<u32, FieldFault>
     requires { 1 ≤ number }
     ensures { Finds (λ k. k) result (known_in number names.now (fields_of row.now)) }
 {

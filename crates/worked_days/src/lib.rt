@@ -17,6 +17,3 @@ mod texts;
 
 pub use days::{plan_with, there_and_back, trip_at, two_flights};
 pub use texts::{ON_TIME, THERE_AND_BACK, TWO_FLIGHTS};
-
-#[cfg(test)]
-mod tests;

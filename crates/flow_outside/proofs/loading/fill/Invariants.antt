@@ -1,5 +1,5 @@
 use Rattle.std.proofs.Common.{◌≡◌, ◌-◌, ◌≤◌, length, take}
-use Rattle.flow_outside.specs.Held.{Told}
+use Rattle.flow_outside.specs.Held.{IfTold}
 use Rattle.flow_outside.proofs.loading.fill.Given as goal
 
 -- the front of the buffer is the front of what the name holds
@@ -9,7 +9,7 @@ invariant-loop-taken g l =
     let now = g.F.Files.seen l.files in
     record {
       within : l.taken ≤ length l.buffer;
-      read : Told before.held l.name (λ bytes. take l.taken l.buffer ≡ take l.taken bytes);
+      read : IfTold before.held l.name (λ bytes. take l.taken l.buffer ≡ take l.taken bytes);
       faults : now.faults ≡ before.faults;
       held : now.held ≡ before.held;
       stores : now.store_faults ≡ before.store_faults;

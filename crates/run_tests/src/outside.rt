@@ -4,8 +4,9 @@
 ghost use Rattle.std.specs.Prelude.{◌≡◌, None};
 ghost use Rattle.flow_outside.specs.Counts.{count_after};
 
-use super::*;
-use crate::schedule::one_more;
+use flow_outside::{
+    Failed, Files, HostFiles, LoadFault, MemoryFiles, MemorySink, StoreFault, load, put_all,
+};
 use std::test::Fail;
 use std::{env, fs, process};
 
@@ -26,7 +27,7 @@ impl Dripping {
         ensures count { self.new.faults ≡ count_after result self.old.faults }
     {
         if self.works == 0 {
-            self.faults = one_more(self.faults);
+            self.faults = self.faults.saturating_add(1);
             return Err(Failed);
         }
         self.works -= 1;
