@@ -26,10 +26,10 @@ pub enum LoadFault {
 /// Loads all that the name holds, of at most `limit` bytes.
 ///
 /// `Read` comes only where the files' count of faults rose in this call or stands at its last
-/// value, or the files tell that they don't have the name. `TooLong` comes where the name holds
-/// more bytes than the limit, and says how many. After any other answer than `Read` the count
-/// stays. What the files hold stays as it was. It takes memory for as many bytes as the name holds,
-/// and none where they are too many.
+/// value, or the files tell that they don't have the name, and always in the last case. `TooLong`
+/// comes where the name holds more bytes than the limit, and says how many. After any other answer
+/// than `Read` the count stays. What the files hold stays as it was. It takes memory for as many
+/// bytes as the name holds, and none where they are too many.
 pub fn load<F: Files>(
     alloc: Global,
     files: &mut F,

@@ -455,7 +455,8 @@ filled_length from (suc count) value caps =
     length-set (filled from count value caps) (from + count) value
     ∙ filled_length from count value caps
 
-filled_few : (from count value : ℕ) (caps : List ℕ) → value ≤ most_capacity → All (λ c. c ≤ most_capacity) caps
+filled_few : (from count value : ℕ) (caps : List ℕ) → value ≤ most_capacity
+    → All (λ c. c ≤ most_capacity) caps
     → All (λ c. c ≤ most_capacity) (filled from count value caps)
 filled_few from zero value caps few all = all
 filled_few from (suc count) value caps few all =

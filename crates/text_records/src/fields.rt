@@ -10,6 +10,7 @@ use csv::ByteRecord;
 use flow_types::{Cause, is_name, parse_number};
 
 /// The field of this number, from 1.
+#[tactic(auto, using(crate::proofs::FieldFacts::field_at_is))]
 pub fn field_in(row: &ByteRecord, number: usize) -> Result<&[u8], FieldFault>
     requires { 1 ≤ number }
     ensures { Finds (λ bytes. bytes.now) result (field_in (fields_of row.now) number) }

@@ -47,6 +47,7 @@ impl<'a> Rows<'a> {
     /// Puts the next record into `row`, if there is one. It takes memory for the record: its bytes,
     /// and 8 bytes a field, in blocks that grow by doubling. Where there is none, nothing is left,
     /// and what `row` holds isn't said.
+    #[tactic(auto, using(crate::proofs::ReaderFacts::is_ready, crate::proofs::ReaderFacts::stays_ready, crate::proofs::ReaderFacts::takes_row))]
     pub fn next_row(&mut self, row: &mut ByteRecord) -> Result<bool, OutOfMemory>
         ensures takes { IfOk result
             (λ found. TakesRow found self.old (fields_of row.new) self.new) }

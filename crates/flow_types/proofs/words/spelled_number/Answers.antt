@@ -1,4 +1,4 @@
-use Rattle.std.proofs.Common.{◌≡◌, sym, false, true, arith, refl, get_or, length, take}
+use Rattle.std.proofs.Common.{◌≡◌, sym, false, true, arith, refl, get_or, take}
 use Rattle.std.specs.Char.{is_ascii_digit}
 use Rattle.std.specs.Str.{all_ascii_digits}
 use Rattle.std.specs.Str.Parse.{AllDigits}
