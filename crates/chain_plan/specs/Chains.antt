@@ -56,11 +56,8 @@ earliest_from flight node time (suc more) =
 -- The earliest trip: it departs on schedule, waits nowhere, and arrives no earlier than scheduled.
 abbrev pub earliest_trip : Flight → List Stop
 earliest_trip flight =
-    record {
-      node = 0;
-      time =
-          flight.sd;
-    } ∷ earliest_from flight 0 flight.sd (length flight.nodes - 1)
+    record { node = 0; time = flight.sd }
+    ∷ earliest_from flight 0 flight.sd (length flight.nodes - 1)
 
 abbrev pub earliest_plan : List Flight → List (List Stop)
 earliest_plan flights = map earliest_trip flights

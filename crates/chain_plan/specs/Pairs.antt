@@ -34,5 +34,6 @@ pub record IsBestAt (periods : ℕ) (tables : List CostTable) (flight : Flight) 
 
 abbrev pub IsBest : ℕ → List CostTable → Flight → ℕ → Option ℤ → Type 0
 IsBest periods tables flight n best =
-    MatchOption best ((g d : ℕ) → d < n → IsPair periods flight g d
-    → ⊥) (IsBestAt periods tables flight n)
+    MatchOption best
+    ((g d : ℕ) → d < n → IsPair periods flight g d → ⊥)
+    (IsBestAt periods tables flight n)

@@ -74,8 +74,9 @@ fn kept_plan(alloc: Global, s: &Scenario) -> Result<Option<Costed>, OutOfMemory>
     ensures kept { IfOk result
         (λ o. IfSome o (λ kept. IsCosted (parts_of s.now) kept.plan kept.cost)) }
     ensures first { IfOk result
-        (λ o. MatchOption o (IsFeasible (parts_of s.now) (earliest_plan (parts_of s.now).flights)
-        → ⊥) (λ kept. kept.plan ≡ earliest_plan (parts_of s.now).flights)) }
+        (λ o. MatchOption o
+        (IsFeasible (parts_of s.now) (earliest_plan (parts_of s.now).flights) → ⊥)
+        (λ kept. kept.plan ≡ earliest_plan (parts_of s.now).flights)) }
 {
     let plan = earliest_plan(alloc, s)?;
     let mut loads = Loads::new(alloc, s)?;

@@ -44,8 +44,8 @@ pub record IsTooLong (stop next : Stop) (least : ℕ) (leg : Leg) : Type 0 where
   pub late : next.time < stop.time + least
 
 -- more than the capacity in a place and period that has one of this kind
-pub record IsOver (parts : Parts) (kind : CapKind) (count : ℕ → ℕ
-    → ℕ) (place period load capacity : ℕ) : Type 0 where
+pub record IsOver (parts : Parts) (kind : CapKind) (count : ℕ → ℕ → ℕ)
+    (place period load capacity : ℕ) : Type 0 where
   pub place_has : IsTrue (has_kind kind (slice_get parts.places place))
   pub within : period < parts.day.periods
   pub load_is : load ≡ count place period

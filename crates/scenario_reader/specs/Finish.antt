@@ -48,13 +48,17 @@ flight_with flight nodes = record {
   cost = flight.cost;
 }
 
+-- the flight, whose sectors all have a leg that leaves them
+abbrev pub led_on : FlightDraft → Result Flight Fault
+led_on flight =
+    if leads_on flight
+    then Ok (flight_with flight (nodes_of flight))
+    else Err (fault_at flight.at 1 DeadEnd)
+
 -- the flight, with its fault at its own record
 unfoldable pub finished_flight : FlightDraft → Result Flight Fault
 finished_flight flight =
-    if has_route flight
-    then (if leads_on flight then Ok (flight_with flight (nodes_of flight)) else Err
-    (fault_at flight.at 1 DeadEnd))
-    else Err (fault_at flight.at 1 NoRoute)
+    if has_route flight then led_on flight else Err (fault_at flight.at 1 NoRoute)
 
 unfoldable pub finished_flights : List FlightDraft → Result (List Flight) Fault
 finished_flights [] = Ok []

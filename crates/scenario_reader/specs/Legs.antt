@@ -54,8 +54,9 @@ own_in number places flight fields = do
 unfoldable pub start_in : List Place → FlightDraft → Fields → Result ℕ FieldFault
 start_in places flight fields = do
   place ← own_in 3 places flight fields
-  if place == flight.from || is_among flight.reached place then Ok place else Err
-      (fault_in 3 Unreached)
+  if place == flight.from || is_among flight.reached place
+      then Ok place
+      else Err (fault_in 3 Unreached)
 
 -- the flight has a leg from this place to that one
 abbrev pub is_joined : List PlaceLeg → ℕ → ℕ → Bool

@@ -48,10 +48,8 @@ with_connection draft connection =
 
 abbrev pub with_pricing : DraftParts → Pricing → DraftParts
 with_pricing draft pricing =
-    record draft {
-      flights =
-          with_cost_at draft.flights pricing.flight (Tables pricing.total pricing.credit);
-    }
+    let cost = Tables pricing.total pricing.credit in
+    record draft { flights = with_cost_at draft.flights pricing.flight cost }
 
 abbrev pub with_cap_change : DraftParts → CapChange → DraftParts
 with_cap_change draft change =

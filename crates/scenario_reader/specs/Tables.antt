@@ -31,14 +31,16 @@ value_at number negative (Some n) =
 abbrev pub value_of : ℕ → List ℕ → Result ℤ FieldFault
 value_of number [] = Err (fault_in number BadNumber)
 value_of number (byte ∷ bytes) =
-    if byte == 45 then value_at number true (number_of bytes) else value_at number false
-    (number_of (byte ∷ bytes))
+    if byte == 45
+    then value_at number true (number_of bytes)
+    else value_at number false (number_of (byte ∷ bytes))
 
 -- the value in the field of this number, of which the last may be the 514th
 abbrev pub value_in : ℕ → List ℕ → Result ℤ FieldFault
 value_in number bytes =
-    if nat_lt (most_values + 2) number then Err
-    (fault_in number ExtraField) else value_of number bytes
+    if nat_lt (most_values + 2) number
+    then Err (fault_in number ExtraField)
+    else value_of number bytes
 
 -- the values in the fields from the one of this number on
 unfoldable pub values_from : ℕ → List (List ℕ) → Result (List ℤ) FieldFault
