@@ -1,3 +1,5 @@
 pub mod ItemFacts
 pub mod ShortLists
 pub mod SumFacts
+pub mod ProductFacts
+pub mod LeastFacts

@@ -1,1 +1,2 @@
+pub mod Leasts
 pub mod Sums

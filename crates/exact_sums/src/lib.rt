@@ -1,6 +1,8 @@
-//! Sums of lists, exact over the whole numbers and the integers, with the laws that every layer
-//! cites. There is no code here but the laws: a bound, a cost and a count are each a sum of these.
+//! Sums of lists, exact over the whole numbers and the integers, and the least of a set, with the
+//! laws that every layer cites. There is no code here but the laws: a bound, a cost and a count are
+//! each a sum of these, and a least trip is the least of a set of lists of stops.
 //!
+//! `specs/Leasts.antt` says what the least of a set is, and the first of those that reach it.
 //! `specs/Sums.antt` has the sums. The range of the numbers from `first` on, `count` of them, is
 //! the list `range_with_len first count` of std, so that a sum over a range is one over a list. A
 //! caller calls a law as a statement to have it in its own proof:
@@ -12,8 +14,9 @@
 //!         sum(first) + sum(second)
 //!     }
 //!
-//! `proofs/` has lemmas on lists that std lacks: `SumFacts`, `ItemFacts` (an item by its position)
-//! and `ShortLists` (lists that are written out).
+//! `proofs/` has the laws of the least (`LeastFacts`: of a union, along a correspondence, of the same
+//! set said otherwise) and lemmas that std lacks: `SumFacts`, `ProductFacts`, `ItemFacts` (an item
+//! by its position, what a filter keeps) and `ShortLists` (lists that are written out).
 #![tactic(auto)]
 
 mod laws;

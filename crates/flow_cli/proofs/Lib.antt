@@ -4,3 +4,4 @@ mod WorkedCases
 mod WorkedRuns
 mod WorkedVerdicts
 pub mod ReportFacts
+pub mod PlanningFacts

@@ -1,26 +1,14 @@
--- What is printed of worked days, byte by byte, what words ask for, and how days are planned.
+-- What is printed of worked days, byte by byte, and what words ask for.
 use Rattle.std.specs.Prelude.{codes}
-use Rattle.std.proofs.Common.{◌≡◌, ℕ, ◌≤◌, List, [], ◌∷◌, Some, None, IsTrue, All, pos, negsuc, refl, sym, arith}
-use Rattle.std.specs.List.{Any, AllZip}
-use Rattle.std.proofs.lemmas.Int.{ints}
-use Rattle.std.proofs.lemmas.List.Elements.{All-cons, All-nil}
+use Rattle.std.proofs.Common.{◌≡◌, ℕ, List, [], ◌∷◌, Some, None, pos, negsuc, refl, arith}
+use Rattle.std.proofs.lemmas.List.Elements.{All-nil}
 use Rattle.std.specs.Fmt.{digits}
 use Rattle.flow_types.specs.declared.bound.Bound.TheVariants.{AtLeast, NoPlan}
-use Rattle.flow_types.specs.declared.flight.Flight.{Flight}
 use Rattle.flow_types.specs.declared.parts.Parts.{Parts}
 use Rattle.flow_types.specs.declared.plan.Stop.{Stop}
-use Rattle.flow_types.specs.Bounds.{IsBound}
 use Rattle.flow_types.specs.Feasible.{IsFeasible, KeepsTurn}
-use Rattle.flow_types.specs.Routes.{IsChain}
-use Rattle.flow_types.specs.Valid.{IsFlight}
-use Rattle.flow_types.specs.Limits.{most_capacity}
-use Rattle.exact_sums.proofs.ShortLists.{all_two}
-use Rattle.worked_days.specs.Days.{beside, places_with, plan_with, there, trip_at, two_flights}
-use Rattle.worked_days.proofs.WorkedDay.{AreEnds, beside_is, feasible_is, one_way_on, route_is, there_is, two_flights-valid}
-use Rattle.chain_plan.specs.Chains.{AreChains, HasEarliest, IsDayOfChains, IsLeastPair, is_linear}
-use Rattle.chain_plan.proofs.BoundFacts.{none_feasible, pairs_below}
-use Rattle.flow_cli.specs.declared.status.Status.TheVariants.{Done, Infeasible, OpenGap}
-use Rattle.flow_cli.specs.Planning.{IsPlannedDay}
+use Rattle.worked_days.specs.Days.{plan_with, trip_at, two_flights}
+use Rattle.worked_days.proofs.WorkedDay.{beside_is, feasible_is, there_is}
 use Rattle.flow_cli.specs.Texts.{report_text}
 use Rattle.flow_cli.specs.Words.{Judged, Planned, asked}
 
@@ -107,124 +95,3 @@ keeps =
     feasible_is (two_flights 2 9 9) on_time
     (there_is, (beside_is 0 2 (omega arith) (omega arith) (omega arith), tt))
     (All-nil (KeepsTurn on_time)) refl refl refl
-
--- The least pair of each flight costs nothing, so no plan costs less.
-least_of : (name : List ℕ) → IsLeastPair 8 [] (record there { name = name }) (pos 0)
-least_of name = record {
-  reached = (
-    0,
-    0,
-    record {
-      departs = omega arith;
-      arrives = omega arith;
-      time = omega arith;
-    },
-    refl,
-  );
-  below = λ g d pair. omega (arith, ints, pair.time);
-}
-
-has_of : (name : List ℕ) → HasEarliest 8 (record there { name = name })
-has_of name = omega arith
-
-both_have : All (HasEarliest 8) (two_flights 2 9 9).flights
-both_have = all_two (HasEarliest 8) there beside (has_of (codes "F1")) (has_of (codes "F2"))
-
-both_least : AllZip (IsLeastPair 8 []) (two_flights 2 9 9).flights (pos 0 ∷ pos 0 ∷ [])
-both_least = (least_of (codes "F1"), (least_of (codes "F2"), tt))
-
-are_chains : AreChains (two_flights 2 9 9).flights
-are_chains = all_two (λ (flight : Flight). IsChain flight.legs) there beside one_way_on one_way_on
-
-pub is_day_of_chains : IsDayOfChains (two_flights 2 9 9)
-is_day_of_chains = record {
-  apart = refl;
-  chains = are_chains;
-  linear = all_two (λ (flight : Flight). IsTrue (is_linear flight.cost)) there beside refl refl;
-}
-
-module _ (leave : ℕ) (few : leave ≤ most_capacity) where
-  no_cheaper : IsBound (two_flights leave 9 9) (AtLeast (pos 0))
-  no_cheaper plan feasible =
-      pairs_below (places_with leave 9 9) [] 8 (two_flights leave 9 9).flights plan
-      (pos 0 ∷ pos 0 ∷ [])
-      (two_flights-valid leave 9 9 few (omega arith) (omega arith)).flights are_chains
-      feasible.trips both_least
-
--- So the day is planned as is printed: the plan is optimal.
-pub optimal_day : IsPlannedDay (two_flights 2 9 9) (record { text = optimal_text; status = Done })
-optimal_day = record {
-  plan = Some on_time;
-  bound = AtLeast (pos 0);
-  text = sym report_of_optimal;
-  ends = refl;
-  feasible = keeps;
-  below = no_cheaper 2 (omega arith);
-  first_plan = (both_have, refl);
-  first_bound = (both_have, (pos 0 ∷ pos 0 ∷ [], both_least, refl));
-}
-
--- Where one may leave in a period, both can't keep the schedule: the answer is open, without a
--- plan.
-open_day : IsPlannedDay (two_flights 1 9 9) (record { text = none_found_text; status = OpenGap })
-open_day = record {
-  plan = None;
-  bound = AtLeast (pos 0);
-  text = sym report_of_none_found;
-  ends = refl;
-  feasible = tt;
-  below = no_cheaper 1 (omega arith);
-  first_plan = λ has feasible. let both : 2 ≤ 1 = feasible.departures 0 0 refl (omega arith) in
-      absurd (omega (arith, both));
-  first_bound = (both_have, (pos 0 ∷ pos 0 ∷ [], both_least, refl));
-}
-
--- A flight that is to arrive a period after it departs, and takes two, has no trip: no plan exists.
-abbrev too_far : Flight
-too_far = record there { sa = 1; mg = 0; md = 0 }
-
-abbrev day_too_far : Parts
-day_too_far = record (two_flights 1 9 9) { flights = too_far ∷ [] }
-
-outward : AreEnds 0 1
-outward = record {
-  origin = omega arith;
-  destination = omega arith;
-  apart = λ is. omega (arith, is);
-}
-
-is_flight : IsFlight 8 (places_with 1 9 9) [] too_far
-is_flight = record {
-  name = refl;
-  forward = omega arith;
-  within = omega arith;
-  ground_delay = omega arith;
-  arrival_delay = omega arith;
-  origin = refl;
-  destination = refl;
-  apart = λ is. omega (arith, is);
-  route = route_is 1 9 9 (omega arith) (omega arith) (omega arith) (codes "F1") refl 0 1 0 outward
-      (omega arith);
-  cost = refl;
-}
-
-too_late : HasEarliest 8 too_far → ⊥
-too_late has = omega (arith, has)
-
-infeasible_day : IsPlannedDay day_too_far (record { text = infeasible_text; status = Infeasible })
-infeasible_day = record {
-  plan = None;
-  bound = NoPlan;
-  text = sym (report_of_infeasible day_too_far);
-  ends = refl;
-  feasible = tt;
-  below = λ plan feasible. none_feasible (places_with 1 9 9) [] 8 (too_far ∷ []) plan
-      (All-cons (IsFlight 8 (places_with 1 9 9) []) too_far [] is_flight
-      (All-nil (IsFlight 8 (places_with 1 9 9) [])))
-      (All-cons (λ (flight : Flight). IsChain flight.legs) too_far [] one_way_on
-      (All-nil (λ (flight : Flight). IsChain flight.legs))) feasible.trips late;
-  first_plan = λ has feasible. absurd (too_late (has 0 too_far (omega arith)));
-  first_bound = late;
-} where
-  late : Any (λ (flight : Flight). HasEarliest 8 flight → ⊥) (too_far ∷ [])
-  late = (0, too_far, omega arith, refl, too_late)

@@ -27,7 +27,7 @@ use Rattle.flow_cli.specs.Outside.{Change, change}
 use Rattle.flow_cli.specs.Reading.{IsDayOf, IsNoDay, IsTextOf}
 use Rattle.flow_cli.specs.Words.{asked, usage_text}
 use Rattle.worked_days.specs.Days.{two_flights}
-use Rattle.flow_cli.proofs.WorkedCases.{is_day_of_chains, keeps, on_time, optimal_day, optimal_text}
+use Rattle.flow_cli.proofs.WorkedCases.{keeps, on_time}
 
 one_value : {A : Type 0} {x y : A} → Some x ≡ Some y → x ≡ y
 one_value is = cc
@@ -97,18 +97,6 @@ module _ (text plan : List ℕ) (few : length text ≤ most_text_bytes)
   day_held parts read =
       record { bytes = text; text = day_text; read = read; valid = text_is text parts read }
 
-  -- a day of chains is planned
-  run_is_planned : scenario_of text ≡ Ok (two_flights 2 9 9)
-      → EndsOn files plan_words optimal_text Done
-  run_is_planned read =
-      run_answers files plan_words optimal_text Done
-      (inl (record {
-        parts = two_flights 2 9 9;
-        day = day_held (two_flights 2 9 9) read;
-        chains = is_day_of_chains;
-        planned = optimal_day;
-      }))
-
   -- a text that is no scenario is refused by its first fault, by both commands
   abbrev fault : Fault
   fault = record { at = 11; field = 4; cause = BackLeg }
@@ -133,7 +121,7 @@ module _ (text plan : List ℕ) (few : length text ≤ most_text_bytes)
       → EndsOn files plan_words (codes "refused,11,4,BackLeg\n") BadScenario
   plan_is_refused read =
       run_answers files plan_words (codes "refused,11,4,BackLeg\n") BadScenario
-      (inr (inr (inl (no_day read))))
+      (inr (inl (no_day read)))
 
   judge_is_refused : scenario_of text ≡ Err fault
       → EndsOn files judge_words (codes "refused,11,4,BackLeg\n") BadScenario
@@ -211,13 +199,13 @@ no_files = from_entries []
 run_is_fault : EndsOn no_files plan_words (codes "fault,read\n") ReadFault
 run_is_fault =
     run_answers no_files plan_words (codes "fault,read\n") ReadFault
-    (inr (inr (inr
+    (inr (inr
     (inr (record {
       ends = refl;
       failed = λ has. absurd
           (false≢true (subst IsSome (get-from_entries nat_list_cmp_total [] day_name) has));
       text = refl;
-    })))))
+    }))))
 
 run_is_usage : EndsOn no_files (codes "plan" ∷ []) usage_text Usage
 run_is_usage =

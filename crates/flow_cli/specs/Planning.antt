@@ -1,7 +1,5 @@
 -- What is answered where a day is to be planned.
-use Rattle.std.specs.Prelude.{◌≡◌, ◌⊎◌, List, ℕ, codes, Option, IfSome, option_map}
-use Rattle.chain_plan.specs.Chains.{IsDayOfChains}
-use Rattle.chain_plan.specs.Outcome.{IsFirstBound, IsFirstPlan}
+use Rattle.std.specs.Prelude.{◌≡◌, ◌⊎◌, List, ℕ, Option, None, Some, IfSome, option_map, ℤ}
 use Rattle.flow_outside.specs.Held.{Held}
 use Rattle.flow_outside.specs.Seen.{FilesSeen}
 use Rattle.flow_types.specs.declared.bound.Bound.{Bound}
@@ -10,14 +8,37 @@ use Rattle.flow_types.specs.declared.plan.Stop.{Stop}
 use Rattle.flow_types.specs.Bounds.{IsBound}
 use Rattle.flow_types.specs.Costs.{plan_cost}
 use Rattle.flow_types.specs.Feasible.{IsFeasible}
-use Rattle.flow_cli.specs.declared.status.Status.TheVariants.{BadScenario}
+use Rattle.greedy_plan.specs.FirstBound.{IsFirstBound}
+use Rattle.greedy_plan.specs.Greedy.{IsGreedy, IsStuck}
+use Rattle.time_windows.specs.Boxes.{Box, root_box}
+use Rattle.time_windows.specs.Tight.{IsTightened}
+use Rattle.flow_cli.specs.declared.outcome.Costed.{Costed}
+use Rattle.flow_cli.specs.declared.outcome.Outcome.{Outcome}
 use Rattle.flow_cli.specs.Outside.{Change, Printed}
 use Rattle.flow_cli.specs.Reading.{IsDayOf, IsWithoutDay}
 use Rattle.flow_cli.specs.Status.{status_of}
 use Rattle.flow_cli.specs.Texts.{report_text}
 
+-- a plan that is kept: it keeps every rule, at its cost
+pub record IsCosted (parts : Parts) (plan : List (List Stop)) (cost : ℤ) : Type 0 where
+  pub feasible : IsFeasible parts plan
+  pub price : cost ≡ plan_cost parts.tables parts.flights plan
+
+-- the plan that was kept, if one was
+abbrev pub plan_in : Option Costed → Option (List (List Stop))
+plan_in None = None
+plan_in (Some kept) = Some kept.plan
+
+abbrev pub plan_kept : Outcome → Option (List (List Stop))
+plan_kept outcome = plan_in outcome.kept
+
+-- the greedy plan in the box, or none where it is stuck
+abbrev pub IsFirstPlan : Parts → Box → Option (List (List Stop)) → Type 0
+IsFirstPlan parts box None = (kept : List (List Stop)) × (flight : ℕ) × IsStuck parts box kept flight
+IsFirstPlan parts box (Some plan) = IsGreedy parts box plan
+
 -- What is printed of a day: a plan that keeps every rule, if there is a plan, at its cost, and a
--- bound that no plan is cheaper than.
+-- bound that no plan is cheaper than. Both are those of the tight root box.
 pub record IsPlannedDay (parts : Parts) (answer : Printed) : Type 0 where
   pub plan : Option (List (List Stop))
   pub bound : Bound
@@ -26,26 +47,18 @@ pub record IsPlannedDay (parts : Parts) (answer : Printed) : Type 0 where
       ≡ status_of (option_map (plan_cost parts.tables parts.flights) plan) bound
   pub feasible : IfSome plan (IsFeasible parts)
   pub below : IsBound parts bound
-  pub first_plan : IsFirstPlan parts plan
-  pub first_bound : IsFirstBound parts bound
+  pub within : Box
+  pub tight : IsTightened parts (root_box parts) within
+  pub first_plan : IsFirstPlan parts within plan
+  pub first_bound : IsFirstBound parts within bound
 
--- the name holds a day of chains, which is planned
+-- the name holds a day, which is planned
 pub record IsPlanned (held : Option Held) (name : List ℕ) (answer : Printed) : Type 0 where
   pub parts : Parts
   pub day : IsDayOf held name parts
-  pub chains : IsDayOfChains parts
   pub planned : IsPlannedDay parts answer
-
--- the name holds another day, which isn't planned yet
-pub record IsNotYet (held : Option Held) (name : List ℕ) (answer : Printed) : Type 0 where
-  pub parts : Parts
-  pub day : IsDayOf held name parts
-  pub other : IsDayOfChains parts → ⊥
-  pub ends : answer.status ≡ BadScenario
-  pub text : answer.text ≡ codes "refused,notyet\n"
 
 -- the answer where the day of a name is to be planned
 abbrev pub IsOfPlan : Change FilesSeen → List ℕ → Printed → Type 0
 IsOfPlan files name answer =
-    IsPlanned files.before.held name answer
-    ⊎ (IsNotYet files.before.held name answer ⊎ IsWithoutDay files name answer)
+    IsPlanned files.before.held name answer ⊎ IsWithoutDay files name answer

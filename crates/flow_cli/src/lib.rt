@@ -28,6 +28,7 @@ mod faults;
 mod judging;
 mod laws;
 mod lines;
+mod outcome;
 mod planning;
 mod reading;
 mod report;

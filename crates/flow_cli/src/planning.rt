@@ -1,6 +1,5 @@
 //! The command `plan`.
 ghost use Rattle.std.specs.Prelude.{◌≡◌, IfOk};
-ghost use Rattle.chain_plan.specs.Chains.{IsDayOfChains};
 ghost use Rattle.flow_outside.specs.Seen.{AreKept};
 ghost use Rattle.flow_types.specs.Scenario.{parts_of};
 ghost use Rattle.flow_cli.specs.Answers.{IfAnswered, work_status};
@@ -9,15 +8,16 @@ ghost use Rattle.flow_cli.specs.Planning.{IsOfPlan, IsPlannedDay};
 ghost use Rattle.flow_cli.specs.Reading.{IsQuiet};
 
 use crate::answer::{Answer, EarlyEnd};
+use crate::outcome::outcome_in;
 use crate::reading::day_of;
 use crate::report::{cost_of, plan_report, status_of};
-use crate::status::Status;
-use chain_plan::{is_day_of_chains, plan_chains};
 use flow_outside::Files;
 use flow_types::{OutOfMemory, Scenario};
+use greedy_plan::first_bounds_are_bounds;
 use std::alloc::Global;
+use time_windows::{Boxes, trips_are_in_the_root_box};
 
-/// The answer where the day of a name is to be planned. A day that isn't one of chains is refused.
+/// The answer where the day of a name is to be planned.
 pub fn plan_named<F: Files>(alloc: Global, files: &mut F, name: &str) -> Result<Answer, EarlyEnd>
     ensures answered { IfAnswered result
         (IsOfPlan (change (F.seen files.old) (F.seen files.new)) name.now) }
@@ -25,18 +25,18 @@ pub fn plan_named<F: Files>(alloc: Global, files: &mut F, name: &str) -> Result<
     ensures kept { AreKept (F.seen files.old) (F.seen files.new) }
 {
     let s = day_of(alloc, files, name)?;
-    if !is_day_of_chains(&s) {
-        return Ok(Answer::fixed(b"refused,notyet\n", Status::BadScenario));
-    }
     Ok(plan_day(alloc, &s)?)
 }
 
-// The answer to a day of chains.
+// The answer to a day: the greedy plan in the tight root box, and the bound that goes with it.
 fn plan_day(alloc: Global, s: &Scenario) -> Result<Answer, OutOfMemory>
-    requires { IsDayOfChains (parts_of s.now) }
     ensures { IfOk result (λ answer. IsPlannedDay (parts_of s.now) (printed_by answer)) }
 {
-    let outcome = plan_chains(alloc, s)?;
+    let mut boxes = Boxes::root(alloc, s)?;
+    boxes.tighten(s);
+    let outcome = outcome_in(alloc, s, &boxes)?;
+    first_bounds_are_bounds();
+    trips_are_in_the_root_box();
     Ok(Answer::of(
         plan_report(alloc, s, &outcome, 1)?,
         status_of(cost_of(&outcome), outcome.bound),

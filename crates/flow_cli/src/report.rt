@@ -1,16 +1,16 @@
 //! What is printed of a day that was planned.
 ghost use Rattle.std.specs.Prelude.{◌≡◌, ◌++◌, Option, None, Some, IfOk, IfSome, OnOk, codes, option_map};
 ghost use Rattle.std.specs.Fmt.{decimal};
-ghost use Rattle.chain_plan.specs.Outcome.{IsCosted, plan_kept};
-ghost use Rattle.chain_plan.specs.declared.outcome.Costed.{Costed};
+ghost use Rattle.flow_cli.specs.Planning.{IsCosted, plan_kept};
+ghost use Rattle.flow_cli.specs.declared.outcome.Costed.{Costed};
 ghost use Rattle.flow_types.specs.Scenario.{parts_of};
 ghost use Rattle.flow_cli.specs.Lines.{line_text};
 ghost use Rattle.flow_cli.specs.Status.{status_of};
 ghost use Rattle.flow_cli.specs.Texts.{bound_word, claim_text, cost_word, report_text, status_word, trips_text};
 
 use crate::lines::put_line;
+use crate::outcome::Outcome;
 use crate::status::Status;
-use chain_plan::Outcome;
 use flow_types::{Bound, OutOfMemory, Plan, Scenario, Trip};
 use plan_text::trip_line;
 use std::alloc::Global;

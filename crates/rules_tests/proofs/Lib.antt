@@ -1,2 +1,1 @@
 mod BrokenCases
-mod ChainCases

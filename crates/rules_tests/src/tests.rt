@@ -3,14 +3,16 @@ ghost use Rattle.std.specs.Prelude.{IfOk};
 ghost use Rattle.flow_types.specs.Scenario.{parts_of};
 ghost use Rattle.plan_rules.specs.Loads.{IsMadeFor};
 
-use chain_plan::{is_day_of_chains, plan_chains};
-use flow_types::{Bound, CapKind, OutOfMemory, Scenario};
+use flight_routes::{Prices, Work};
+use flow_types::{Bound, CapKind, OutOfMemory, PriceKey, Scenario, Stop};
+use greedy_plan::{Greedy, first_bound, first_plan};
 use plan_rules::{
     Loads, Verdict, cost, first_broken_rules_are_first, judge,
     plans_that_break_nothing_are_feasible, trips_are_counted_once,
 };
 use std::alloc::Global;
 use std::test::Fail;
+use time_windows::{Boxes, Tight, Window};
 use worked_days::{plan_with, there_and_back, trip_at, two_flights};
 
 // Loads of the day, after a plan was judged whose second flight departs a period late.
@@ -49,7 +51,7 @@ fn loads_count_the_trips_of_a_plan(rt: HostRuntime) -> Result<(), Fail> {
 }
 
 #[test]
-fn a_day_is_judged_and_planned(rt: HostRuntime) -> Result<(), Fail> {
+fn a_day_is_judged(rt: HostRuntime) -> Result<(), Fail> {
     let alloc = rt.alloc();
     let s = two_flights(alloc, 2, 9, 9)?;
     let plan = plan_with(alloc, &trip_at(0, 2))?;
@@ -58,13 +60,42 @@ fn a_day_is_judged_and_planned(rt: HostRuntime) -> Result<(), Fail> {
         Verdict::Keeps { cost: paid } => assert_eq!(rt; (paid, cost(&s, &plan)), (0, 0)),
         Verdict::Breaks(_) => return Err("the plan keeps every rule".into()),
     }
-    assert!(rt; is_day_of_chains(&s));
-    let outcome = plan_chains(alloc, &s)?;
-    assert_eq!(rt; outcome.bound, Bound::AtLeast(0));
-    assert_eq!(rt; outcome.kept.map(|kept| kept.cost), Some(0));
     trips_are_counted_once();
     plans_that_break_nothing_are_feasible();
     first_broken_rules_are_first();
+    Ok(())
+}
+
+// Where one may leave in a period: the windows of the first flight, its least trip at the price 1 of
+// leaving in the first period, and the greedy plan with its bound.
+#[test]
+fn a_day_is_planned(rt: HostRuntime) -> Result<(), Fail> {
+    let alloc = rt.alloc();
+    let s = two_flights(alloc, 1, 9, 9)?;
+    let mut boxes = Boxes::root(alloc, &s)?;
+    assert!(rt; boxes.tighten(&s) == Tight::Live);
+    let boxes = boxes.copy(alloc)?;
+    for (node, lo, hi) in [(0, 0, 4), (1, 0, 5), (2, 2, 7)] {
+        assert!(rt; boxes.window(0, node) == Some(Window { lo, hi }), "{node}");
+    }
+    let mut prices = Prices::new(alloc, &s)?;
+    prices.set(
+        PriceKey::Dep {
+            place: 0,
+            period: 0,
+        },
+        1,
+    );
+    let mut work = Work::new(alloc, &s)?;
+    assert_eq!(rt; work.least_trip(&s, &boxes, 0, 1, &prices), Some(1));
+    let stops = [(0, 0), (1, 0), (2, 2)].map(|(node, time)| Stop { node, time });
+    assert!(rt; work.trip() == &stops[..]);
+    let Greedy::Plan(plan) = first_plan(alloc, &s, &boxes)? else {
+        return Err("each flight has a trip that fits".into());
+    };
+    assert_eq!(rt; plan.items().len(), 2);
+    assert_eq!(rt; cost(&s, &plan), 1);
+    assert_eq!(rt; first_bound(alloc, &s, &boxes)?, Bound::AtLeast(0));
     Ok(())
 }
 

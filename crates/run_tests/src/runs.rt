@@ -5,11 +5,13 @@ use std::alloc::Global;
 use std::test::Fail;
 use worked_days::{ON_TIME, TWO_FLIGHTS};
 
-// Both flights can't keep the schedule, since one may leave in a period: no plan is found.
+// One may leave in a period: the second flight waits, where each alone would cost nothing.
 const REPORT: &str = "status,open
-cost,none
+cost,1
 bound,0
 nodes,1
+trip,F1,ORIG,0,S,0,DEST,2
+trip,F2,ORIG,1,S,1,DEST,3
 ";
 
 const VERDICT: &str = "broken,departures,ORIG,0,2,1\n";

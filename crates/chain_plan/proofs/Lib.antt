@@ -1,4 +1,0 @@
-pub mod BoundFacts
-pub mod ChainFacts
-pub mod EarliestFacts
-pub mod PairFacts

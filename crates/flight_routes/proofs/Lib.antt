@@ -1,0 +1,17 @@
+pub mod CellFacts
+pub mod EntryFacts
+pub mod FillFacts
+pub mod FirstFacts
+pub mod FitFacts
+pub mod FreeFacts
+pub mod LaterFacts
+pub mod LoadRateFacts
+pub mod MoveFacts
+pub mod PassageFacts
+pub mod PriceFacts
+pub mod PriceRateFacts
+pub mod TripFacts
+pub mod TripRateFacts
+pub mod TurnFacts
+pub mod WayFacts
+pub mod WorkFacts

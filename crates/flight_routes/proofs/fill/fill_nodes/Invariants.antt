@@ -1,0 +1,9 @@
+use Rattle.flight_routes.specs.RateLists.{rates_of}
+use Rattle.flight_routes.specs.Ready.{row_of}
+use Rattle.flight_routes.specs.Ways.{AreCells}
+use Rattle.flight_routes.proofs.fill.fill_nodes.Given as goal
+
+-- the cells from this node on
+abbrev pub invariant-loop-node : goal.invariant-loop-node
+invariant-loop-node l =
+    AreCells l.flight (row_of l.accesses) (rates_of l.rates) l.node l.cells

@@ -1,0 +1,22 @@
+use Rattle.std.proofs.Common.{◌≡◌, ◌+◌, length, sym, subst, ap, arith}
+use Rattle.flight_routes.specs.RateLists.{rates_of}
+use Rattle.flight_routes.specs.Ready.{row_of}
+use Rattle.flight_routes.specs.Ways.{IsCell}
+use Rattle.flight_routes.proofs.MoveFacts.{window_last}
+use Rattle.flight_routes.proofs.WayFacts.{arrives_is}
+use Rattle.flight_routes.proofs.fill.fill_row.Goals as goal
+
+pub arrive_row-requires-clause-end : goal.arrive_row-requires-clause-end
+arrive_row-requires-clause-end c =
+    let last = window_last c.args.rates.now.periods (row_of c.args.accesses.now) c.args.node
+    c.args.window c.requires.ready.windows c.requires.window in
+    omega (arith, last.1, c.requires.ready.day.few)
+
+pub returns-then-from-items : goal.returns-then-from-items
+returns-then-from-items c = λ t from to.
+    let last : c.args.node + 1 ≡ length c.args.flight.now.nodes =
+    omega (arith, ap length c.items.ensures) in
+    subst (IsCell c.args.flight.now (row_of c.args.accesses.now) (rates_of c.args.rates.now)
+    c.args.node t) (sym (c.arrive_row.ensures t from to))
+    (arrives_is c.args.flight.now (row_of c.args.accesses.now) (rates_of c.args.rates.now)
+    c.requires.ready.network c.args.node t last)

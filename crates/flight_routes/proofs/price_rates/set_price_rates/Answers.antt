@@ -1,0 +1,37 @@
+use Rattle.std.proofs.Common.{◌≡◌, ◌∙◌, ℕ, List, ℤ, pos, Option, None, get_or, length, ap}
+use Rattle.std.proofs.lemmas.Option.{get_or_from_slice_get}
+use Rattle.flow_types.specs.declared.flight.Flight.{Flight}
+use Rattle.flow_types.specs.Scenario.{flight_at, parts_of}
+use Rattle.flow_types.specs.Trips.{place_at}
+use Rattle.flight_routes.specs.Prices.{price_in, summed}
+use Rattle.flight_routes.specs.RateLists.{place_of}
+use Rattle.flight_routes.specs.Ready.{row_of}
+use Rattle.flight_routes.proofs.PriceRateFacts.{price_rates}
+use Rattle.flight_routes.proofs.price_rates.set_price_rates.Goals as goal
+
+pub returns-clause-rates : goal.returns-clause-rates
+returns-clause-rates c = λ details is.
+    let parts = parts_of c.args.s.now in
+    let leaves = λ (time : ℕ) (costs : List (Option ℤ)). get_or costs time None in
+    let same : c.index-flights-flight.result ≡ details =
+    c.index-flights-flight.is
+    ∙ ap (λ flights. get_or flights c.args.flight c.index-flights-flight.result) c.flights.ensures
+    ∙ get_or_from_slice_get parts.flights c.args.flight details c.index-flights-flight.result is in
+    price_rates c.args.weight c.args.prices.now parts c.args.flight c.last_of-last.result details
+    (flight_at c.args.s.now c.args.flight) (row_of c.args.accesses.now) c.set_stays.new.table is
+    (c.last_of-last.ensures ∙ ap (λ (f : Flight). length f.nodes) same)
+    c.args.s.now.valid.day.periods_to
+    (λ t window.
+    ap (leaves t) (c.set_stays.ensures.only.leaves ∙ c.set_arrives_in.ensures.only.leaves)
+    ∙ c.set_leaves_in.ensures.leaves t window)
+    (λ t window.
+    ap (leaves t) c.set_stays.ensures.only.arrives ∙ c.set_arrives_in.ensures.arrives t window)
+    (λ n t above below in_day.
+    c.set_stays.ensures.paid n t above below in_day
+    ∙ ap (λ (f : Flight). pos (summed (price_in c.args.prices.now.inside (place_at f n)) 0 t)) same)
+    (λ t in_day. c.set_stays.ensures.first t in_day
+    ∙ ap (λ costs. get_or costs (place_of 0 t) (pos 0))
+    (c.set_arrives_in.ensures.only.paid ∙ c.set_leaves_in.ensures.only.paid)
+    ∙ c.requires.table.free t in_day)
+    (c.set_stays.ensures.only.clear ∙ c.set_arrives_in.ensures.only.clear
+    ∙ c.set_leaves_in.ensures.only.clear ∙ c.requires.table.clear)

@@ -1,0 +1,29 @@
+use Rattle.std.proofs.Common.{Some, Option, sym, subst, arith}
+use Rattle.time_windows.specs.declared.access.Window.{Window}
+use Rattle.time_windows.specs.Boxes.{IsInWindow}
+use Rattle.flight_routes.specs.RateLists.{rates_of}
+use Rattle.flight_routes.specs.Ready.{row_of}
+use Rattle.flight_routes.proofs.MoveFacts.{window_last}
+use Rattle.flight_routes.proofs.WayFacts.{cells_within}
+use Rattle.flight_routes.proofs.trace.first_start.Goals as goal
+
+pub overflow_add-time-end : goal.overflow_add-time-end
+overflow_add-time-end c =
+    let last = window_last c.args.rates.now.periods (row_of c.args.accesses.now) 0 c.args.window
+    c.requires.ready.windows c.requires.window in
+    omega (arith, last.1, c.requires.ready.day.few)
+
+pub start_of-requires-clause-time : goal.start_of-requires-clause-time
+start_of-requires-clause-time c =
+    let last = window_last c.args.rates.now.periods (row_of c.args.accesses.now) 0 c.args.window
+    c.requires.ready.windows c.requires.window in
+    omega (arith, last.1, c.requires.ready.day.few)
+
+pub start_of-requires-clause-cell : goal.start_of-requires-clause-cell
+start_of-requires-clause-cell c =
+    let within : IsInWindow (Some c.args.window) c.loop-time.time =
+    (c.loop-time.auto.time, omega arith) in
+    cells_within c.args.flight.now (row_of c.args.accesses.now) (rates_of c.args.rates.now)
+    c.requires.ready.network c.requires.ready.day.small 0 c.args.cells.now c.requires.cells 0
+    c.loop-time.time (omega arith) (omega (arith, c.requires.ready.network.nodes_from))
+    (subst (λ (w : Option Window). IsInWindow w c.loop-time.time) (sym c.requires.window) within)

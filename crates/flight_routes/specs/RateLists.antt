@@ -1,0 +1,41 @@
+-- What a table of rates holds, and the rates that it is read as.
+use Rattle.std.specs.Prelude.{◌≡◌, ℕ, ◌+◌, ◌*◌, ◌≤◌, List, length, replicate, Option, None, slice_index_or, ℤ, pos}
+use Rattle.flow_types.specs.Limits.{most_nodes, most_periods}
+use Rattle.flight_routes.specs.Rates.{Rates}
+
+-- of a day of so many periods: by period what leaving and arriving cost, and by node and period
+-- what being there has cost and how long it is clear
+pub record RateLists : Type 0 where
+  pub periods : ℕ
+  pub leaves : List (Option ℤ)
+  pub arrives : List (Option ℤ)
+  pub paid : List ℤ
+  pub clear : List ℕ
+
+-- where a node and a period stand in a list
+abbrev pub place_of : ℕ → ℕ → ℕ
+place_of node time = node * most_periods + time
+
+abbrev pub rates_of : RateLists → Rates
+rates_of lists = record {
+  leaves = λ time. slice_index_or lists.leaves time None;
+  arrives = λ time. slice_index_or lists.arrives time None;
+  paid = λ node time. slice_index_or lists.paid (place_of node time) (pos 0);
+  clear = λ node time. slice_index_or lists.clear (place_of node time) most_periods;
+}
+
+-- room for every node and period, and no more periods than a day may have
+pub record HasRoom (lists : RateLists) : Type 0 where
+  pub periods : lists.periods ≤ most_periods
+  pub leaves : length lists.leaves ≡ most_periods
+  pub arrives : length lists.arrives ≡ most_periods
+  pub paid : length lists.paid ≡ most_nodes * most_periods
+  pub clear : length lists.clear ≡ most_nodes * most_periods
+
+-- no period to leave or to arrive in, nothing paid, and every node clear
+pub record IsBlank (of : ℕ) (lists : RateLists) : Type 0 where
+  pub periods : lists.periods ≡ of
+  pub leaves : lists.leaves ≡ replicate most_periods None
+  pub arrives : lists.arrives ≡ replicate most_periods None
+  pub paid : lists.paid ≡ replicate (most_nodes * most_periods) (pos 0)
+  pub clear : lists.clear ≡ replicate (most_nodes * most_periods) most_periods

@@ -1,0 +1,41 @@
+-- What the least ways of a flight are found under.
+use Rattle.std.specs.Prelude.{ℕ, ◌^◌, ◌<◌, ◌≤◌, List, length, IfSome, slice_index_or, All}
+use Rattle.flow_types.specs.declared.flight.Flight.{Flight}
+use Rattle.flow_types.specs.Limits.{most_nodes, most_periods}
+use Rattle.flow_types.specs.Routes.{IsLeg}
+use Rattle.time_windows.specs.declared.access.Access.{Access}
+use Rattle.time_windows.specs.Boxes.{IsInWindow, IsProper, closed}
+use Rattle.flight_routes.specs.Rates.{AreClear, IsValueWithin, Rates}
+
+-- sums of them fit in 128 bits
+pub record AreSmall (rates : Rates) : Type 0 where
+  pub leaves : (t : ℕ) → IfSome (rates.leaves t) (IsValueWithin (2 ^ 110))
+  pub arrives : (t : ℕ) → IfSome (rates.arrives t) (IsValueWithin (2 ^ 110))
+  pub paid : (n t : ℕ) → IsValueWithin (2 ^ 100) (rates.paid n t)
+
+-- what a row of accesses says of a node
+abbrev pub row_of : List Access → ℕ → Access
+row_of accesses node = slice_index_or accesses node closed
+
+-- rates of a day, which are small
+pub record AreRates (periods : ℕ) (rates : Rates) : Type 0 where
+  pub few : periods ≤ most_periods
+  pub clear : AreClear periods rates
+  pub small : AreSmall rates
+
+-- windows within the day
+pub record AreWindows (periods : ℕ) (row : ℕ → Access) : Type 0 where
+  pub proper : (n : ℕ) → IsProper (row n).window
+  pub within : (n t : ℕ) → IsInWindow (row n).window t → t < periods
+
+-- the flight has few nodes, and legs that lead upward
+pub record IsUpward (flight : Flight) : Type 0 where
+  pub nodes_from : 1 ≤ length flight.nodes
+  pub nodes_to : length flight.nodes ≤ most_nodes
+  pub legs : All (IsLeg (length flight.nodes)) flight.legs
+
+-- all of that
+pub record IsReady (flight : Flight) (row : ℕ → Access) (periods : ℕ) (rates : Rates) : Type 0 where
+  pub day : AreRates periods rates
+  pub windows : AreWindows periods row
+  pub network : IsUpward flight

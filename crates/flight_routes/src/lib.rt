@@ -1,0 +1,63 @@
+//! The least trip of a flight in a box: under prices on capacities and connections, or beside the
+//! trips of other flights.
+//!
+//! A caller makes `Work` once for a scenario, and asks for one flight at a time:
+//!
+//!     let mut work = Work::new(alloc, &s)?;
+//!     let mut prices = Prices::new(alloc, &s)?;
+//!     prices.set(PriceKey::Dep { place, period }, 40);
+//!     match work.least_trip(&s, &boxes, flight, 1, &prices) {
+//!         Some(least) => println!("{flight} pays {least}, over {} nodes", work.trip().len()),
+//!         None => println!("{flight} has no trip in the box"),
+//!     }
+//!     if work.least_fit(&s, &boxes, flight, &loads).is_some() {
+//!         loads.add(&s, flight, work.trip());
+//!     }
+//!
+//! The definitions stand in `specs/`: `Inside` (the trips of a flight in a box), `Fits` (those that
+//! fit beside the trips of others), `Prices` (prices, and what a trip costs under them) and
+//! `TripOrder` (the order of trips). `Work` is what the room for least trips is seen as. The others
+//! serve the proof: `Rates` and `Ways` (what a flight pays on its way, and the least ways on from a
+//! stop), `TripRates` and `FitRates` (the rates at which ways are trips), `Entries` and `Firsts`
+//! (the next stop), and `Filling`, `FitTimes`, `Later`, `PriceRates`, `RateLists`, `Ready`,
+//! `TimeCosts`, `Turns` and `TurnTimes`.
+//!
+//! Proved: `least_trip` and `least_fit` answer the least over all trips of the flight in the box,
+//! or over all of those that fit, and nothing exactly where there is none (`least`). `trip` is then
+//! the first, in the order of trips, of those that reach it, and has no stops where there is none
+//! (`first`). A price is what it was set to last (`here`, `others`), and 0 before (`free`).
+//!
+//! Both calls turn their question into rates of the flight: what leaving and arriving in a period
+//! cost, what being at a node has cost up to a period, and how long the flight may stay there. A
+//! table holds the least cost of going on from each node in each period, and is filled from the
+//! destination back. Along each leg, from the last period to the first, the least of the later
+//! entries into the next node is kept, so that a leg takes one step a period. The least start is
+//! the answer. The trip is traced forward from there: at each stop, to the first next one that
+//! keeps the cost.
+//!
+//! Memory: `Work` takes about 1.2 MB once, and 24 bytes a connection and 16 a flight, or up to
+//! twice that, since those lists grow. `Prices` take 24 bytes a place and period, and eight a
+//! connection and period. The calls take none. Time: `least_trip` looks at each leg of the flight,
+//! each of its sectors and each of its connections once a period, and at its legs once a node;
+//! `least_fit` does the same, with its connections once in all.
+#![tactic(auto)]
+
+mod accesses;
+mod fill;
+mod fit_rates;
+mod later;
+mod price_block;
+mod price_rates;
+mod prices;
+mod rates;
+mod relax;
+mod starts;
+mod table;
+mod time_costs;
+mod trace;
+mod turn_times;
+mod turns;
+mod work;
+
+pub use prices::Prices;
+pub use work::Work;

@@ -1,0 +1,369 @@
+//! The rates of a flight under prices.
+ghost use Rattle.std.specs.Prelude.{◌≡◌, ◌≤◌, ◌<◌, ◌+◌, ◌-◌, ◌*◌, ◌^◌, ℕ, IfSome, Some, option_map, length, slice_index, ℤ, pos, ◌*ℤ◌, ◌-ℤ◌, ◌+ℤ◌};
+ghost use Rattle.flow_types.specs.declared.flight.Flight.{Flight};
+ghost use Rattle.flow_types.specs.Limits.{most_connections, most_nodes, most_periods};
+ghost use Rattle.flow_types.specs.Scenario.{flight_at, parts_of};
+ghost use Rattle.flow_types.specs.Trips.{place_at};
+ghost use Rattle.time_windows.specs.Boxes.{IsInWindow};
+ghost use Rattle.flight_routes.specs.Filling.{AreArrivesSmall, AreLeavesSmall, ArePaidSmall, IsPriceTable, OnlyArrives, OnlyLeaves, OnlyPaid, OnlyStays};
+ghost use Rattle.flight_routes.specs.PriceRates.{arrive_value, arriving_of, leave_value, leaving_of};
+ghost use Rattle.flight_routes.specs.Prices.{ArePricesOf, price_in, summed};
+ghost use Rattle.flight_routes.specs.RateLists.{rates_of};
+ghost use Rattle.flight_routes.specs.Rates.{IsValueWithin};
+ghost use Rattle.flight_routes.specs.Ready.{AreWindows, row_of};
+ghost use Rattle.flight_routes.specs.TripRates.{AreTripRates};
+ghost use Rattle.flight_routes.specs.Turns.{AreTurnsOf};
+
+use crate::later::add_up_later;
+use crate::prices::Prices;
+use crate::rates::RateTable;
+use crate::time_costs::{credit_then, last_of, total_then};
+use crate::turns::{End, Turns};
+use flow_types::{Flight, Scenario, place_at};
+use time_windows::{Access, Window};
+
+// A weight times a cost.
+fn weighted(weight: u64, cost: Option<i64>) -> Option<i128>
+    requires weight { weight < 2 ^ 62 }
+    requires cost { IfSome cost (IsValueWithin 100000000000) }
+    ensures value { result ≡ option_map (λ value. pos weight *ℤ value) cost }
+    ensures within { IfSome result (IsValueWithin (2 ^ 100)) }
+{
+    match cost {
+        None => None,
+        Some(cost) => Some(i128::from(weight) * i128::from(cost)),
+    }
+}
+
+// What is paid, less a cost.
+fn less(paid: u128, cost: Option<i128>) -> Option<i128>
+    requires paid { paid < 2 ^ 100 }
+    requires cost { IfSome cost (IsValueWithin (2 ^ 100)) }
+    ensures value { result ≡ option_map (λ value. pos paid -ℤ value) cost }
+    ensures within { IfSome result (IsValueWithin (2 ^ 110)) }
+{
+    match cost {
+        None => None,
+        Some(cost) => Some(paid as i128 - cost),
+    }
+}
+
+// A cost and what is paid, less what is paid back.
+fn more(cost: Option<i128>, paid: u64, back: u128) -> Option<i128>
+    requires cost { IfSome cost (IsValueWithin (2 ^ 100)) }
+    requires back { back < 2 ^ 100 }
+    ensures value { result ≡ option_map (λ value. value +ℤ (pos paid -ℤ pos back)) cost }
+    ensures within { IfSome result (IsValueWithin (2 ^ 110)) }
+{
+    match cost {
+        None => None,
+        Some(cost) => Some(cost + (i128::from(paid) - back as i128)),
+    }
+}
+
+// What leaving in the period costs: its price, and what the connections cost from then on, less the
+// credit.
+fn leave_value(
+    s: &Scenario,
+    flight: u32,
+    time: u16,
+    weight: u64,
+    prices: &Prices,
+    later: u128,
+) -> Option<i128>
+    requires prices { ArePricesOf (parts_of s.now) prices.now }
+    requires flight { flight < length (parts_of s.now).flights }
+    requires time { time < (parts_of s.now).day.periods }
+    requires weight { weight < 2 ^ 62 }
+    requires later { later ≤ most_connections * 2 ^ 71 }
+    ensures value { result ≡ Some (leave_value weight prices.now (parts_of s.now)
+        (flight_at s.now flight) time later) }
+    ensures within { IfSome result (IsValueWithin (2 ^ 110)) }
+{
+    let price = prices.departure(s.flights()[flight as usize].from, time);
+    less(
+        u128::from(price) + later,
+        weighted(weight, credit_then(s, flight, time)),
+    )
+}
+
+// What arriving in the period costs: the total and its price, less what the connections pay back.
+fn arrive_value(
+    s: &Scenario,
+    flight: u32,
+    time: u16,
+    weight: u64,
+    prices: &Prices,
+    later: u128,
+) -> Option<i128>
+    requires prices { ArePricesOf (parts_of s.now) prices.now }
+    requires flight { flight < length (parts_of s.now).flights }
+    requires time { time < (parts_of s.now).day.periods }
+    requires weight { weight < 2 ^ 62 }
+    requires later { later ≤ most_connections * 2 ^ 71 }
+    ensures value { result ≡ Some (arrive_value weight prices.now (parts_of s.now)
+        (flight_at s.now flight) time later) }
+    ensures within { IfSome result (IsValueWithin (2 ^ 110)) }
+{
+    let price = prices.arrival(s.flights()[flight as usize].to, time);
+    more(weighted(weight, total_then(s, flight, time)), price, later)
+}
+
+// Sets what leaving costs in each period of the window.
+fn set_leaves(
+    table: &mut RateTable,
+    s: &Scenario,
+    flight: u32,
+    window: Window,
+    weight: u64,
+    prices: &Prices,
+    sums: &[u128],
+)
+    requires prices { ArePricesOf (parts_of s.now) prices.now }
+    requires flight { flight < length (parts_of s.now).flights }
+    requires window { window.hi < (parts_of s.now).day.periods }
+    requires weight { weight < 2 ^ 62 }
+    requires sums { length sums.now ≡ most_periods }
+    requires small { (t : ℕ) → slice_index sums.now t ≤ most_connections * 2 ^ 71 }
+    ensures leaves { (t : ℕ) → window.lo ≤ t → t ≤ window.hi → (rates_of table.new).leaves t
+        ≡ Some (leave_value weight prices.now (parts_of s.now) (flight_at s.now flight) t
+        (slice_index sums.now t)) }
+    ensures only { OnlyLeaves table.old table.new }
+    ensures within { AreLeavesSmall table.old → AreLeavesSmall table.new }
+{
+    for time in window.lo..window.hi + 1 {
+        let later = sums[usize::from(time)];
+        table.set_leave(time, leave_value(s, flight, time, weight, prices, later));
+    }
+}
+
+// Sets what arriving costs in each period of the window.
+fn set_arrives(
+    table: &mut RateTable,
+    s: &Scenario,
+    flight: u32,
+    window: Window,
+    weight: u64,
+    prices: &Prices,
+    sums: &[u128],
+)
+    requires prices { ArePricesOf (parts_of s.now) prices.now }
+    requires flight { flight < length (parts_of s.now).flights }
+    requires window { window.hi < (parts_of s.now).day.periods }
+    requires weight { weight < 2 ^ 62 }
+    requires sums { length sums.now ≡ most_periods }
+    requires small { (t : ℕ) → slice_index sums.now t ≤ most_connections * 2 ^ 71 }
+    ensures arrives { (t : ℕ) → window.lo ≤ t → t ≤ window.hi → (rates_of table.new).arrives t
+        ≡ Some (arrive_value weight prices.now (parts_of s.now) (flight_at s.now flight) t
+        (slice_index sums.now t)) }
+    ensures only { OnlyArrives table.old table.new }
+    ensures within { AreArrivesSmall table.old → AreArrivesSmall table.new }
+{
+    for time in window.lo..window.hi + 1 {
+        let later = sums[usize::from(time)];
+        table.set_arrival(time, arrive_value(s, flight, time, weight, prices, later));
+    }
+}
+
+// Sets what being at the node has cost up to each period.
+#[tactic(auto, using(crate::proofs::LaterFacts::summed_more))]
+fn set_paid(table: &mut RateTable, s: &Scenario, node: u16, place: u32, prices: &Prices)
+    requires prices { ArePricesOf (parts_of s.now) prices.now }
+    requires node { node < most_nodes }
+    requires place { place < length (parts_of s.now).places }
+    ensures paid { (t : ℕ) → t < (parts_of s.now).day.periods → (rates_of table.new).paid node t
+        ≡ pos (summed (price_in prices.now.inside place) 0 t) }
+    ensures only { OnlyPaid node table.old table.new }
+    ensures within { ArePaidSmall table.old → ArePaidSmall table.new }
+{
+    let mut sum = 0u128;
+    for time in 0..s.day().periods {
+        table.set_paid(node, time, sum);
+        sum += u128::from(prices.stay(place, time));
+    }
+}
+
+// Sets what leaving costs in each period of the window, the connections among it for which the
+// flight waits.
+fn set_leave_rates(
+    table: &mut RateTable,
+    sums: &mut [u128],
+    s: &Scenario,
+    flight: u32,
+    window: Window,
+    weight: u64,
+    prices: &Prices,
+    turns: &Turns,
+)
+    requires prices { ArePricesOf (parts_of s.now) prices.now }
+    requires turns { AreTurnsOf (parts_of s.now) turns.now }
+    requires flight { flight < length (parts_of s.now).flights }
+    requires window { window.hi < (parts_of s.now).day.periods }
+    requires weight { weight < 2 ^ 62 }
+    requires sums { length sums.old ≡ most_periods }
+    ensures leaves { (t : ℕ) → window.lo ≤ t → t ≤ window.hi → (rates_of table.new).leaves t
+        ≡ Some (leaving_of weight prices.now (parts_of s.now) flight (flight_at s.now flight) t) }
+    ensures only { OnlyLeaves table.old table.new }
+    ensures within { AreLeavesSmall table.old → AreLeavesSmall table.new }
+    ensures sums { length sums.new ≡ most_periods }
+{
+    add_up_later(
+        sums,
+        prices,
+        turns.waits(flight),
+        End::Second,
+        s.day().periods,
+    );
+    set_leaves(table, s, flight, window, weight, prices, sums);
+}
+
+// Sets what arriving costs in each period of the window, less what the connections pay back for
+// which another flight waits.
+fn set_arrive_rates(
+    table: &mut RateTable,
+    sums: &mut [u128],
+    s: &Scenario,
+    flight: u32,
+    window: Window,
+    weight: u64,
+    prices: &Prices,
+    turns: &Turns,
+)
+    requires prices { ArePricesOf (parts_of s.now) prices.now }
+    requires turns { AreTurnsOf (parts_of s.now) turns.now }
+    requires flight { flight < length (parts_of s.now).flights }
+    requires window { window.hi < (parts_of s.now).day.periods }
+    requires weight { weight < 2 ^ 62 }
+    requires sums { length sums.old ≡ most_periods }
+    ensures arrives { (t : ℕ) → window.lo ≤ t → t ≤ window.hi → (rates_of table.new).arrives t
+        ≡ Some (arriving_of weight prices.now (parts_of s.now) flight (flight_at s.now flight) t) }
+    ensures only { OnlyArrives table.old table.new }
+    ensures within { AreArrivesSmall table.old → AreArrivesSmall table.new }
+    ensures sums { length sums.new ≡ most_periods }
+{
+    add_up_later(
+        sums,
+        prices,
+        turns.waited(flight),
+        End::First,
+        s.day().periods,
+    );
+    set_arrives(table, s, flight, window, weight, prices, sums);
+}
+
+// The same where the origin may be closed, so that there is no period to leave in.
+fn set_leaves_in(
+    table: &mut RateTable,
+    sums: &mut [u128],
+    s: &Scenario,
+    accesses: &[Access],
+    flight: u32,
+    weight: u64,
+    prices: &Prices,
+    turns: &Turns,
+)
+    requires prices { ArePricesOf (parts_of s.now) prices.now }
+    requires turns { AreTurnsOf (parts_of s.now) turns.now }
+    requires flight { flight < length (parts_of s.now).flights }
+    requires accesses { length accesses.now ≡ most_nodes }
+    requires windows { AreWindows (parts_of s.now).day.periods (row_of accesses.now) }
+    requires weight { weight < 2 ^ 62 }
+    requires sums { length sums.old ≡ most_periods }
+    ensures leaves { (t : ℕ) → IsInWindow (row_of accesses.now 0).window t
+        → (rates_of table.new).leaves t
+        ≡ Some (leaving_of weight prices.now (parts_of s.now) flight (flight_at s.now flight) t) }
+    ensures only { OnlyLeaves table.old table.new }
+    ensures within { AreLeavesSmall table.old → AreLeavesSmall table.new }
+    ensures sums { length sums.new ≡ most_periods }
+{
+    if let Some(window) = accesses[0].window {
+        set_leave_rates(table, sums, s, flight, window, weight, prices, turns);
+    }
+}
+
+// The same where the destination may be closed.
+fn set_arrives_in(
+    table: &mut RateTable,
+    sums: &mut [u128],
+    s: &Scenario,
+    accesses: &[Access],
+    last: u16,
+    flight: u32,
+    weight: u64,
+    prices: &Prices,
+    turns: &Turns,
+)
+    requires prices { ArePricesOf (parts_of s.now) prices.now }
+    requires turns { AreTurnsOf (parts_of s.now) turns.now }
+    requires flight { flight < length (parts_of s.now).flights }
+    requires accesses { length accesses.now ≡ most_nodes }
+    requires windows { AreWindows (parts_of s.now).day.periods (row_of accesses.now) }
+    requires last { last < most_nodes }
+    requires weight { weight < 2 ^ 62 }
+    requires sums { length sums.old ≡ most_periods }
+    ensures arrives { (t : ℕ) → IsInWindow (row_of accesses.now last).window t
+        → (rates_of table.new).arrives t
+        ≡ Some (arriving_of weight prices.now (parts_of s.now) flight (flight_at s.now flight) t) }
+    ensures only { OnlyArrives table.old table.new }
+    ensures within { AreArrivesSmall table.old → AreArrivesSmall table.new }
+    ensures sums { length sums.new ≡ most_periods }
+{
+    if let Some(window) = accesses[usize::from(last)].window {
+        set_arrive_rates(table, sums, s, flight, window, weight, prices, turns);
+    }
+}
+
+// Sets what being in each sector of the flight has cost up to each period.
+fn set_stays(table: &mut RateTable, s: &Scenario, flight: &Flight, last: u16, prices: &Prices)
+    requires prices { ArePricesOf (parts_of s.now) prices.now }
+    requires last { last < most_nodes }
+    requires places { (n : ℕ) → 0 < n → n < last
+        → place_at flight.now n < length (parts_of s.now).places }
+    ensures paid { (n t : ℕ) → 0 < n → n < last → t < (parts_of s.now).day.periods
+        → (rates_of table.new).paid n t
+        ≡ pos (summed (price_in prices.now.inside (place_at flight.now n)) 0 t) }
+    ensures first { (t : ℕ) → t < most_periods
+        → (rates_of table.new).paid 0 t ≡ (rates_of table.old).paid 0 t }
+    ensures only { OnlyStays table.old table.new }
+    ensures within { ArePaidSmall table.old → ArePaidSmall table.new }
+{
+    for node in 1..last {
+        set_paid(table, s, node, place_at(flight, node), prices);
+    }
+}
+
+/// Sets the rates of the flight: what leaving and arriving cost it, and what being in its sectors
+/// has cost up to each period, at this weight of its cost and these prices.
+pub fn set_price_rates(
+    table: &mut RateTable,
+    sums: &mut [u128],
+    s: &Scenario,
+    accesses: &[Access],
+    flight: u32,
+    weight: u64,
+    prices: &Prices,
+    turns: &Turns,
+)
+    requires table { IsPriceTable table.old }
+    requires prices { ArePricesOf (parts_of s.now) prices.now }
+    requires turns { AreTurnsOf (parts_of s.now) turns.now }
+    requires flight { flight < length (parts_of s.now).flights }
+    requires accesses { length accesses.now ≡ most_nodes }
+    requires windows { AreWindows (parts_of s.now).day.periods (row_of accesses.now) }
+    requires weight { weight < 2 ^ 62 }
+    requires sums { length sums.old ≡ most_periods }
+    ensures rates { (details : Flight) → flight_at s.now flight ≡ Some details
+        → AreTripRates weight prices.now (parts_of s.now) flight details (row_of accesses.now)
+        (rates_of table.new) }
+    ensures table { IsPriceTable table.new }
+    ensures periods { table.new.periods ≡ table.old.periods }
+    ensures sums { length sums.new ≡ most_periods }
+{
+    let details = &s.flights()[flight as usize];
+    let last = last_of(details);
+    set_leaves_in(table, sums, s, accesses, flight, weight, prices, turns);
+    set_arrives_in(
+        table, sums, s, accesses, last, flight, weight, prices, turns,
+    );
+    set_stays(table, s, details, last, prices);
+}

@@ -1,0 +1,268 @@
+//! The first of the least ways of a flight.
+ghost use Rattle.std.specs.Prelude.{◌≡◌, ◌*◌, ◌+◌, ◌≤◌, ◌<◌, ◌^◌, ◌↔◌, true, ℕ, Some, IfSome, IsSome, length, vec_capacity, neg_ℤ};
+ghost use Rattle.exact_sums.specs.Leasts.{IsFirstLeast, IsLeast, raised};
+ghost use Rattle.flow_types.specs.Limits.{most_delay, most_nodes, most_periods};
+ghost use Rattle.flow_types.specs.Routes.{IsLeg};
+ghost use Rattle.time_windows.specs.Boxes.{IsInWindow};
+ghost use Rattle.flight_routes.specs.Entries.{cell_at};
+ghost use Rattle.flight_routes.specs.Firsts.{IsFirst, IsFirstAt, IsFirstTime, IsFirstTimeAt, IsKeptMove, IsKeptStart, IsNext, IsNextBy, earlier, key_of};
+ghost use Rattle.flight_routes.specs.RateLists.{rates_of};
+ghost use Rattle.flight_routes.specs.Rates.{IsValueWithin, IsWay, whole_cost};
+ghost use Rattle.flight_routes.specs.Ready.{AreRates, AreWindows, IsReady, row_of};
+ghost use Rattle.flight_routes.specs.TripOrder.{IsNoLater};
+ghost use Rattle.flight_routes.specs.Ways.{AreCells, IsLimit};
+
+use crate::accesses::{limit_of, window_at};
+use crate::rates::RateTable;
+use crate::relax::cell_at;
+use crate::starts::start_of;
+use flow_types::{Flight, Leg, Stop};
+use time_windows::{Access, Window};
+
+// The place of the stop among all.
+fn key_of(stop: Stop) -> u32
+    ensures { result ≡ key_of stop }
+{
+    u32::from(stop.node) * 512 + u32::from(stop.time)
+}
+
+// The earlier of two stops, as far as they are there.
+fn earlier(a: Option<Stop>, b: Option<Stop>) -> Option<Stop>
+    ensures { result ≡ earlier a b }
+{
+    match (a, b) {
+        (None, b) => b,
+        (a, None) => a,
+        (Some(a), Some(b)) => {
+            if key_of(b) < key_of(a) {
+                Some(b)
+            } else {
+                Some(a)
+            }
+        }
+    }
+}
+
+// Whether two costs are the same.
+fn is_same(a: Option<i128>, b: Option<i128>) -> bool
+    ensures { (result ≡ true) ↔ (a ≡ b) }
+{
+    match (a, b) {
+        (None, None) => true,
+        (Some(a), Some(b)) => a == b,
+        _ => false,
+    }
+}
+
+// What a move costs, with a way on from there.
+fn moved(rates: &RateTable, cells: &[Option<i128>], leg: Leg, from: u16, time: u16) -> Option<i128>
+    requires cells { length cells.now ≡ most_nodes * most_periods }
+    requires node { leg.from < most_nodes }
+    requires to { leg.to < most_nodes }
+    requires from { from < most_periods }
+    requires time { time < most_periods }
+    requires cell { IfSome (cell_at cells.now leg.to time) (IsValueWithin (2 ^ 111)) }
+    requires enters { IsValueWithin (2 ^ 100) ((rates_of rates.now).paid leg.from time) }
+    requires leaves { IsValueWithin (2 ^ 100) ((rates_of rates.now).paid leg.from from) }
+    ensures { result ≡ raised (neg_ℤ ((rates_of rates.now).paid leg.from from))
+        (raised ((rates_of rates.now).paid leg.from time) (cell_at cells.now leg.to time)) }
+{
+    let cost = rates.with_paid(leg.from, time, cell_at(cells, leg.to, time));
+    rates.without_paid(leg.from, from, cost)
+}
+
+// The first period in which entering the next node keeps the cost.
+fn first_entry(
+    rates: &RateTable,
+    cells: &[Option<i128>],
+    leg: Leg,
+    next: Window,
+    from: u16,
+    value: Option<i128>,
+) -> Option<u16>
+    requires cells { length cells.now ≡ most_nodes * most_periods }
+    requires node { leg.from < most_nodes }
+    requires to { leg.to < most_nodes }
+    requires least { leg.least ≤ most_delay }
+    requires from { from < most_periods }
+    requires last { next.hi < most_periods }
+    requires paid { (n t : ℕ) → IsValueWithin (2 ^ 100) ((rates_of rates.now).paid n t) }
+    requires costs { (u : ℕ) → next.lo ≤ u → u ≤ next.hi
+        → IfSome (cell_at cells.now leg.to u) (IsValueWithin (2 ^ 111)) }
+    requires value { IsSome value }
+    ensures { IsFirstTime (IsKeptMove (rates_of rates.now) (cell_at cells.now leg.to) next leg.from
+        leg.least from value) result }
+{
+    let last = next.hi.min(rates.clear_at(leg.from, from));
+    for time in next.lo.max(from + leg.least)..last + 1 {
+        if is_same(moved(rates, cells, leg, from, time), value) {
+            return Some(time);
+        }
+    }
+    None
+}
+
+// The first stop to go on to by the leg, if that keeps the cost.
+fn first_by(
+    rates: &RateTable,
+    accesses: &[Access],
+    cells: &[Option<i128>],
+    nodes: u16,
+    stop: Stop,
+    limit: u16,
+    leg: Leg,
+    value: Option<i128>,
+) -> Option<Stop>
+    requires accesses { length accesses.now ≡ most_nodes }
+    requires cells { length cells.now ≡ most_nodes * most_periods }
+    requires nodes { nodes ≤ most_nodes }
+    requires leg { IsLeg nodes leg }
+    requires time { stop.time < most_periods }
+    requires limit { IsLimit (row_of accesses.now) nodes stop.node limit }
+    requires day { AreRates rates.now.periods (rates_of rates.now) }
+    requires windows { AreWindows rates.now.periods (row_of accesses.now) }
+    requires costs { (n u : ℕ) → n < nodes → IsInWindow (row_of accesses.now n).window u
+        → IfSome (cell_at cells.now n u) (IsValueWithin (2 ^ 111)) }
+    requires value { IsSome value }
+    ensures { IsFirst (IsNextBy leg (row_of accesses.now) (rates_of rates.now) cells.now stop value)
+        result }
+{
+    if leg.from != stop.node {
+        return None;
+    }
+    if leg.to > limit {
+        return None;
+    }
+    let Some(next) = window_at(accesses, leg.to) else {
+        return None;
+    };
+    match first_entry(rates, cells, leg, next, stop.time, value) {
+        None => None,
+        Some(time) => Some(Stop { node: leg.to, time }),
+    }
+}
+
+// The first stop to go on to from one that isn't at the last node, of those that keep the cost.
+fn next_stop(
+    flight: &Flight,
+    accesses: &[Access],
+    rates: &RateTable,
+    cells: &[Option<i128>],
+    stop: Stop,
+) -> Stop
+    requires accesses { length accesses.now ≡ most_nodes }
+    requires ready { IsReady flight.now (row_of accesses.now) rates.now.periods
+        (rates_of rates.now) }
+    requires length { length cells.now ≡ most_nodes * most_periods }
+    requires cells { AreCells flight.now (row_of accesses.now) (rates_of rates.now) 0 cells.now }
+    requires node { stop.node + 1 < length flight.now.nodes }
+    requires window { IsInWindow (row_of accesses.now stop.node).window stop.time }
+    requires reaches { IsSome (cell_at cells.now stop.node stop.time) }
+    ensures { IsFirstAt (IsNext flight.now (row_of accesses.now) (rates_of rates.now) cells.now stop
+        (cell_at cells.now stop.node stop.time)) result }
+{
+    let legs = flight.legs.items();
+    let nodes = flight.nodes.items().len() as u16;
+    let limit = limit_of(accesses, nodes, stop.node);
+    let value = cell_at(cells, stop.node, stop.time);
+    let mut first = None;
+    for at in 0..legs.len() {
+        first = earlier(
+            first,
+            first_by(rates, accesses, cells, nodes, stop, limit, legs[at], value),
+        );
+    }
+    match first {
+        None => unreachable!(),
+        Some(next) => next,
+    }
+}
+
+// The first period of the window of the first node in which a start has the least cost.
+fn first_start(
+    flight: &Flight,
+    accesses: &[Access],
+    rates: &RateTable,
+    cells: &[Option<i128>],
+    window: Window,
+    least: Option<i128>,
+) -> Option<u16>
+    requires accesses { length accesses.now ≡ most_nodes }
+    requires ready { IsReady flight.now (row_of accesses.now) rates.now.periods
+        (rates_of rates.now) }
+    requires window { (row_of accesses.now 0).window ≡ Some window }
+    requires length { length cells.now ≡ most_nodes * most_periods }
+    requires cells { AreCells flight.now (row_of accesses.now) (rates_of rates.now) 0 cells.now }
+    requires least { IsSome least }
+    ensures { IsFirstTime (IsKeptStart (row_of accesses.now) (rates_of rates.now) cells.now least)
+        result }
+{
+    for time in window.lo..window.hi + 1 {
+        if is_same(start_of(rates, cells, time), least) {
+            return Some(time);
+        }
+    }
+    None
+}
+
+// The first stop of the first of the least ways.
+fn start_stop(
+    flight: &Flight,
+    accesses: &[Access],
+    rates: &RateTable,
+    cells: &[Option<i128>],
+    least: Option<i128>,
+) -> Stop
+    requires accesses { length accesses.now ≡ most_nodes }
+    requires ready { IsReady flight.now (row_of accesses.now) rates.now.periods
+        (rates_of rates.now) }
+    requires length { length cells.now ≡ most_nodes * most_periods }
+    requires cells { AreCells flight.now (row_of accesses.now) (rates_of rates.now) 0 cells.now }
+    requires least { IsLeast (IsWay flight.now (row_of accesses.now) (rates_of rates.now))
+        (whole_cost (rates_of rates.now)) least }
+    requires some { IsSome least }
+    ensures node { result.node ≡ 0 }
+    ensures first { IsFirstTimeAt (IsKeptStart (row_of accesses.now) (rates_of rates.now) cells.now
+        least) result.time }
+{
+    let Some(window) = window_at(accesses, 0) else {
+        unreachable!()
+    };
+    match first_start(flight, accesses, rates, cells, window, least) {
+        None => unreachable!(),
+        Some(time) => Stop { node: 0, time },
+    }
+}
+
+/// Puts the stops of the first of the least ways, by the cells of a table, into a vector that has
+/// room for them.
+pub fn trace(
+    flight: &Flight,
+    accesses: &[Access],
+    rates: &RateTable,
+    cells: &[Option<i128>],
+    least: Option<i128>,
+    stops: &mut Vec<Stop>,
+)
+    requires accesses { length accesses.now ≡ most_nodes }
+    requires ready { IsReady flight.now (row_of accesses.now) rates.now.periods
+        (rates_of rates.now) }
+    requires length { length cells.now ≡ most_nodes * most_periods }
+    requires cells { AreCells flight.now (row_of accesses.now) (rates_of rates.now) 0 cells.now }
+    requires least { IsLeast (IsWay flight.now (row_of accesses.now) (rates_of rates.now))
+        (whole_cost (rates_of rates.now)) least }
+    requires some { IsSome least }
+    requires room { most_nodes ≤ vec_capacity stops.old }
+    ensures first { IsFirstLeast (IsWay flight.now (row_of accesses.now) (rates_of rates.now))
+        (whole_cost (rates_of rates.now)) IsNoLater stops.new.items }
+    ensures room { most_nodes ≤ vec_capacity stops.new }
+{
+    let nodes = flight.nodes.items().len();
+    let mut stop = start_stop(flight, accesses, rates, cells, least);
+    stops.clear();
+    stops.push_reserved(stop);
+    while usize::from(stop.node) + 1 < nodes {
+        stop = next_stop(flight, accesses, rates, cells, stop);
+        stops.push_reserved(stop);
+    }
+}

@@ -1,0 +1,247 @@
+//! The least trip of a flight: under prices, or beside the trips of others.
+ghost use Rattle.std.specs.Prelude.{◌≡◌, ◌≤◌, ◌<◌, ℕ, IfOk, MatchOption, [], length, vec_capacity, vec_len};
+ghost use Rattle.exact_sums.specs.Leasts.{IsFirstLeast, IsLeast};
+ghost use Rattle.flow_types.specs.Limits.{most_nodes, most_periods};
+ghost use Rattle.time_windows.specs.Boxes.{IsProper};
+ghost use Rattle.time_windows.specs.Held.{box_of};
+ghost use Rattle.flight_routes.specs.RateLists.{rates_of};
+ghost use Rattle.flight_routes.specs.Rates.{IsWay, whole_cost};
+ghost use Rattle.flight_routes.specs.Ready.{IsReady, row_of};
+ghost use Rattle.flight_routes.specs.TripOrder.{IsNoLater};
+
+use crate::fit_rates::set_fit_rates;
+use crate::price_rates::set_price_rates;
+use crate::prices::Prices;
+use crate::rates::RateTable;
+use crate::table::Table;
+use crate::turns::Turns;
+use flow_types::{Flight, MOST_NODES, OutOfMemory, Scenario, Stop};
+use plan_rules::Loads;
+use std::alloc::Global;
+use std::marker::Model;
+use time_windows::{Access, Boxes};
+
+/// The room in which least trips are found, made once for a scenario: 1.2 MB and a few bytes a
+/// flight and connection. Contracts see it as the stops of the last least trip.
+#[derive(Debug, Drop)]
+pub struct Work {
+    periods: u16,
+    turns: Turns,
+    // The rates of one flight, under prices and beside loads.
+    priced: RateTable,
+    fitting: RateTable,
+    table: Table,
+    // What the box says of each node of the flight.
+    accesses: Vec<Access>,
+    // What connections cost from each period on.
+    sums: Vec<u128>,
+    stops: Vec<Stop>,
+}
+
+impl Model for Work {
+    ghost use Rattle.std.specs.Prelude.{◌≡◌, ◌≤◌, vec_capacity, vec_len};
+    ghost use Rattle.flow_types.specs.Limits.{most_nodes, most_periods};
+    ghost use Rattle.flight_routes.specs.Filling.{IsFitTable, IsPriceTable};
+    ghost use Rattle.flight_routes.specs.Work.{Worked};
+
+    ghost Value = { Worked };
+
+    ghost view = { λ a. record {
+      trip = a.stops.items;
+      periods = a.periods;
+      turns = a.turns;
+    } };
+
+    ghost invariant = { λ a. (a.priced.periods ≡ a.periods) × (a.fitting.periods ≡ a.periods)
+        × IsPriceTable a.priced × IsFitTable a.fitting
+        × (vec_len a.accesses ≡ most_nodes) × (vec_len a.sums ≡ most_periods)
+        × (most_nodes ≤ vec_capacity a.stops) };
+}
+
+impl Work {
+    ghost use Rattle.std.specs.Prelude.{ℕ, ◌≡◌, ◌<◌, ◌^◌, IfOk, List, MatchOption, Some, [], length};
+    ghost use Rattle.exact_sums.specs.Leasts.{IsFirstLeast, IsLeast};
+    ghost use Rattle.flow_types.specs.declared.plan.Stop.{Stop};
+    ghost use Rattle.flow_types.specs.Costs.{trip_cost_at};
+    ghost use Rattle.flow_types.specs.Scenario.{flight_at, parts_of};
+    ghost use Rattle.plan_rules.specs.Loads.{AreLoads, IsMadeFor as AreLoadsFor};
+    ghost use Rattle.time_windows.specs.Held.{IsMadeFor, box_of};
+    ghost use Rattle.flight_routes.specs.Fits.{IsTripThatFits};
+    ghost use Rattle.flight_routes.specs.Inside.{IsTripIn};
+    ghost use Rattle.flight_routes.specs.Prices.{ArePricesOf, priced_cost};
+    ghost use Rattle.flight_routes.specs.TripOrder.{IsNoLater};
+    ghost use Rattle.flight_routes.specs.Work.{IsWorkFor};
+
+    /// Room for the flights of the scenario, with no trip in it yet.
+    pub fn new(alloc: Global, s: &Scenario) -> Result<Work, OutOfMemory>
+        ensures made { IfOk result (IsWorkFor (parts_of s.now)) }
+        ensures none { IfOk result (λ work. work.trip ≡ []) }
+    {
+        let periods = s.day().periods;
+        Ok(Work {
+            periods,
+            turns: Turns::new(alloc, s)?,
+            priced: RateTable::new(alloc, periods)?,
+            fitting: RateTable::new(alloc, periods)?,
+            table: Table::new(alloc)?,
+            accesses: no_accesses(alloc)?,
+            sums: no_sums(alloc)?,
+            stops: Vec::with_capacity(alloc, MOST_NODES)?,
+        })
+    }
+
+    /// The least of weight times cost plus prices over the trips of the flight in the box, nothing
+    /// where there is no trip. The flight, the box and the prices are of the scenario that the work
+    /// was made for, and the weight is below 2^62. It takes no memory, and time for each leg and
+    /// each period between the windows that it joins.
+    ///
+    /// A dynamic program from the destination back over nodes and periods, with the least of the
+    /// later entries kept along each leg (the least path in a network of nodes and times).
+    pub fn least_trip(
+        &mut self,
+        s: &Scenario,
+        boxes: &Boxes,
+        flight: u32,
+        weight: u64,
+        prices: &Prices,
+    ) -> Option<i128>
+        requires made { IsWorkFor (parts_of s.now) self.old }
+        requires boxes { IsMadeFor (parts_of s.now) boxes.now }
+        requires flight { flight < length (parts_of s.now).flights }
+        requires weight { weight < 2 ^ 62 }
+        requires prices { ArePricesOf (parts_of s.now) prices.now }
+        ensures least { IsLeast (IsTripIn (parts_of s.now) (box_of boxes.now) flight)
+            (priced_cost weight prices.now (parts_of s.now) flight) result }
+        ensures first { MatchOption result (self.new.trip ≡ []) (λ least.
+            IsFirstLeast (IsTripIn (parts_of s.now) (box_of boxes.now) flight)
+            (priced_cost weight prices.now (parts_of s.now) flight) IsNoLater self.new.trip) }
+        ensures made { IsWorkFor (parts_of s.now) self.new }
+    {
+        take_row(&mut self.accesses, boxes, flight);
+        set_price_rates(
+            &mut self.priced,
+            &mut self.sums,
+            s,
+            &self.accesses,
+            flight,
+            weight,
+            prices,
+            &self.turns,
+        );
+        least_way(
+            &mut self.table,
+            &s.flights()[flight as usize],
+            &self.accesses,
+            &self.priced,
+            &mut self.stops,
+        )
+    }
+
+    /// The least cost of the trips of the flight in the box that fit beside the trips that the
+    /// loads count: they take no count above a capacity and break no connection. Nothing where
+    /// there is no such trip. The flight isn't in the loads yet; it, the box and the loads are of
+    /// the scenario that the work was made for. It takes no memory, and time as `least_trip`.
+    pub fn least_fit(
+        &mut self,
+        s: &Scenario,
+        boxes: &Boxes,
+        flight: u32,
+        loads: &Loads,
+    ) -> Option<i128>
+        requires made { IsWorkFor (parts_of s.now) self.old }
+        requires boxes { IsMadeFor (parts_of s.now) boxes.now }
+        requires flight { flight < length (parts_of s.now).flights }
+        requires loads { AreLoadsFor (parts_of s.now) loads.now }
+        ensures least { (trips : List (List Stop)) → AreLoads (parts_of s.now) trips loads.now
+            → IsLeast (IsTripThatFits (parts_of s.now) (box_of boxes.now) trips flight)
+            (trip_cost_at (parts_of s.now).tables (flight_at s.now flight)) result }
+        ensures first { (trips : List (List Stop)) → AreLoads (parts_of s.now) trips loads.now
+            → MatchOption result (self.new.trip ≡ []) (λ least.
+            IsFirstLeast (IsTripThatFits (parts_of s.now) (box_of boxes.now) trips flight)
+            (trip_cost_at (parts_of s.now).tables (flight_at s.now flight)) IsNoLater
+            self.new.trip) }
+        ensures made { IsWorkFor (parts_of s.now) self.new }
+    {
+        take_row(&mut self.accesses, boxes, flight);
+        set_fit_rates(
+            &mut self.fitting,
+            s,
+            &self.accesses,
+            flight,
+            loads,
+            &self.turns,
+        );
+        least_way(
+            &mut self.table,
+            &s.flights()[flight as usize],
+            &self.accesses,
+            &self.fitting,
+            &mut self.stops,
+        )
+    }
+
+    /// The stops of the first, in the order of trips, of those that reached the least that was
+    /// found last; no stops where there was no trip, and before the first call.
+    pub fn trip(&self) -> &[Stop]
+        ensures { result.now ≡ self.now.trip }
+    {
+        &self.stops
+    }
+}
+
+// So many closed nodes as a flight may have.
+fn no_accesses(alloc: Global) -> Result<Vec<Access>, OutOfMemory>
+    ensures { IfOk result (λ accesses. vec_len accesses ≡ most_nodes) }
+{
+    let closed = Access {
+        window: None,
+        must: false,
+    };
+    Ok(vec![in alloc; closed; 32]?)
+}
+
+// A sum of nothing for each period that a day may have.
+fn no_sums(alloc: Global) -> Result<Vec<u128>, OutOfMemory>
+    ensures { IfOk result (λ sums. vec_len sums ≡ most_periods) }
+{
+    Ok(vec![in alloc; 0; 512]?)
+}
+
+// Puts what the box says of each node of the flight into a row.
+fn take_row(accesses: &mut [Access], boxes: &Boxes, flight: u32)
+    requires { length accesses.old ≡ most_nodes }
+    ensures length { length accesses.new ≡ most_nodes }
+    ensures row { (n : ℕ) → row_of accesses.new n ≡ box_of boxes.now flight n }
+    ensures proper { (n : ℕ) → IsProper (row_of accesses.new n).window }
+{
+    for node in 0..MOST_NODES {
+        accesses[node] = boxes.access(flight, node as u16);
+    }
+}
+
+// The least way of the flight, and the first of those that reach it: no stops where there is none.
+fn least_way(
+    table: &mut Table,
+    flight: &Flight,
+    accesses: &[Access],
+    rates: &RateTable,
+    stops: &mut Vec<Stop>,
+) -> Option<i128>
+    requires accesses { length accesses.now ≡ most_nodes }
+    requires ready { IsReady flight.now (row_of accesses.now) rates.now.periods
+        (rates_of rates.now) }
+    requires room { most_nodes ≤ vec_capacity stops.old }
+    ensures least { IsLeast (IsWay flight.now (row_of accesses.now) (rates_of rates.now))
+        (whole_cost (rates_of rates.now)) result }
+    ensures first { MatchOption result (stops.new.items ≡ []) (λ least.
+        IsFirstLeast (IsWay flight.now (row_of accesses.now) (rates_of rates.now))
+        (whole_cost (rates_of rates.now)) IsNoLater stops.new.items) }
+    ensures room { most_nodes ≤ vec_capacity stops.new }
+{
+    let least = table.least_way(flight, accesses, rates);
+    match least {
+        None => stops.clear(),
+        Some(_) => table.trace(flight, accesses, rates, least, stops),
+    }
+    least
+}

@@ -1,0 +1,2 @@
+pub mod FeasibleFacts
+pub mod BoundFacts

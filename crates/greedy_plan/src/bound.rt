@@ -1,0 +1,73 @@
+//! The bound that goes with the greedy plan.
+ghost use Rattle.std.specs.Prelude.{◌≡◌, ◌^◌, IfOk, IfSome, List};
+ghost use Rattle.flow_types.specs.Feasible.{IsFeasible};
+ghost use Rattle.flow_types.specs.Bounds.{IsBound};
+ghost use Rattle.flow_types.specs.Scenario.{parts_of};
+ghost use Rattle.flow_types.specs.declared.bound.Bound.{Bound};
+ghost use Rattle.flow_types.specs.declared.parts.Parts.{Parts};
+ghost use Rattle.flow_types.specs.declared.plan.Stop.{Stop};
+ghost use Rattle.flight_routes.specs.Prices.{AreFree, ArePricesOf};
+ghost use Rattle.flight_routes.specs.Work.{IsWorkFor};
+ghost use Rattle.time_windows.specs.Boxes.{Box, IsInBox};
+ghost use Rattle.time_windows.specs.Held.{IsMadeFor, box_of};
+ghost use Rattle.greedy_plan.specs.FirstBound.{IsFirstBound, IsNear, plus};
+
+use flight_routes::{Prices, Work};
+use flow_types::{Bound, OutOfMemory, Scenario};
+use std::alloc::Global;
+use time_windows::Boxes;
+
+/// A bound on the cost of the plans in the box: the sum over the flights of the least cost of a trip
+/// in it, as if each flight were alone; that no plan exists, where a flight has no trip there.
+///
+/// The box is one of the scenario. It takes memory for prices, which are all 0, and for the room in
+/// which least trips are found; time as a least trip for each flight.
+pub fn first_bound(alloc: Global, s: &Scenario, boxes: &Boxes) -> Result<Bound, OutOfMemory>
+    requires { IsMadeFor (parts_of s.now) boxes.now }
+    ensures { IfOk result (IsFirstBound (parts_of s.now) (box_of boxes.now)) }
+{
+    let prices = Prices::new(alloc, s)?;
+    let mut work = Work::new(alloc, s)?;
+    Ok(bound_of(s, boxes, &mut work, &prices))
+}
+
+// The bound, by least trips at no price.
+fn bound_of(s: &Scenario, boxes: &Boxes, work: &mut Work, prices: &Prices) -> Bound
+    requires boxes { IsMadeFor (parts_of s.now) boxes.now }
+    requires work { IsWorkFor (parts_of s.now) work.old }
+    requires prices { ArePricesOf (parts_of s.now) prices.now }
+    requires free { AreFree prices.now }
+    ensures { IsFirstBound (parts_of s.now) (box_of boxes.now) result }
+{
+    let mut sum = Some(0);
+    for number in 0..s.flights().len() {
+        sum = plus(sum, work.least_trip(s, boxes, number as u32, 1, prices));
+    }
+    match sum {
+        None => Bound::NoPlan,
+        Some(least) => Bound::AtLeast(least),
+    }
+}
+
+// The sum of both, where both are there.
+fn plus(sum: Option<i128>, cost: Option<i128>) -> Option<i128>
+    requires sum { IfSome sum (IsNear (2 ^ 100)) }
+    requires cost { IfSome cost (IsNear (2 ^ 100)) }
+    ensures { result ≡ plus sum cost }
+{
+    match sum {
+        None => None,
+        Some(sum) => match cost {
+            None => None,
+            Some(cost) => Some(sum + cost),
+        },
+    }
+}
+
+/// No plan that keeps every rule and is in the box costs less than the bound, and none is there
+/// where the bound is that no plan exists.
+pub fn first_bounds_are_bounds()
+    ensures { (parts : Parts) (box : Box) (bound : Bound) → IsFirstBound parts box bound
+        → ((plan : List (List Stop)) → IsFeasible parts plan → IsInBox box plan)
+        → IsBound parts bound }
+{}

@@ -1,0 +1,96 @@
+//! The greedy plan.
+ghost use Rattle.std.specs.Prelude.{◌≡◌, ◌<◌, IfOk, List, Ok, false, length, true};
+ghost use Rattle.flow_types.specs.declared.plan.Stop.{Stop};
+ghost use Rattle.flight_routes.specs.Fits.{IsTripThatFits};
+ghost use Rattle.flow_types.specs.Feasible.{IsFeasible};
+ghost use Rattle.flow_types.specs.Scenario.{parts_of};
+ghost use Rattle.flight_routes.specs.Work.{IsWorkFor};
+ghost use Rattle.plan_rules.specs.Loads.{AreLoads, no_trips};
+ghost use Rattle.time_windows.specs.Held.{IsMadeFor, box_of};
+ghost use Rattle.greedy_plan.specs.Greedy.{IfPlanned, IsGreedyAnswer, IsOneMore, with_rest};
+
+use flight_routes::Work;
+use flow_types::{OutOfMemory, Plan, Scenario, Trip};
+use plan_rules::Loads;
+use std::alloc::Global;
+use time_windows::Boxes;
+
+/// How far the greedy plan comes.
+#[derive(Debug, Drop)]
+pub enum Greedy {
+    /// Each flight has a trip.
+    Plan(Plan),
+    /// The flights before this one have trips, and none of its own fits beside them.
+    Stuck { kept: Plan, flight: u32 },
+}
+
+/// The greedy plan in the box: in the order of the flights, each takes the cheapest of its trips in
+/// the box that fit beside those before it, and of several the first in the order of trips. It keeps
+/// every rule. Where no trip of a flight fits, it is stuck there.
+///
+/// The box is one of the scenario. It takes memory for the plan, for loads, and for the room in
+/// which least trips are found; time as a least trip for each flight.
+pub fn first_plan(alloc: Global, s: &Scenario, boxes: &Boxes) -> Result<Greedy, OutOfMemory>
+    requires { IsMadeFor (parts_of s.now) boxes.now }
+    ensures greedy { IfOk result (IsGreedyAnswer (parts_of s.now) (box_of boxes.now)) }
+    ensures feasible { IfOk result (λ greedy. IfPlanned greedy (IsFeasible (parts_of s.now))) }
+{
+    let mut loads = Loads::new(alloc, s)?;
+    let mut work = Work::new(alloc, s)?;
+    choose_trips(alloc, s, boxes, &mut work, &mut loads)
+}
+
+// Chooses a trip for each flight, as far as there is one that fits.
+fn choose_trips(
+    alloc: Global,
+    s: &Scenario,
+    boxes: &Boxes,
+    work: &mut Work,
+    loads: &mut Loads,
+) -> Result<Greedy, OutOfMemory>
+    requires boxes { IsMadeFor (parts_of s.now) boxes.now }
+    requires work { IsWorkFor (parts_of s.now) work.old }
+    requires loads { AreLoads (parts_of s.now) (no_trips (parts_of s.now)) loads.old }
+    ensures greedy { IfOk result (IsGreedyAnswer (parts_of s.now) (box_of boxes.now)) }
+    ensures feasible { IfOk result (λ greedy. IfPlanned greedy (IsFeasible (parts_of s.now))) }
+{
+    let mut plan = Plan::empty(alloc);
+    for number in 0..s.flights().len() {
+        let flight = number as u32;
+        if !choose_trip(alloc, s, boxes, flight, work, loads, &mut plan)? {
+            return Ok(Greedy::Stuck { kept: plan, flight });
+        }
+    }
+    Ok(Greedy::Plan(plan))
+}
+
+// Chooses a trip for the next flight, and tells whether one fits.
+fn choose_trip(
+    alloc: Global,
+    s: &Scenario,
+    boxes: &Boxes,
+    flight: u32,
+    work: &mut Work,
+    loads: &mut Loads,
+    plan: &mut Plan,
+) -> Result<bool, OutOfMemory>
+    requires boxes { IsMadeFor (parts_of s.now) boxes.now }
+    requires work { IsWorkFor (parts_of s.now) work.old }
+    requires loads { AreLoads (parts_of s.now) (with_rest (parts_of s.now).flights plan.old)
+        loads.old }
+    requires flight { flight < length (parts_of s.now).flights }
+    requires next { length plan.old ≡ flight }
+    ensures added { result ≡ Ok true
+        → IsOneMore (parts_of s.now) (box_of boxes.now) plan.old plan.new loads.new }
+    ensures stuck { result ≡ Ok false → plan.new ≡ plan.old }
+    ensures none { result ≡ Ok false → (stops : List Stop) → IsTripThatFits (parts_of s.now)
+        (box_of boxes.now) (with_rest (parts_of s.now).flights plan.old) flight stops → ⊥ }
+    ensures work { IsWorkFor (parts_of s.now) work.new }
+{
+    if work.least_fit(s, boxes, flight, loads).is_none() {
+        return Ok(false);
+    }
+    loads.add(s, flight, work.trip());
+    plan.add(Trip::from_stops(alloc, work.trip())?)?;
+    Ok(true)
+}

@@ -1,0 +1,17 @@
+pub mod AnyFacts
+pub mod WindowFacts
+pub mod NarrowFacts
+pub mod EntryFacts
+pub mod RaiseFacts
+pub mod LowerFacts
+pub mod SettleFacts
+pub mod TurnFacts
+pub mod CellFacts
+pub mod GroupFacts
+pub mod WayFacts
+pub mod RootFacts
+pub mod TripFacts
+pub mod PlanFacts
+pub mod LawFacts
+pub mod MadeFacts
+pub mod WorkedBoxes

@@ -1,0 +1,55 @@
+use Rattle.std.proofs.Common.{◌<◌, ◌/◌, length, refl, ap, arith}
+use Rattle.std.proofs.lemmas.Option.{slice_get_read}
+use Rattle.flow_types.specs.Scenario.{parts_of}
+use Rattle.time_windows.specs.Held.{access_at}
+use Rattle.time_windows.proofs.MadeFacts.{root_inside}
+use Rattle.time_windows.proofs.RootFacts.{root_accesses, root_all, root_more}
+use Rattle.time_windows.proofs.boxes.Boxes.root.Goals as goal
+
+pub loop-cell-preserved : goal.loop-cell-preserved
+loop-cell-preserved c =
+    let parts = parts_of c.args.s.now in
+    let cell = c.loop-cell.cell in
+    let flight = c.index-flights-cell.result in
+    let below : cell / 32 < length parts.flights =
+    omega (arith, c.loop-cell-test.true, ap length c.flights-flights.ensures) in
+    rw (c.in_ok-push.ensures.items, c.root_access.ensures, c.day-periods.ensures)
+    (root_more parts c.loop-cell.accesses.items cell flight
+    (slice_get_read parts.flights (length parts.flights) (cell / 32) flight refl below
+    (rw c.flights-flights.ensures at c.index-flights-cell.is)) c.loop-cell.invariant)
+
+pub invariant_of-result : goal.invariant_of-result
+invariant_of-result c =
+    root_accesses (parts_of c.args.s.now) c.loop-cell.accesses.items c.loop-cell.cell
+    c.args.s.now.valid
+    (omega (
+      arith,
+      c.loop-cell-test.false,
+      c.loop-cell.auto.cell-end,
+      ap length c.flights-flights.ensures,
+    )) c.loop-cell.invariant
+
+pub returns-clause-root : goal.returns-clause-root
+returns-clause-root c =
+    root_all (parts_of c.args.s.now) c.loop-cell.accesses.items c.loop-cell.cell
+    c.args.s.now.valid
+    (omega (
+      arith,
+      c.loop-cell-test.false,
+      c.loop-cell.auto.cell-end,
+      ap length c.flights-flights.ensures,
+    )) c.loop-cell.invariant
+
+pub returns-clause-made : goal.returns-clause-made
+returns-clause-made c = record {
+  ways = c.in_ok-ways_of.ensures;
+  inside = root_inside (parts_of c.args.s.now) (access_at c.loop-cell.accesses.items)
+      (root_all (parts_of c.args.s.now) c.loop-cell.accesses.items c.loop-cell.cell
+      c.args.s.now.valid
+      (omega (
+        arith,
+        c.loop-cell-test.false,
+        c.loop-cell.auto.cell-end,
+        ap length c.flights-flights.ensures,
+      )) c.loop-cell.invariant);
+}

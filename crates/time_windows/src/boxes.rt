@@ -1,0 +1,180 @@
+//! Boxes of plans, and the two sides of a split.
+ghost use Rattle.std.specs.Prelude.{◌≡◌};
+
+use crate::access::{Access, Window};
+use crate::cells::access_at;
+use crate::groups::Groups;
+use crate::marks::{first_closed, has_closed_must, have_one_option, options_of};
+use crate::root::root_access;
+use crate::tightening::Tight;
+use crate::turns::tighten_all;
+use crate::ways::{legs_from, ways_of};
+use crate::windows::{after, until};
+use flow_types::{Leg, MOST_NODES, OutOfMemory, Scenario};
+use std::alloc::Global;
+use std::marker::Model;
+
+/// A box of plans of the scenario that it was made for. Contracts see it as a `Box`: what each node
+/// of each flight may do. It takes 16 bytes for each of 32 nodes a flight, and the flights' legs.
+#[derive(Debug, Drop)]
+pub struct Boxes {
+    // 32 a flight, and as many groups.
+    accesses: Vec<Access>,
+    ways: Groups<Leg>,
+}
+
+impl Model for Boxes {
+    ghost use Rattle.time_windows.specs.Held.{Held};
+
+    ghost Value = { Held };
+
+    ghost use Rattle.time_windows.specs.Narrowing.{AreAccesses};
+
+    ghost view = { λ b. record { accesses = b.accesses.items; ways = b.ways } };
+
+    ghost invariant = { λ b. AreAccesses b.accesses.items };
+}
+
+impl Boxes {
+    ghost use Rattle.std.specs.Prelude.{ℕ, ◌+◌, ◌*◌, ◌<◌, ◌↔◌, IsTrue, IfOk, List, [], All, get_or};
+    ghost use Rattle.flow_types.specs.declared.parts.Parts.{Parts};
+    ghost use Rattle.flow_types.specs.declared.plan.Stop.{Stop};
+    ghost use Rattle.flow_types.specs.Feasible.{AreTrips, KeepsTurn};
+    ghost use Rattle.flow_types.specs.Limits.{most_nodes};
+    ghost use Rattle.flow_types.specs.Scenario.{parts_of};
+    ghost use Rattle.time_windows.specs.Boxes.{IsClosedMust, IsInBox, IsProper, options_of, root_box};
+    ghost use Rattle.time_windows.specs.Held.{IsMadeFor, box_of};
+    ghost use Rattle.time_windows.specs.Splits.{IsBranching, early_branch, late_branch};
+    ghost use Rattle.time_windows.specs.Tight.{IsTightened, IsTold};
+
+    /// The root box: every plan of the scenario is in it. It isn't tight yet.
+    pub fn root(alloc: Global, s: &Scenario) -> Result<Boxes, OutOfMemory>
+        ensures root { IfOk result
+            (λ boxes. (f n : ℕ) → box_of boxes f n ≡ root_box (parts_of s.now) f n) }
+        ensures made { IfOk result (IsMadeFor (parts_of s.now)) }
+    {
+        let flights = s.flights();
+        let periods = s.day().periods;
+        let mut accesses = Vec::with_capacity(alloc, flights.len() * MOST_NODES)?;
+        for cell in 0..flights.len() * MOST_NODES {
+            let node = (cell % MOST_NODES) as u16;
+            accesses.push(root_access(periods, &flights[cell / MOST_NODES], node))?;
+        }
+        Ok(Boxes {
+            accesses,
+            ways: ways_of(alloc, s)?,
+        })
+    }
+
+    /// A second box like this one, in blocks of its own.
+    pub fn copy(&self, alloc: Global) -> Result<Boxes, OutOfMemory>
+        ensures { IfOk result (λ boxes. boxes ≡ self.now) }
+    {
+        Ok(Boxes {
+            accesses: Vec::from_slice(alloc, &self.accesses)?,
+            ways: self.ways.copy(alloc)?,
+        })
+    }
+
+    /// When the flight may enter the node: its window, nothing where the node is closed or isn't
+    /// there.
+    pub fn window(&self, flight: u32, node: u16) -> Option<Window>
+        ensures window { result ≡ (box_of self.now flight node).window }
+        ensures proper { IsProper result }
+    {
+        self.access(flight, node).window
+    }
+
+    /// Whether the flight must enter the node.
+    pub fn must(&self, flight: u32, node: u16) -> bool
+        ensures { result ≡ (box_of self.now flight node).must }
+    {
+        self.access(flight, node).must
+    }
+
+    /// How many choices the node has: the periods of its window, and one more where the flight
+    /// needn't enter it.
+    pub fn options(&self, flight: u32, node: u16) -> u32
+        ensures { result ≡ options_of (box_of self.now flight node) }
+    {
+        options_of(self.access(flight, node))
+    }
+
+    /// What the box says of the node; that it is closed, where it isn't there.
+    pub fn access(&self, flight: u32, node: u16) -> Access
+        ensures access { result ≡ box_of self.now flight node }
+        ensures proper { IsProper result.window }
+    {
+        access_at(&self.accesses, flight, node)
+    }
+
+    /// Whether every node has one choice, so that the box has one list of stops at the most.
+    pub fn is_unit(&self) -> bool
+        ensures { IsTrue result ↔ ((f n : ℕ) → options_of (box_of self.now f n) ≡ 1) }
+    {
+        have_one_option(&self.accesses)
+    }
+
+    /// Whether a node that must be entered is closed, so that no plan is in the box.
+    pub fn is_empty(&self) -> bool
+        ensures { IsTrue result ↔ ((f : ℕ) × (n : ℕ) × IsClosedMust (box_of self.now f n)) }
+    {
+        has_closed_must(&self.accesses)
+    }
+
+    /// The legs from the node of the flight, in the order of the text.
+    pub fn legs_from(&self, flight: u32, node: u16) -> &[Leg]
+        requires { node < most_nodes }
+        ensures { result.now ≡ get_or self.now.ways.closed (flight * most_nodes + node) [] }
+    {
+        legs_from(&self.ways, flight, node)
+    }
+
+    /// Leaves the early side of a split: the flight enters the node, by the period.
+    pub fn narrow_by(&mut self, flight: u32, node: u16, time: u16)
+        requires { IsBranching (box_of self.old flight node) time }
+        ensures branch { (f n : ℕ) → box_of self.new f n
+            ≡ early_branch flight node time (box_of self.old) f n }
+        ensures made { (parts : Parts) → IsMadeFor parts self.old → IsMadeFor parts self.new }
+    {
+        let cell = flight as usize * MOST_NODES + usize::from(node);
+        self.accesses[cell] = Access {
+            window: until(self.accesses[cell].window, time),
+            must: true,
+        };
+    }
+
+    /// Leaves the late side of a split: the flight enters the node after the period, or never where
+    /// it needn't.
+    pub fn narrow_after(&mut self, flight: u32, node: u16, time: u16)
+        requires { IsBranching (box_of self.old flight node) time }
+        ensures branch { (f n : ℕ) → box_of self.new f n
+            ≡ late_branch flight node time (box_of self.old) f n }
+        ensures made { (parts : Parts) → IsMadeFor parts self.old → IsMadeFor parts self.new }
+    {
+        let cell = flight as usize * MOST_NODES + usize::from(node);
+        self.accesses[cell].window = after(self.accesses[cell].window, time);
+    }
+
+    /// Leaves the tight box: the widest one within this one, with the same marks, in which each
+    /// entry can be led up to and on from along the legs, and the ends of each connection leave
+    /// time for the turnaround. No plan that keeps the turnarounds is lost. Tells whether a node
+    /// that must be entered is closed then.
+    ///
+    /// It goes over the legs of each flight once forward and once back, then over the connections
+    /// and the flights whose ends one of them has moved, until none moves any more.
+    #[tactic(auto, using(crate::proofs::MadeFacts::tight_made))]
+    pub fn tighten(&mut self, s: &Scenario) -> Tight
+        requires { IsMadeFor (parts_of s.now) self.old }
+        ensures tight { IsTightened (parts_of s.now) (box_of self.old) (box_of self.new) }
+        ensures told { IsTold (box_of self.new) result }
+        ensures made { IsMadeFor (parts_of s.now) self.new }
+        ensures kept { (plan : List (List Stop))
+            → AreTrips (parts_of s.now).day.periods (parts_of s.now).flights plan
+            → All (KeepsTurn plan) (parts_of s.now).connections
+            → IsInBox (box_of self.old) plan → IsInBox (box_of self.new) plan }
+    {
+        tighten_all(&mut self.accesses, &self.ways, s);
+        first_closed(&self.accesses)
+    }
+}

@@ -1,0 +1,54 @@
+//! Boxes of plans: when each flight may enter each node and whether it must, tightened along the
+//! legs and the connections, and split in two.
+//!
+//! A caller makes the root box of a scenario, tightens it, and splits it where a node has several
+//! choices:
+//!
+//!     let mut boxes = Boxes::root(alloc, &s)?;
+//!     match boxes.tighten(&s) {
+//!         Tight::Empty(flight, node) => println!("no plan: {flight} can't enter {node}"),
+//!         Tight::Live if boxes.is_unit() => ..,
+//!         Tight::Live => {
+//!             let mut late = boxes.copy(alloc)?;
+//!             boxes.narrow_by(flight, node, time);
+//!             late.narrow_after(flight, node, time);
+//!             ..
+//!         }
+//!     }
+//!
+//! The definitions stand in `specs/`: `Boxes` (a box, the root box, and what it is for a trip or a
+//! plan to be in one), `Tight` (what a tight box is), `Splits` (the sides of a split), `Groups`
+//! (lists of items in one block) and `Held` (what `Boxes` holds). `Steps` and `Narrowing` serve the
+//! proof of `tighten` alone.
+//!
+//! Proved: `tighten` leaves the widest tight box within (`tight`), loses no plan that keeps the
+//! turnarounds (`kept`), and tells the first node that must be entered and is closed (`told`). The
+//! root box holds every plan (`trips_are_in_the_root_box`), and each plan of a box is in one of the
+//! two sides of a split, and in one alone (`splits_share_out_plans`). What was made for a scenario
+//! stays so, within its root box, where it is narrowed or tightened (`made`).
+//!
+//! Memory: 16 bytes for each of 32 nodes a flight, and a copy of the legs. In a root box the legs
+//! and half of the rest may take up to twice that, since the lists of legs grow there. `tighten`,
+//! the splits and the look-ups take none. Time: `tighten` goes over the legs of each flight twice,
+//! and then over the connections, and over the legs of each flight whose end one of them has moved,
+//! until none moves any more.
+#![tactic(auto)]
+
+mod access;
+mod boxes;
+mod cells;
+mod groups;
+mod laws;
+mod marks;
+mod root;
+mod rows;
+mod tightening;
+mod turns;
+mod ways;
+mod windows;
+
+pub use access::{Access, Window};
+pub use boxes::Boxes;
+pub use groups::Groups;
+pub use laws::{splits_share_out_plans, trips_are_in_the_root_box};
+pub use tightening::Tight;
