@@ -1,5 +1,5 @@
 -- An item of a list by its position, and what a filter keeps.
-use Rattle.std.proofs.Common.{◌≡◌, ℕ, zero, suc, ◌<◌, Bool, true, false, cond, List, [], ◌∷◌, length, take, slice_get, get_or, slice_index_or, ◌+◌, ◌↔◌, Some, All, refl, sym, ap, ◌∙◌, subst, arith}
+use Rattle.std.proofs.Common.{◌≡◌, ◌≢◌, ℕ, zero, suc, ◌<◌, Bool, true, false, cond, List, [], ◌∷◌, length, set, take, slice_get, get_or, slice_index_or, ◌+◌, ◌↔◌, Some, All, refl, sym, ap, ◌∙◌, subst, arith}
 use Rattle.std.specs.List.{Contains, filter}
 use Rattle.std.proofs.lemmas.List.{get_or-take, length-take-le}
 use Rattle.std.proofs.lemmas.List.Elements.{All-more}
@@ -12,6 +12,30 @@ module _ {A : Type 0} where
   All-item P xs k x all here =
       subst P (get_or_from_slice_get xs k x x here) (all k x (slice_get_within xs k x here))
 
+  -- an item inside a list
+  pub item_there : (xs : List A) (k : ℕ) → k < length xs → (x : A) × (slice_get xs k ≡ Some x)
+  item_there [] k within = absurd (omega (arith, within))
+  item_there (x ∷ xs) zero within = (x, refl)
+  item_there (x ∷ xs) (suc k) within = item_there xs k (omega (arith, within))
+
+  -- an item set, and another one
+  pub slice_get-set_same : (xs : List A) (n : ℕ) (y : A) → n < length xs
+      → slice_get (set xs n y) n ≡ Some y
+  slice_get-set_same [] n y within = absurd (omega (arith, within))
+  slice_get-set_same (x ∷ xs) zero y within = refl
+  slice_get-set_same (x ∷ xs) (suc n) y within =
+      slice_get-set_same xs n y (omega (arith, within))
+
+  pub slice_get-set_other : (xs : List A) (n k : ℕ) (y : A) → k ≢ n
+      → slice_get (set xs n y) k ≡ slice_get xs k
+  slice_get-set_other [] n k y other = refl
+  slice_get-set_other (x ∷ xs) zero zero y other = absurd (other refl)
+  slice_get-set_other (x ∷ xs) zero (suc k) y other = refl
+  slice_get-set_other (x ∷ xs) (suc n) zero y other = refl
+  slice_get-set_other (x ∷ xs) (suc n) (suc k) y other =
+      slice_get-set_other xs n k y (λ same. other (ap suc same))
+
+  -- one of the first items
   pub slice_get-take : (n : ℕ) (xs : List A) (k : ℕ) → k < n
       → slice_get (take n xs) k ≡ slice_get xs k
   slice_get-take zero xs k below = absurd (omega arith)

@@ -21,8 +21,10 @@ times_by zero m v low high =
 times_by (suc w) m v low high =
     let more = times-more w v in
     let before = times_by w m v low high in
-    let grown : suc w * m ≡ w * m + m = suc-mul w m in
-    (omega (arith, ints, more, before.0, low, grown), omega (arith, ints, more, before.1, high, grown))
+    let grown : suc w * m ≡ w * m + m = suc-mul w m in (
+      omega (arith, ints, more, before.0, low, grown),
+      omega (arith, ints, more, before.1, high, grown),
+    )
 
 pub times-within : (w most m : ℕ) (v : ℤ) → w ≤ most → neg_ℤ (pos m) ≤ℤ v → v ≤ℤ pos m
     → (neg_ℤ (pos (most * m)) ≤ℤ (pos w *ℤ v)) × ((pos w *ℤ v) ≤ℤ pos (most * m))

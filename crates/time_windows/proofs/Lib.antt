@@ -10,6 +10,7 @@ pub mod CellFacts
 pub mod GroupFacts
 pub mod WayFacts
 pub mod RootFacts
+pub mod BoxFacts
 pub mod TripFacts
 pub mod PlanFacts
 pub mod LawFacts

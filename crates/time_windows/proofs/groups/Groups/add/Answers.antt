@@ -5,7 +5,8 @@ use Rattle.time_windows.proofs.groups.Groups.add.Goals as goal
 
 pub invariant_of-self-2 : goal.invariant_of-self-2
 invariant_of-self-2 g c =
-    AreEnds-grows _ c.self.inside.items.items (c.args.item ∷ []) c.push.new.self.items c.self.inside.ends.items
+    AreEnds-grows _ c.self.inside.items.items (c.args.item ∷ []) c.push.new.self.items
+    c.self.inside.ends.items
     c.push.ensures.items c.self.invariant
 
 pub returns-clause-closed : goal.returns-clause-closed

@@ -7,7 +7,8 @@ use Rattle.time_windows.proofs.groups.Groups.close.Goals as goal
 pub invariant_of-self-2 : goal.invariant_of-self-2
 invariant_of-self-2 g c =
     AreEnds-push_if _ c.len.result (length c.self.inside.items.items) c.self.inside.ends.items
-    c.push.new.self.items (c.len.ensures ∙ c.self.inside.items.ok.0) c.push.ensures.items c.self.invariant
+    c.push.new.self.items (c.len.ensures ∙ c.self.inside.items.ok.0) c.push.ensures.items
+    c.self.invariant
 
 pub returns-clause-closed : goal.returns-clause-closed
 returns-clause-closed g c =
@@ -23,4 +24,5 @@ returns-clause-pending g c =
     ap (λ ends. drop (last_end 0 ends) c.self.inside.items.items) c.in_ok-push.ensures.items
     ∙ ap (λ n. drop n c.self.inside.items.items)
     (last_end-push 0 c.len.result c.self.inside.ends.items)
-    ∙ drop_all c.len.result c.self.inside.items.items (omega (arith, c.len.ensures, c.self.inside.items.ok.0))
+    ∙ drop_all c.len.result c.self.inside.items.items
+    (omega (arith, c.len.ensures, c.self.inside.items.ok.0))

@@ -8,7 +8,8 @@ part-requires-clause-rises g c =
     (begins_before (length c.self.inside.items.items) c.self.inside.ends.items c.args.position
     c.begin_of.result c.in-Some.end.now c.self.invariant
     (omega (arith, c.in-Some.ensures.lookup.3.0, ap length c.deref.ensures.value))
-    (c.begin_of.ensures ∙ ap (λ ends. begin_at ends c.args.position) c.deref-in-Some-2.ensures.value)
+    (c.begin_of.ensures
+    ∙ ap (λ ends. begin_at ends c.args.position) c.deref-in-Some-2.ensures.value)
     (c.in-Some.ensures.lookup.1
     ∙ ap (λ ends. get_or ends c.args.position c.in-Some.end.now) c.deref.ensures.value)).0
 
@@ -17,7 +18,8 @@ part-requires-clause-within g c =
     let both = begins_before (length c.self.inside.items.items) c.self.inside.ends.items
     c.args.position c.begin_of.result c.in-Some.end.now c.self.invariant
     (omega (arith, c.in-Some.ensures.lookup.3.0, ap length c.deref.ensures.value))
-    (c.begin_of.ensures ∙ ap (λ ends. begin_at ends c.args.position) c.deref-in-Some-2.ensures.value)
+    (c.begin_of.ensures
+    ∙ ap (λ ends. begin_at ends c.args.position) c.deref-in-Some-2.ensures.value)
     (c.in-Some.ensures.lookup.1
     ∙ ap (λ ends. get_or ends c.args.position c.in-Some.end.now) c.deref.ensures.value) in
     omega (arith, both.1, ap length c.deref-in-Some.ensures.value)
@@ -33,7 +35,8 @@ returns-in-Some g c =
     group_there c.self.inside.ends.items c.self.inside.items.items c.part.result.now c.args.position
     c.begin_of.result c.in-Some.end.now
     (omega (arith, c.in-Some.ensures.lookup.3.0, ap length c.deref.ensures.value))
-    (c.begin_of.ensures ∙ ap (λ ends. begin_at ends c.args.position) c.deref-in-Some-2.ensures.value)
+    (c.begin_of.ensures
+    ∙ ap (λ ends. begin_at ends c.args.position) c.deref-in-Some-2.ensures.value)
     (c.in-Some.ensures.lookup.1
     ∙ ap (λ ends. get_or ends c.args.position c.in-Some.end.now) c.deref.ensures.value)
     (c.part.ensures
