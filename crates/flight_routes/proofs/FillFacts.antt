@@ -1,5 +1,5 @@
 -- Windows within the day, and nodes filled one after another.
-use Rattle.std.proofs.Common.{◌^◌, IfSome, get_or, ◌≡◌, ◌≢◌, ◌⊎◌, ℕ, ◌+◌, ◌<◌, ◌≤◌, Option, Some, None, ℤ, sym, ap, ◌∙◌, subst, inl, inr, arith}
+use Rattle.std.proofs.Common.{◌^◌, IfSome, get_or, ◌≡◌, ◌≢◌, ◌⊎◌, ℕ, ◌+◌, ◌<◌, ◌≤◌, Option, Some, None, ℤ, refl, sym, ap, ◌∙◌, subst, inl, inr, arith}
 use Rattle.std.proofs.lemmas.Bool.{cases_eq}
 use Rattle.flow_types.specs.declared.parts.Parts.{Parts}
 use Rattle.flow_types.specs.Limits.{most_nodes, most_periods}
@@ -7,7 +7,9 @@ use Rattle.plan_rules.specs.Cells.{Tally}
 use Rattle.time_windows.specs.declared.access.Access.{Access}
 use Rattle.time_windows.specs.declared.access.Window.{Window}
 use Rattle.time_windows.specs.Boxes.{IsInWindow, IsProper}
-use Rattle.flight_routes.specs.Filling.{IsFitTable, OnlyClear, OnlyPaid}
+use Rattle.flight_routes.specs.declared.ends.End.{End}
+use Rattle.flight_routes.specs.declared.ends.End.TheVariants.{Arrival, Departure}
+use Rattle.flight_routes.specs.Filling.{IsFitTable, OnlyClear, OnlyEnd, OnlyPaid}
 use Rattle.flight_routes.specs.FitTimes.{IsClearAt, IsFirstFull}
 use Rattle.flight_routes.specs.RateLists.{RateLists, rates_of}
 use Rattle.flight_routes.specs.Rates.{IsValueWithin}
@@ -20,6 +22,28 @@ window_end periods row n window are is =
     let proper : window.lo ≤ window.hi = subst IsProper is (are.proper n) in
     are.within n window.hi
     (subst (λ (w : Option Window). IsInWindow w window.hi) (sym is) (proper, omega arith))
+
+-- an end is set, and set again
+pub end_more : (end : End) (old now new : RateLists) → OnlyEnd end old now → OnlyEnd end now new
+    → OnlyEnd end old new
+end_more Departure old now new one two = record {
+  periods = two.periods ∙ one.periods;
+  arrives = two.arrives ∙ one.arrives;
+  paid = two.paid ∙ one.paid;
+  clear = two.clear ∙ one.clear;
+}
+end_more Arrival old now new one two = record {
+  periods = two.periods ∙ one.periods;
+  leaves = two.leaves ∙ one.leaves;
+  paid = two.paid ∙ one.paid;
+  clear = two.clear ∙ one.clear;
+}
+
+-- none is set
+pub end_none : (end : End) (lists : RateLists) → OnlyEnd end lists lists
+end_none Departure lists =
+    record { periods = refl; arrives = refl; paid = refl; clear = refl }
+end_none Arrival lists = record { periods = refl; leaves = refl; paid = refl; clear = refl }
 
 -- one node more is paid
 pub stays_by : (paid : ℕ → ℕ → ℤ) (last node periods : ℕ) (old new : RateLists)

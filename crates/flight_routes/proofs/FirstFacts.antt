@@ -1,5 +1,5 @@
 -- The first of the least ways, stop by stop.
-use Rattle.std.proofs.Common.{◌≡◌, ◌⊎◌, ℕ, ◌+◌, ◌<◌, ◌≤◌, List, [], ◌∷◌, length, get_or, Option, None, Some, IsSome, ℤ, neg_ℤ, ◌+ℤ◌, ◌-ℤ◌, ◌≤ℤ◌, refl, sym, ap, ◌∙◌, subst, inl, inr, arith}
+use Rattle.std.proofs.Common.{◌≡◌, ◌⊎◌, ℕ, ◌+◌, ◌<◌, ◌≤◌, max, min, List, [], ◌∷◌, length, get_or, Option, None, Some, IsSome, ℤ, neg_ℤ, ◌+ℤ◌, ◌-ℤ◌, ◌≤ℤ◌, refl, sym, ap, ◌∙◌, subst, inl, inr, arith}
 use Rattle.std.proofs.lemmas.Bool.{cases_lt, cases_order, lt-ltb, le-ltb}
 use Rattle.std.proofs.lemmas.Int.{ints}
 use Rattle.std.proofs.lemmas.Option.{same_Some}
@@ -13,7 +13,7 @@ use Rattle.time_windows.specs.Boxes.{IsInWindow}
 use Rattle.exact_sums.specs.Leasts.{IsFirstLeast, IsLeast, IsLeastAt, raised}
 use Rattle.exact_sums.proofs.LeastFacts.{value_of}
 use Rattle.flight_routes.specs.Entries.{cell_at}
-use Rattle.flight_routes.specs.Firsts.{IsFirst, IsFirstAt, IsFirstTimeAt, IsKeptMove, IsKeptStart, IsNext, IsNextAmong, IsNextBy, Keeps, cost_to, earlier, key_of}
+use Rattle.flight_routes.specs.Firsts.{IsEntryAt, IsFirst, IsFirstAt, IsFirstTime, IsFirstTimeAt, IsKeptMove, IsKeptStart, IsNext, IsNextAmong, IsNextBy, Keeps, cost_to, earlier, key_of}
 use Rattle.flight_routes.specs.Rates.{IsPassage, IsWay, IsWayOn, PassesNoMust, Rates, value_or_zero, way_cost, whole_cost}
 use Rattle.flight_routes.specs.Ready.{IsReady}
 use Rattle.flight_routes.specs.TripOrder.{IsBefore, IsNoLater}
@@ -166,27 +166,77 @@ raised_cost p q (Some v) some =
     let e : (v +ℤ p) +ℤ neg_ℤ q ≡ (p -ℤ q) +ℤ v = omega (arith, ints) in
     ap Some e
 
+raised_back : (q : ℤ) (a b : Option ℤ) → a ≡ raised q b → raised (neg_ℤ q) a ≡ b
+raised_back q a None is = ap (raised (neg_ℤ q)) is
+raised_back q a (Some v) is =
+    let e : (v +ℤ q) +ℤ neg_ℤ q ≡ v = omega (arith, ints) in
+    ap (raised (neg_ℤ q)) is ∙ ap Some e
+
+raised_to : (q : ℤ) (a b : Option ℤ) → raised (neg_ℤ q) a ≡ b → a ≡ raised q b
+raised_to q None b is = ap (raised q) is
+raised_to q (Some v) b is =
+    let e : v ≡ (v +ℤ neg_ℤ q) +ℤ q = omega (arith, ints) in
+    ap Some e ∙ ap (raised q) is
+
+-- Of two sets of periods that are the same the first is the same.
+pub first_same : (P Q : ℕ → Type 0) → ((u : ℕ) → P u → Q u) → ((u : ℕ) → Q u → P u)
+    → (found : Option ℕ) → IsFirstTime P found → IsFirstTime Q found
+first_same P Q to back None none = λ u q. none u (back u q)
+first_same P Q to back (Some time) is = record {
+  inside = to time is.inside;
+  first = λ u q. is.first u (back u q);
+}
+
+-- A move keeps the cost where the entry costs as much as the value and what being at the node had
+-- cost before.
 module _ (rates : Rates) (cell : ℕ → Option ℤ) (next : Window) (node least from : ℕ)
-    (value : Option ℤ) where
-  -- the code's test says whether a move keeps the cost
-  pub is_kept : (time : ℕ) → IsSome value → from + least ≤ time → time ≤ rates.clear node from
-      → next.lo ≤ time → time ≤ next.hi
-      → raised (neg_ℤ (rates.paid node from)) (raised (rates.paid node time) (cell time)) ≡ value
-      → IsKeptMove rates cell next node least from value time
-  is_kept time some late stay lo hi is =
-      let reaches = raised_some (rates.paid node time) (neg_ℤ (rates.paid node from)) (cell time)
-      (subst IsSome (sym is) some) in
+    (value : Option ℤ) (some : IsSome value) (paid : ℕ → ℤ) (within : ℕ → Option ℤ)
+    (first last : ℕ) (wanted : Option ℤ) (first_is : first ≡ max next.lo (from + least))
+    (last_is : last ≡ min next.hi (rates.clear node from)) (in_day : next.hi < most_periods)
+    (wanted_is : wanted ≡ raised (rates.paid node from) value)
+    (paid_is : (u : ℕ) → u < most_periods → paid u ≡ rates.paid node u)
+    (cell_is : (u : ℕ) → u < most_periods → within u ≡ cell u) where
+  entry_kept : (u : ℕ) → IsEntryAt paid within first last wanted u
+      → IsKeptMove rates cell next node least from value u
+  entry_kept u entry =
+      let day : u < most_periods = omega (arith, entry.to, last_is, in_day) in
+      let same = ap (λ p. raised p (cell u)) (sym (paid_is u day))
+      ∙ ap (raised (paid u)) (sym (cell_is u day)) ∙ entry.cost ∙ wanted_is in
+      let keeps =
+      raised_back (rates.paid node from) (raised (rates.paid node u) (cell u)) value same in
+      let reaches = raised_some (rates.paid node u) (neg_ℤ (rates.paid node from)) (cell u)
+      (subst IsSome (sym keeps) some) in
       record {
-        move = record { late = late; stay = stay; lo = lo; hi = hi; reaches = reaches };
-        cost = sym (raised_cost (rates.paid node time) (rates.paid node from) (cell time) reaches)
-            ∙ is;
+        move = record {
+          late = omega (arith, entry.from, first_is);
+          stay = omega (arith, entry.to, last_is);
+          lo = omega (arith, entry.from, first_is);
+          hi = omega (arith, entry.to, last_is);
+          reaches = reaches;
+        };
+        cost = sym (raised_cost (rates.paid node u) (rates.paid node from) (cell u) reaches)
+            ∙ keeps;
       }
 
-  pub kept_is : (time : ℕ) → IsKeptMove rates cell next node least from value time
-      → raised (neg_ℤ (rates.paid node from)) (raised (rates.paid node time) (cell time)) ≡ value
-  kept_is time kept =
-      raised_cost (rates.paid node time) (rates.paid node from) (cell time) kept.move.reaches
-      ∙ kept.cost
+  kept_entry : (u : ℕ) → IsKeptMove rates cell next node least from value u
+      → IsEntryAt paid within first last wanted u
+  kept_entry u kept =
+      let day : u < most_periods = omega (arith, kept.move.hi, in_day) in
+      record {
+        from = omega (arith, kept.move.lo, kept.move.late, first_is);
+        to = omega (arith, kept.move.hi, kept.move.stay, last_is);
+        cost = ap (λ p. raised p (within u)) (paid_is u day)
+            ∙ ap (raised (rates.paid node u)) (cell_is u day)
+            ∙ raised_to (rates.paid node from) (raised (rates.paid node u) (cell u)) value
+            (raised_cost (rates.paid node u) (rates.paid node from) (cell u) kept.move.reaches
+            ∙ kept.cost)
+            ∙ sym wanted_is;
+      }
+
+  pub first_kept : (found : Option ℕ) → IsFirstTime (IsEntryAt paid within first last wanted) found
+      → IsFirstTime (IsKeptMove rates cell next node least from value) found
+  first_kept = first_same (IsEntryAt paid within first last wanted)
+      (IsKeptMove rates cell next node least from value) entry_kept kept_entry
 
 none_by : (P : ℕ → Type 0) (time : ℕ) → ((u : ℕ) → u < time → P u → ⊥) → (P time → ⊥)
     → (u : ℕ) → u < time + 1 → P u → (u < time) ⊎ (time ≤ u) → ⊥

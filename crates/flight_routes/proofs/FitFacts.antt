@@ -1,12 +1,12 @@
 -- At the rates of the loads, a trip is allowed exactly where it fits, at its own cost.
-use Rattle.std.proofs.Common.{◌≡◌, ◌≢◌, ◌⊎◌, ℕ, zero, suc, ◌+◌, ◌-◌, ◌<◌, ◌≤◌, ◌==◌, ◌&&◌, Bool, true, false, not, nat_le, nat_lt, List, [], ◌∷◌, length, get_or, set, slice_get, Option, Some, None, IsTrue, IsSome, ℤ, pos, ◌-ℤ◌, refl, sym, ap, ◌∙◌, subst, inl, inr, arith}
+use Rattle.std.proofs.Common.{◌≡◌, ◌≢◌, ◌⊎◌, ℕ, ◌+◌, ◌-◌, ◌<◌, ◌≤◌, ◌==◌, ◌&&◌, Bool, true, false, not, nat_le, nat_lt, List, [], ◌∷◌, length, get_or, set, slice_get, Option, Some, None, IsTrue, IsSome, ℤ, pos, ◌-ℤ◌, refl, sym, ap, ◌∙◌, subst, inl, inr, arith}
 use Rattle.std.specs.Option.{option_and_then}
 use Rattle.std.proofs.lemmas.Bool.{cases_lt}
 use Rattle.std.proofs.lemmas.Bool.Decides.{nat_tests}
 use Rattle.std.proofs.lemmas.Int.{ints}
 use Rattle.std.proofs.lemmas.List.Elements.{All-head}
 use Rattle.std.proofs.lemmas.Option.{slice_get-get_or}
-use Rattle.exact_sums.proofs.ItemFacts.{All-item}
+use Rattle.exact_sums.proofs.ItemFacts.{All-item, slice_get-set_other, slice_get-set_same}
 use Rattle.flow_types.specs.declared.flight.Connection.{Connection}
 use Rattle.flow_types.specs.declared.flight.Flight.{Flight}
 use Rattle.flow_types.specs.declared.parts.Parts.{Parts}
@@ -59,22 +59,6 @@ both_same a b t same = grind (arith, nat_tests)
 -- a count of one test that is more than nothing
 both_hold : (a b k t : ℕ) → 0 < one_if ((a == k) && (b == t)) → (a ≡ k) × (b ≡ t)
 both_hold a b k t some = (grind (arith, nat_tests), grind (arith, nat_tests))
-
--- the item that was set, and the others
-slice_get-set_same : {A : Type 0} (xs : List A) (n : ℕ) (y : A) → n < length xs
-    → slice_get (set xs n y) n ≡ Some y
-slice_get-set_same [] n y within = absurd (omega (arith, within))
-slice_get-set_same (x ∷ xs) zero y within = refl
-slice_get-set_same (x ∷ xs) (suc n) y within = slice_get-set_same xs n y (omega (arith, within))
-
-slice_get-set_other : {A : Type 0} (xs : List A) (n k : ℕ) (y : A) → k ≢ n
-    → slice_get (set xs n y) k ≡ slice_get xs k
-slice_get-set_other [] n k y other = refl
-slice_get-set_other (x ∷ xs) zero zero y other = absurd (other refl)
-slice_get-set_other (x ∷ xs) zero (suc k) y other = refl
-slice_get-set_other (x ∷ xs) (suc n) zero y other = refl
-slice_get-set_other (x ∷ xs) (suc n) (suc k) y other =
-    slice_get-set_other xs n k y (λ same. other (ap suc same))
 
 module _ (parts : Parts) (valid : IsScenario parts) (trips : List (List Stop)) (number : ℕ)
     (flight : Flight) (here : slice_get parts.flights number ≡ Some flight)

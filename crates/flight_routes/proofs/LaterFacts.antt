@@ -72,7 +72,8 @@ adds_none price shift periods sums = record {
 }
 
 module _ (price : ℕ → ℕ) (shift periods before time sum : ℕ) (old new : List ℕ)
-    (next : before ≡ time + 1) (adds : AddsLater price shift periods before sum old new) (above : shift ≤ time)
+    (next : before ≡ time + 1) (adds : AddsLater price shift periods before sum old new)
+    (above : shift ≤ time)
     (room : periods ≤ length old) (one : price time < 2 ^ 62) where
   there : time - shift < length new
   there = omega (arith, adds.long, adds.within, above, room)
@@ -94,7 +95,8 @@ module _ (price : ℕ → ℕ) (shift periods before time sum : ℕ) (old new : 
         same,
         ap (λ n. get_or
             (set new (time - shift) (get_or new (time - shift) 0 + (sum + price time))) n 0) same
-            ∙ get_or-set_same new (time - shift) (get_or new (time - shift) 0 + (sum + price time)) 0
+            ∙ get_or-set_same new (time - shift)
+            (get_or new (time - shift) 0 + (sum + price time)) 0
             there
             ∙ ap (λ n. n + (sum + price time))
             (adds.left (time - shift) (omega (arith, above)) ∙ ap (λ n. get_or old n 0) (sym same)),

@@ -1,10 +1,13 @@
 pub mod CellFacts
+pub mod DistanceFacts
+pub mod EarlyFacts
 pub mod EntryFacts
 pub mod FillFacts
 pub mod FirstFacts
 pub mod FitFacts
 pub mod FreeFacts
 pub mod LaterFacts
+pub mod LinkFacts
 pub mod LoadRateFacts
 pub mod MoveFacts
 pub mod PassageFacts

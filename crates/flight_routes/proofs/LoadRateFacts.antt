@@ -19,11 +19,11 @@ use Rattle.plan_rules.specs.Loads.{AreLoads, arrival_at, departure_at}
 use Rattle.exact_sums.proofs.ItemFacts.{All-item}
 use Rattle.time_windows.specs.declared.access.Access.{Access}
 use Rattle.time_windows.specs.Boxes.{IsInWindow}
-use Rattle.flight_routes.specs.declared.turns.End.TheVariants.{First, Second}
+use Rattle.flight_routes.specs.declared.ends.End.TheVariants.{Arrival, Departure}
 use Rattle.flight_routes.specs.FitRates.{AreFitRates, IsGiven, LeavesTimeFor, MayArrive, MayLeave, MayStay, WaitsFor}
-use Rattle.flight_routes.specs.FitTimes.{HasSpace, IsFirstFull, IsFreeToArrive, IsFreeToLeave}
+use Rattle.flight_routes.specs.FitTimes.{HasSpace, IsFirstFull, IsFreeAt}
 use Rattle.flight_routes.specs.Filling.{IsFitTable}
-use Rattle.flight_routes.specs.PriceRates.{from_of, to_of}
+use Rattle.flight_routes.specs.PriceRates.{airport_of}
 use Rattle.flight_routes.specs.RateLists.{RateLists, place_of, rates_of}
 use Rattle.flight_routes.specs.TimeCosts.{credit_then, total_then}
 use Rattle.flight_routes.specs.Turns.{turns_in}
@@ -53,19 +53,20 @@ module _ (parts : Parts) (valid : IsScenario parts) (trips : List (List Stop)) (
       → departure_at loads k ≡ option_and_then departure_of (slice_get trips k)
   left k within = are.leaves k within ∙ sym (at_trip departure_of refl trips k)
 
-  after_waits : (time : ℕ) → All (IsAfter loads time) (turns_in Second number 0 parts.connections)
+  after_waits : (time : ℕ)
+      → All (IsAfter loads time) (turns_in Departure number 0 parts.connections)
       → All (WaitsFor trips number time) parts.connections
   after_waits time after =
-      turns_all (IsAfter loads time) (IsConnection parts.flights) Second number
+      turns_all (IsAfter loads time) (IsConnection parts.flights) Departure number
       (λ c. (arrives : ℕ) → option_and_then arrival_of (slice_get trips c.first) ≡ Some arrives
       → arrives + c.turnaround ≤ time) 0 parts.connections valid.connections after
       (λ i c is own late arrives at. late arrives (arrived c.first is.first ∙ at))
 
   waits_after : (time : ℕ) → All (WaitsFor trips number time) parts.connections
-      → All (IsAfter loads time) (turns_in Second number 0 parts.connections)
+      → All (IsAfter loads time) (turns_in Departure number 0 parts.connections)
   waits_after time waits =
       all_turns (IsAfter loads time)
-      (λ c. IsConnection parts.flights c × WaitsFor trips number time c) Second number 0
+      (λ c. IsConnection parts.flights c × WaitsFor trips number time c) Departure number 0
       parts.connections (both_all parts.connections valid.connections waits)
       (λ i c is low high own arrives at. is.1 own arrives (sym (arrived c.first is.0.first) ∙ at))
     where
@@ -75,19 +76,19 @@ module _ (parts : Parts) (valid : IsScenario parts) (trips : List (List Stop)) (
       both_all cs one two k d within = (one k d within, two k d within)
 
   in_time_leaves : (time : ℕ)
-      → All (IsInTime loads time) (turns_in First number 0 parts.connections)
+      → All (IsInTime loads time) (turns_in Arrival number 0 parts.connections)
       → All (LeavesTimeFor trips number time) parts.connections
   in_time_leaves time early =
-      turns_all (IsInTime loads time) (IsConnection parts.flights) First number
+      turns_all (IsInTime loads time) (IsConnection parts.flights) Arrival number
       (λ c. (leaves : ℕ) → option_and_then departure_of (slice_get trips c.second) ≡ Some leaves
       → time + c.turnaround ≤ leaves) 0 parts.connections valid.connections early
       (λ i c is own before leaves at. before leaves (left c.second is.second ∙ at))
 
   leaves_in_time : (time : ℕ) → All (LeavesTimeFor trips number time) parts.connections
-      → All (IsInTime loads time) (turns_in First number 0 parts.connections)
+      → All (IsInTime loads time) (turns_in Arrival number 0 parts.connections)
   leaves_in_time time leaves_time =
       all_turns (IsInTime loads time)
-      (λ c. IsConnection parts.flights c × LeavesTimeFor trips number time c) First number 0
+      (λ c. IsConnection parts.flights c × LeavesTimeFor trips number time c) Arrival number 0
       parts.connections (both_all parts.connections valid.connections leaves_time)
       (λ i c is low high own leaves at. is.1 own leaves (sym (left c.second is.0.second) ∙ at))
     where
@@ -118,15 +119,15 @@ module _ (parts : Parts) (valid : IsScenario parts) (trips : List (List Stop)) (
   a_fine = All-item (IsFlight parts.day.periods parts.places parts.tables) parts.flights number
       flight valid.flights here
 
-  from_there : from_of there ≡ flight.from
-  from_there = ap from_of is
+  from_there : airport_of Departure there ≡ flight.from
+  from_there = ap (airport_of Departure) is
 
-  to_there : to_of there ≡ flight.to
-  to_there = ap to_of is
+  to_there : airport_of Arrival there ≡ flight.to
+  to_there = ap (airport_of Arrival) is
 
   leave_may : ((time : ℕ) → (first ≤ time)
-      ↔ All (IsAfter loads time) (turns_in Second number 0 parts.connections))
-      → (t : ℕ) → t < parts.day.periods → IsFreeToLeave parts loads there first t
+      ↔ All (IsAfter loads time) (turns_in Departure number 0 parts.connections))
+      → (t : ℕ) → t < parts.day.periods → IsFreeAt Departure parts loads there first t
       → MayLeave parts trips number flight t
   leave_may firsts t day free = record {
     room =
@@ -134,15 +135,15 @@ module _ (parts : Parts) (valid : IsScenario parts) (trips : List (List Stop)) (
         let count = are.departures flight.from t
         (airport_within parts.places flight.from a_fine.origin) day in
         omega (arith, space, count);
-    turns = after_waits parts valid trips loads are number t ((firsts t).0 free.late);
+    turns = after_waits parts valid trips loads are number t ((firsts t).0 free.in_time);
   }
 
   may_leave_free : ((time : ℕ) → (first ≤ time)
-      ↔ All (IsAfter loads time) (turns_in Second number 0 parts.connections))
+      ↔ All (IsAfter loads time) (turns_in Departure number 0 parts.connections))
       → (t : ℕ) → t < parts.day.periods → MayLeave parts trips number flight t
-      → IsFreeToLeave parts loads there first t
+      → IsFreeAt Departure parts loads there first t
   may_leave_free firsts t day may = record {
-    late = (firsts t).1 (waits_after parts valid trips loads are number t may.turns);
+    in_time = (firsts t).1 (waits_after parts valid trips loads are number t may.turns);
     space =
         let count = are.departures flight.from t
         (airport_within parts.places flight.from a_fine.origin) day in
@@ -151,8 +152,8 @@ module _ (parts : Parts) (valid : IsScenario parts) (trips : List (List Stop)) (
   }
 
   arrive_may : ((time : ℕ) → time < 2 ^ 16 → (time < limit)
-      ↔ All (IsInTime loads time) (turns_in First number 0 parts.connections))
-      → (t : ℕ) → t < parts.day.periods → IsFreeToArrive parts loads there limit t
+      ↔ All (IsInTime loads time) (turns_in Arrival number 0 parts.connections))
+      → (t : ℕ) → t < parts.day.periods → IsFreeAt Arrival parts loads there limit t
       → MayArrive parts trips number flight t
   arrive_may limits t day free = record {
     room =
@@ -161,15 +162,15 @@ module _ (parts : Parts) (valid : IsScenario parts) (trips : List (List Stop)) (
         (airport_within parts.places flight.to a_fine.destination) day in
         omega (arith, space, count);
     turns = in_time_leaves parts valid trips loads are number t
-        ((limits t (omega (arith, day, valid.day.periods_to))).0 free.early);
+        ((limits t (omega (arith, day, valid.day.periods_to))).0 free.in_time);
   }
 
   may_arrive_free : ((time : ℕ) → time < 2 ^ 16 → (time < limit)
-      ↔ All (IsInTime loads time) (turns_in First number 0 parts.connections))
+      ↔ All (IsInTime loads time) (turns_in Arrival number 0 parts.connections))
       → (t : ℕ) → t < parts.day.periods → MayArrive parts trips number flight t
-      → IsFreeToArrive parts loads there limit t
+      → IsFreeAt Arrival parts loads there limit t
   may_arrive_free limits t day may = record {
-    early = (limits t (omega (arith, day, valid.day.periods_to))).1
+    in_time = (limits t (omega (arith, day, valid.day.periods_to))).1
         (leaves_in_time parts valid trips loads are number t may.turns);
     space =
         let count = are.arrivals flight.to t
@@ -206,14 +207,14 @@ module _ (parts : Parts) (valid : IsScenario parts) (trips : List (List Stop)) (
   pub fit_rates : (row : ℕ → Access) (lists : RateLists) → last + 1 ≡ length flight.nodes
       → ((n t : ℕ) → IsInWindow (row n).window t → t < parts.day.periods)
       → ((time : ℕ) → (first ≤ time)
-      ↔ All (IsAfter loads time) (turns_in Second number 0 parts.connections))
+      ↔ All (IsAfter loads time) (turns_in Departure number 0 parts.connections))
       → ((time : ℕ) → time < 2 ^ 16 → (time < limit)
-      ↔ All (IsInTime loads time) (turns_in First number 0 parts.connections))
+      ↔ All (IsInTime loads time) (turns_in Arrival number 0 parts.connections))
       → ((t : ℕ) → IsInWindow (row 0).window t
-      → IsGiven ((rates_of lists).leaves t) (IsFreeToLeave parts loads there first t)
+      → IsGiven ((rates_of lists).leaves t) (IsFreeAt Departure parts loads there first t)
       (pos 0 -ℤ credit_then parts.tables there t))
       → ((t : ℕ) → IsInWindow (row last).window t
-      → IsGiven ((rates_of lists).arrives t) (IsFreeToArrive parts loads there limit t)
+      → IsGiven ((rates_of lists).arrives t) (IsFreeAt Arrival parts loads there limit t)
       (total_then parts.tables there t))
       → ((n t : ℕ) → 0 < n → n < last → t < parts.day.periods
       → IsFirstFull parts loads (place_at flight n) t ((rates_of lists).clear n t))
@@ -222,7 +223,7 @@ module _ (parts : Parts) (valid : IsScenario parts) (trips : List (List Stop)) (
   fit_rates row lists end windows firsts limits leaves arrives full table = record {
     leaves = λ t window.
         let day = windows 0 t window in
-        given_same ((rates_of lists).leaves t) (IsFreeToLeave parts loads there first t)
+        given_same ((rates_of lists).leaves t) (IsFreeAt Departure parts loads there first t)
         (MayLeave parts trips number flight t) (pos 0 -ℤ credit_then parts.tables there t)
         (pos 0 -ℤ credit_of parts.tables flight.cost (t - flight.sd)) (leaves t window)
         (leave_may firsts t day) (may_leave_free firsts t day)
@@ -230,7 +231,7 @@ module _ (parts : Parts) (valid : IsScenario parts) (trips : List (List Stop)) (
     arrives = λ n t ends window.
         let day = windows n t window in
         let same : n ≡ last = omega (arith, ends, end) in
-        given_same ((rates_of lists).arrives t) (IsFreeToArrive parts loads there limit t)
+        given_same ((rates_of lists).arrives t) (IsFreeAt Arrival parts loads there limit t)
         (MayArrive parts trips number flight t) (total_then parts.tables there t)
         (total_of parts.tables flight.cost (t - flight.sa))
         (arrives t (subst (λ m. IsInWindow (row m).window t) same window))

@@ -1,12 +1,16 @@
 -- Moves by a leg, from those into a window.
-use Rattle.std.proofs.Common.{◌≡◌, ℕ, ◌<◌, ◌≤◌, List, Option, Some, ℤ, sym, subst, arith}
+use Rattle.std.proofs.Common.{◌≡◌, ◌⊎◌, ℕ, ◌+◌, ◌*◌, ◌<◌, ◌≤◌, List, length, drop, slice_index_or, Option, Some, IsSome, ℤ, refl, sym, ap, ◌∙◌, subst, inl, inr, arith}
+use Rattle.std.proofs.lemmas.Bool.{cases_lt}
+use Rattle.std.proofs.lemmas.List.{get_or-drop, get_or-take, get_or_past}
+use Rattle.flow_types.specs.Limits.{most_periods}
 use Rattle.flow_types.specs.declared.flight.Leg.{Leg}
 use Rattle.time_windows.specs.declared.access.Access.{Access}
 use Rattle.time_windows.specs.declared.access.Window.{Window}
 use Rattle.time_windows.specs.Boxes.{IsInWindow, IsProper}
-use Rattle.exact_sums.proofs.LeastFacts.{least_same}
-use Rattle.flight_routes.specs.Entries.{IsMove, IsMoveBy, Offers, cell_at, move_cost}
-use Rattle.flight_routes.specs.Rates.{PassesNoMust, Rates}
+use Rattle.exact_sums.proofs.LeastFacts.{least_said}
+use Rattle.flight_routes.specs.Entries.{IsMove, IsMoveBy, Offers, cell_at, entry_cost}
+use Rattle.flight_routes.specs.RateLists.{part_of, place_of}
+use Rattle.flight_routes.specs.Rates.{AreClear, IsClear, PassesNoMust, Rates}
 use Rattle.flight_routes.specs.Ready.{AreWindows}
 
 -- a window is in order and ends within the day
@@ -20,46 +24,83 @@ window_last periods row n window windows is =
           (subst (λ (w : Option Window). IsInWindow w window.hi) (sym is) (proper, omega arith)),
     )
 
-module _ (row : ℕ → Access) (rates : Rates) (cells : List (Option ℤ)) (leg : Leg)
-    (node t : ℕ) where
-  module _ (next : Window) (is : (row leg.to).window ≡ Some next) (here : leg.from ≡ node)
-      (musts : PassesNoMust row node leg.to) where
-    move_by : (u : ℕ) → IsMove rates (cell_at cells leg.to) next node leg.least t u
+-- what a part of a list holds for a period
+module _ {A : Type 0} (items : List A) (node : ℕ) (d : A) where
+  pub part_at : (part : List A) → part ≡ part_of node items → (t : ℕ) → t < most_periods
+      → slice_index_or part t d ≡ slice_index_or items (place_of node t) d
+  part_at part is t in_day =
+      ap (λ xs. slice_index_or xs t d) is
+      ∙ get_or-take most_periods (drop (node * most_periods) items) t d in_day
+      ∙ get_or-drop (node * most_periods) items t d
+
+-- what holds of the value of each period, and of none, holds of what a part has
+pub part_all : {A : Type 0} (P : A → Type 0) (part : List A) (d : A) → length part ≡ most_periods
+    → P d → ((t : ℕ) → t < most_periods → P (slice_index_or part t d))
+    → (t : ℕ) → P (slice_index_or part t d)
+part_all P part d long none each t = by (cases_lt t most_periods)
+  where
+    by : (t < most_periods) ⊎ (most_periods ≤ t) → P (slice_index_or part t d)
+    by (inl within) = each t within
+    by (inr past) = subst P (sym (get_or_past part t d (omega (arith, long, past)))) none
+
+-- the part of a node is clear as the node is
+pub part_clear : (periods : ℕ) (rates : Rates) (node to : ℕ) (clear : ℕ → ℕ)
+    → AreClear periods rates → to < periods → periods ≤ most_periods
+    → ((t : ℕ) → t < most_periods → clear t ≡ rates.clear node t) → IsClear (to + 1) clear
+part_clear periods rates node to clear are within few same t before =
+    let here = same t (omega (arith, before, within, few)) in
+    let next = same (t + 1) (omega (arith, before, within, few)) in
+    subst (λ a. (a ≡ t) ⊎ ((t < a) × (a ≡ clear (t + 1)))) (sym here)
+    (subst (λ b. (rates.clear node t ≡ t)
+    ⊎ ((t < rates.clear node t) × (rates.clear node t ≡ b))) (sym next)
+    (are node t (omega (arith, before, within))))
+
+module _ (row : ℕ → Access) (rates : Rates) (cells : List (Option ℤ)) (leg : Leg) (node t : ℕ)
+    (clear : ℕ → ℕ) (paid : ℕ → ℤ) (cell : ℕ → Option ℤ)
+    (clear_is : (u : ℕ) → u < most_periods → clear u ≡ rates.clear node u)
+    (paid_is : (u : ℕ) → u < most_periods → paid u ≡ rates.paid node u)
+    (cell_is : (u : ℕ) → u < most_periods → cell u ≡ cell_at cells leg.to u)
+    (in_day : t < most_periods) where
+  module _ (next : Window) (is : (row leg.to).window ≡ Some next) (last : next.hi < most_periods)
+      (here : leg.from ≡ node) (musts : PassesNoMust row node leg.to) where
+    move_by : (u : ℕ) → IsMove clear cell next leg.least t u
         → IsMoveBy row rates cells leg node t u
-    move_by u move = record {
-      here = here;
-      musts = musts;
-      window = subst (λ (w : Option Window). IsInWindow w u) (sym is) (move.lo, move.hi);
-      late = move.late;
-      stay = move.stay;
-      reaches = move.reaches;
-    }
+        × (entry_cost (rates.paid node) (cell_at cells leg.to) u ≡ entry_cost paid cell u)
+    move_by u move =
+        let day : u < most_periods = omega (arith, move.hi, last) in (
+          record {
+            here = here;
+            musts = musts;
+            window = subst (λ (w : Option Window). IsInWindow w u) (sym is) (move.lo, move.hi);
+            late = move.late;
+            stay = omega (arith, move.stay, clear_is t in_day);
+            reaches = subst IsSome (cell_is u day) move.reaches;
+          },
+          rw (sym (paid_is u day), sym (cell_is u day)) refl,
+        )
 
     move_in : (u : ℕ) → IsMoveBy row rates cells leg node t u
-        → IsMove rates (cell_at cells leg.to) next node leg.least t u
+        → IsMove clear cell next leg.least t u
     move_in u move =
         let within = subst (λ (w : Option Window). IsInWindow w u) is move.window in
         record {
           late = move.late;
-          stay = move.stay;
+          stay = omega (arith, move.stay, clear_is t in_day);
           lo = within.0;
           hi = within.1;
-          reaches = move.reaches;
+          reaches = subst IsSome (sym (cell_is u (omega (arith, within.1, last)))) move.reaches;
         }
 
-    -- the moves by the leg are those into its window
+    -- the moves by the leg are those into its window, told of the parts of the two nodes
     pub offers_by : (old new : Option ℤ)
-        → Offers (IsMove rates (cell_at cells leg.to) next leg.from leg.least t)
-        (move_cost rates (cell_at cells leg.to) leg.from t) old new
+        → Offers (IsMove clear cell next leg.least t) (entry_cost paid cell) old new
         → Offers (IsMoveBy row rates cells leg node t)
-        (move_cost rates (cell_at cells leg.to) node t) old new
-    offers_by old new offers =
-        let at = subst (λ (n : ℕ). Offers (IsMove rates (cell_at cells leg.to) next n leg.least t)
-        (move_cost rates (cell_at cells leg.to) n t) old new) here offers in
-        record {
-          offer = at.offer;
-          least = least_same (IsMove rates (cell_at cells leg.to) next node leg.least t)
-              (IsMoveBy row rates cells leg node t) (move_cost rates (cell_at cells leg.to) node t)
-              move_by move_in at.offer at.least;
-          is = at.is;
-        }
+        (entry_cost (rates.paid node) (cell_at cells leg.to)) old new
+    offers_by old new offers = record {
+      offer = offers.offer;
+      least = least_said (IsMove clear cell next leg.least t)
+          (IsMoveBy row rates cells leg node t) (entry_cost paid cell)
+          (entry_cost (rates.paid node) (cell_at cells leg.to))
+          move_by move_in offers.offer offers.least;
+      is = offers.is;
+    }

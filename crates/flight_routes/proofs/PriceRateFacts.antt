@@ -1,8 +1,9 @@
 -- What leaving and arriving cost, with the connections told by turns.
-use Rattle.std.proofs.Common.{◌≡◌, ◌⊎◌, ◌*◌, ◌≤◌, replicate, get_or, pos, inl, inr, subst, ℕ, zero, suc, ◌+◌, List, [], ◌∷◌, length, slice_get, Option, Some, sum_by, ◌<◌, refl, sym, ap, ◌∙◌, arith}
+use Rattle.std.proofs.Common.{◌≡◌, ◌⊎◌, ◌*◌, ◌≤◌, replicate, get_or, pos, inl, inr, subst, ℕ, ◌+◌, List, length, slice_get, Option, Some, sum_by, ◌<◌, refl, sym, ap, ◌∙◌, arith}
 use Rattle.std.proofs.lemmas.Bool.{cases_lt}
 use Rattle.std.proofs.lemmas.Int.{ints}
 use Rattle.std.proofs.lemmas.List.{get_or-replicate, get_or_past, length-replicate}
+use Rattle.exact_sums.proofs.ItemFacts.{item_there}
 use Rattle.flow_types.specs.declared.flight.Flight.{Flight}
 use Rattle.flow_types.specs.Limits.{most_nodes, most_periods}
 use Rattle.flow_types.specs.Trips.{place_at}
@@ -12,10 +13,11 @@ use Rattle.flight_routes.specs.RateLists.{RateLists, place_of, rates_of}
 use Rattle.flight_routes.specs.TripRates.{AreTripRates, arriving_cost, leaving_cost}
 use Rattle.flight_routes.proofs.LaterFacts.{summed_join}
 use Rattle.flow_types.specs.declared.parts.Parts.{Parts}
-use Rattle.flight_routes.specs.declared.turns.End.TheVariants.{First, Second}
+use Rattle.flight_routes.specs.declared.ends.End.{End}
+use Rattle.flight_routes.specs.declared.ends.End.TheVariants.{Arrival, Departure}
 use Rattle.flight_routes.specs.declared.turns.Turn.{Turn}
 use Rattle.flight_routes.specs.Later.{shift_of}
-use Rattle.flight_routes.specs.PriceRates.{arrive_value, arriving_of, leave_value, leaving_of}
+use Rattle.flight_routes.specs.PriceRates.{arrive_value, arriving_of, end_cost, end_value, leave_value, leaving_of}
 use Rattle.flight_routes.specs.Prices.{PriceTable, price_in, summed, turns_back, turns_paid}
 use Rattle.flight_routes.specs.Turns.{turns_in}
 use Rattle.flight_routes.proofs.TurnFacts.{back_by_turns, paid_by_turns}
@@ -32,46 +34,48 @@ arrive_same : (weight : ℕ) (table : PriceTable) (parts : Parts) (number : ℕ)
     → arrive_value weight table parts there t later ≡ arriving_of weight table parts number there t
 arrive_same weight table parts number flight there t later is back = rw (is, back) refl
 
-a_flight : (parts : Parts) (number : ℕ) → number < length parts.flights
-    → (flight : Flight) × (slice_get parts.flights number ≡ Some flight)
-a_flight parts number within = at parts.flights number within
-  where
-    at : (flights : List Flight) (k : ℕ) → k < length flights
-        → (flight : Flight) × (slice_get flights k ≡ Some flight)
-    at [] k within = absurd (omega (arith, within))
-    at (f ∷ flights) zero within = (f, refl)
-    at (f ∷ flights) (suc k) within = at flights k (omega (arith, within))
-
 module _ (weight : ℕ) (table : PriceTable) (parts : Parts) (number : ℕ)
     (within : number < length parts.flights) (turns : List Turn) (t sum periods : ℕ)
     (same : periods ≡ parts.day.periods) where
-  pub leave_told : turns ≡ turns_in Second number 0 parts.connections
+  leave_told : turns ≡ turns_in Departure number 0 parts.connections
       → sum ≡ sum_by (λ turn. summed (price_in table.turns turn.connection)
-      (t + shift_of Second turn) periods) turns
+      (t + shift_of Departure turn) periods) turns
       → leave_value weight table parts (slice_get parts.flights number) t sum
       ≡ leaving_of weight table parts number (slice_get parts.flights number) t
   leave_told is told =
-      let flight = a_flight parts number within in
+      let flight = item_there parts.flights number within in
       leave_same weight table parts number flight.0 (slice_get parts.flights number) t sum flight.1
       (told ∙ ap (sum_by (λ turn. summed (price_in table.turns turn.connection)
-      (t + shift_of Second turn) periods)) is
+      (t + shift_of Departure turn) periods)) is
       ∙ ap (λ p. sum_by (λ turn. summed (price_in table.turns turn.connection)
-      (t + shift_of Second turn) p) (turns_in Second number 0 parts.connections)) same
+      (t + shift_of Departure turn) p) (turns_in Departure number 0 parts.connections)) same
       ∙ sym (paid_by_turns table parts.day.periods number t 0 parts.connections))
 
-  pub arrive_told : turns ≡ turns_in First number 0 parts.connections
+  arrive_told : turns ≡ turns_in Arrival number 0 parts.connections
       → sum ≡ sum_by (λ turn. summed (price_in table.turns turn.connection)
-      (t + shift_of First turn) periods) turns
+      (t + shift_of Arrival turn) periods) turns
       → arrive_value weight table parts (slice_get parts.flights number) t sum
       ≡ arriving_of weight table parts number (slice_get parts.flights number) t
   arrive_told is told =
-      let flight = a_flight parts number within in
+      let flight = item_there parts.flights number within in
       arrive_same weight table parts number flight.0 (slice_get parts.flights number) t sum flight.1
       (told ∙ ap (sum_by (λ turn. summed (price_in table.turns turn.connection)
-      (t + shift_of First turn) periods)) is
+      (t + shift_of Arrival turn) periods)) is
       ∙ ap (λ p. sum_by (λ turn. summed (price_in table.turns turn.connection)
-      (t + shift_of First turn) p) (turns_in First number 0 parts.connections)) same
+      (t + shift_of Arrival turn) p) (turns_in Arrival number 0 parts.connections)) same
       ∙ sym (back_by_turns table parts.day.periods number t 0 parts.connections))
+
+pub end_told : (end : End) (weight : ℕ) (table : PriceTable) (parts : Parts) (number : ℕ)
+    → number < length parts.flights → (turns : List Turn) (t sum periods : ℕ)
+    → periods ≡ parts.day.periods → turns ≡ turns_in end number 0 parts.connections
+    → sum ≡ sum_by (λ turn. summed (price_in table.turns turn.connection)
+    (t + shift_of end turn) periods) turns
+    → end_value end weight table parts (slice_get parts.flights number) t sum
+    ≡ end_cost end weight table parts number (slice_get parts.flights number) t
+end_told Departure weight table parts number within turns t sum periods same is told =
+    leave_told weight table parts number within turns t sum periods same is told
+end_told Arrival weight table parts number within turns t sum periods same is told =
+    arrive_told weight table parts number within turns t sum periods same is told
 
 leaving_same : (weight : ℕ) (table : PriceTable) (parts : Parts) (number : ℕ) (flight : Flight)
     (there : Option Flight) (t : ℕ) → there ≡ Some flight

@@ -97,15 +97,19 @@ step_up flight legs stop next step =
 -- no node is entered after the day
 pub in_day : (periods : ℕ) (flight : Flight) (stop : Stop) → 1 ≤ periods
     → IsWithinHours periods flight stop → stop.time < periods
-in_day periods flight stop some hours = in_day_by (stop.node == 0) (stop.node + 1 == length flight.nodes) hours.late
+in_day periods flight stop some hours =
+    in_day_by (stop.node == 0) (stop.node + 1 == length flight.nodes) hours.late
   where
-    in_day_by : (a b : Bool) → stop.time ≤ (if a then min (flight.sd + flight.mg) (periods - 1) else (if b then min (flight.sa + flight.md) (periods - 1) else periods - 1)) → stop.time < periods
+    in_day_by : (a b : Bool) → stop.time ≤ (if a then min (flight.sd + flight.mg) (periods - 1)
+        else (if b then min (flight.sa + flight.md) (periods - 1) else periods - 1))
+        → stop.time < periods
     in_day_by true b late = omega (arith, late, some)
     in_day_by false true late = omega (arith, late, some)
     in_day_by false false late = omega (arith, late, some)
 
 -- the last stop of a way on
-pub record EndsIn (flight : Flight) (row : ℕ → Access) (stop : Stop) (rest : List Stop) : Type 0 where
+pub record EndsIn (flight : Flight) (row : ℕ → Access) (stop : Stop) (rest : List Stop)
+    : Type 0 where
   pub node : ℕ
   pub last : node + 1 ≡ length flight.nodes
   pub window : IsInWindow (row node).window (arrival_from stop rest)

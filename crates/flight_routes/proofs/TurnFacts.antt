@@ -5,13 +5,15 @@ use Rattle.std.proofs.lemmas.List.Elements.{All-cons, All-nil, All-head, All-tai
 use Rattle.std.proofs.lemmas.List.Sums.{sum_by-cons}
 use Rattle.flow_types.specs.declared.flight.Connection.{Connection}
 use Rattle.flow_types.specs.declared.flight.Flight.{Flight}
+use Rattle.flow_types.specs.declared.parts.Parts.{Parts}
 use Rattle.flow_types.specs.Valid.{IsConnection}
-use Rattle.flight_routes.specs.declared.turns.End.{End}
-use Rattle.flight_routes.specs.declared.turns.End.TheVariants.{First, Second}
+use Rattle.flight_routes.specs.declared.ends.End.{End}
+use Rattle.flight_routes.specs.declared.ends.End.TheVariants.{Arrival, Departure}
 use Rattle.flight_routes.specs.declared.turns.Turn.{Turn}
 use Rattle.flight_routes.specs.Later.{shift_of}
 use Rattle.flight_routes.specs.Prices.{PriceTable, price_in, summed, turns_back, turns_paid}
-use Rattle.flight_routes.specs.Turns.{flight_at, other_at, turns_in}
+use Rattle.flight_routes.specs.Ends.{flight_at, other_at}
+use Rattle.flight_routes.specs.Turns.{AreTurnsAt, AreTurnsOf, TurnLists, turns_in, turns_of}
 
 abbrev pub turn_of : End → ℕ → Connection → Turn
 turn_of end k connection =
@@ -93,29 +95,39 @@ sum_if f false turn turns n more is rest = omega (arith, rest)
 -- what the connections of a flight cost, by its turns
 pub paid_by_turns : (table : PriceTable) (periods number t k : ℕ) (connections : List Connection)
     → turns_paid table periods number t k connections
-    ≡ sum_by (λ turn. summed (price_in table.turns turn.connection) (t + shift_of Second turn) periods)
-    (turns_in Second number k connections)
+    ≡ sum_by (λ turn. summed (price_in table.turns turn.connection)
+    (t + shift_of Departure turn) periods)
+    (turns_in Departure number k connections)
 paid_by_turns table periods number t k [] = refl
 paid_by_turns table periods number t k (connection ∷ connections) =
-    sum_if (λ turn. summed (price_in table.turns turn.connection) (t + shift_of Second turn) periods)
-    (connection.second == number) (turn_of Second k connection)
-    (turns_in Second number (k + 1) connections) (summed (price_in table.turns k) t periods)
+    sum_if (λ turn. summed (price_in table.turns turn.connection)
+    (t + shift_of Departure turn) periods)
+    (connection.second == number) (turn_of Departure k connection)
+    (turns_in Departure number (k + 1) connections) (summed (price_in table.turns k) t periods)
     (turns_paid table periods number t (k + 1) connections)
     (ap (λ n. summed (price_in table.turns k) n periods) (omega arith))
     (paid_by_turns table periods number t (k + 1) connections)
 
 pub back_by_turns : (table : PriceTable) (periods number t k : ℕ) (connections : List Connection)
     → turns_back table periods number t k connections
-    ≡ sum_by (λ turn. summed (price_in table.turns turn.connection) (t + shift_of First turn) periods)
-    (turns_in First number k connections)
+    ≡ sum_by (λ turn. summed (price_in table.turns turn.connection)
+    (t + shift_of Arrival turn) periods)
+    (turns_in Arrival number k connections)
 back_by_turns table periods number t k [] = refl
 back_by_turns table periods number t k (connection ∷ connections) =
-    sum_if (λ turn. summed (price_in table.turns turn.connection) (t + shift_of First turn) periods)
-    (connection.first == number) (turn_of First k connection)
-    (turns_in First number (k + 1) connections)
+    sum_if (λ turn. summed (price_in table.turns turn.connection)
+    (t + shift_of Arrival turn) periods)
+    (connection.first == number) (turn_of Arrival k connection)
+    (turns_in Arrival number (k + 1) connections)
     (summed (price_in table.turns k) (t + connection.turnaround) periods)
     (turns_back table periods number t (k + 1) connections) refl
     (back_by_turns table periods number t (k + 1) connections)
+
+-- those at one end
+pub turns_at_end : (end : End) (parts : Parts) (turns : TurnLists) → AreTurnsOf parts turns
+    → AreTurnsAt end parts (turns_of end turns)
+turns_at_end Departure parts turns are = are.departures
+turns_at_end Arrival parts turns are = are.arrivals
 
 -- each turn is one of the connections
 pub turns_there : (end : End) (number rows : ℕ) (connections : List Connection)
@@ -135,5 +147,5 @@ others_there end number flights all connections is valid =
     (λ i c fine low high own. within end c fine)
   where
     within : (e : End) (c : Connection) → IsConnection all c → other_at e c < flights
-    within First c fine = omega (arith, fine.second, is)
-    within Second c fine = omega (arith, fine.first, is)
+    within Arrival c fine = omega (arith, fine.second, is)
+    within Departure c fine = omega (arith, fine.first, is)

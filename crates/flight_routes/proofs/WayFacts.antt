@@ -1,5 +1,5 @@
 -- From the least over periods to the least over ways, and how far a way's cost is from zero.
-use Rattle.std.proofs.Common.{◌≡◌, ◌⊎◌, ℕ, ◌+◌, ◌-◌, ◌*◌, ◌^◌, ◌<◌, ◌≤◌, List, [], ◌∷◌, length, slice_index_or, get_or, Option, None, Some, IsSome, IfSome, All, ℤ, neg_ℤ, ◌+ℤ◌, ◌-ℤ◌, ◌≤ℤ◌, pos, refl, sym, ap, subst, inl, inr, arith}
+use Rattle.std.proofs.Common.{◌≡◌, ◌⊎◌, ℕ, ◌+◌, ◌-◌, ◌*◌, ◌^◌, ◌<◌, ◌≤◌, List, [], ◌∷◌, length, slice_index_or, get_or, Option, None, Some, IsSome, IfSome, All, ℤ, neg_ℤ, ◌+ℤ◌, ◌≤ℤ◌, pos, refl, sym, ap, subst, inl, inr, arith}
 use Rattle.std.proofs.lemmas.Int.{ints}
 use Rattle.std.proofs.lemmas.List.Elements.{Contains-get_or}
 use Rattle.std.specs.List.{Contains}
@@ -10,12 +10,12 @@ use Rattle.flow_types.specs.Routes.{IsLeg}
 use Rattle.flow_types.specs.Trips.{IsStep}
 use Rattle.time_windows.specs.declared.access.Access.{Access}
 use Rattle.time_windows.specs.Boxes.{IsInWindow}
-use Rattle.exact_sums.specs.Leasts.{IsLeast}
-use Rattle.exact_sums.proofs.LeastFacts.{least_either, least_same, least_through}
-use Rattle.flight_routes.specs.Entries.{IsMoveBy, Offers, cell_at, move_cost}
+use Rattle.exact_sums.specs.Leasts.{IsLeast, raised}
+use Rattle.exact_sums.proofs.LeastFacts.{least_along, least_either, least_same, least_through}
+use Rattle.flight_routes.specs.Entries.{IsMoveBy, Offers, cell_at, entry_cost}
 use Rattle.flight_routes.specs.Rates.{IsPassage, IsValueWithin, IsWay, IsWayOn, PassesNoMust, Rates, value_or_zero, way_cost, whole_cost}
 use Rattle.flight_routes.specs.Ready.{AreSmall, IsUpward}
-use Rattle.flight_routes.specs.Ways.{AreCells, HasLegsFrom, IsCell, IsPassageAmong, IsPassageBy, IsStart, IsWayAmong, IsWayBy, start_cost, stop_at}
+use Rattle.flight_routes.specs.Ways.{AreCells, HasLegsFrom, IsCell, IsPassageAmong, IsPassageBy, IsStart, IsWayAmong, IsWayBy, entered_cost, start_cost, stop_at}
 use Rattle.flight_routes.proofs.EntryFacts.{no_none, some_is, some_within}
 use Rattle.flight_routes.proofs.PassageFacts.{all_passage, passage_all, passage_apart, passage_left, passage_none, passage_right}
 
@@ -24,7 +24,7 @@ pub value_is : (o : Option ℤ) (v : ℤ) → o ≡ Some v → value_or_zero o �
 value_is o v is = ap value_or_zero is
 
 -- a leg of the flight leads upward, to one of its nodes
-leg_is : (nodes : ℕ) (legs : List Leg) (leg : Leg) → All (IsLeg nodes) legs → Contains legs leg
+pub leg_is : (nodes : ℕ) (legs : List Leg) (leg : Leg) → All (IsLeg nodes) legs → Contains legs leg
     → IsLeg nodes leg
 leg_is nodes legs leg all has = subst (IsLeg nodes) has.2 (all has.0 leg has.1)
 
@@ -116,6 +116,36 @@ module _ (flight : Flight) (row : ℕ → Access) (rates : Rates) (upward : IsUp
       → IsCell flight row rates node t (rates.arrives t)
   arrives_is node t last = arrives_by node t (rates.arrives t) last refl
 
+  -- a cell is the least of the ways on with what being at the node had cost, less that
+  pub entered_is : (node t : ℕ) (least : Option ℤ)
+      → IsLeast (IsWayOn flight row rates (stop_at node t)) (entered_cost rates (stop_at node t))
+      least → IsCell flight row rates node t (raised (neg_ℤ (rates.paid node t)) least)
+  entered_is node t =
+      least_along (IsWayOn flight row rates (stop_at node t))
+      (IsWayOn flight row rates (stop_at node t)) (entered_cost rates (stop_at node t))
+      (way_cost rates (stop_at node t)) (neg_ℤ (rates.paid node t))
+      (λ way on. (way, on, omega (arith, ints))) (λ way on. (way, on, omega (arith, ints)))
+
+  entered_by : (small : AreSmall rates) (node t : ℕ) (least : Option ℤ)
+      → IfSome (raised (neg_ℤ (rates.paid node t)) least) (IsValueWithin (2 ^ 111))
+      → IfSome least (IsValueWithin (2 ^ 112))
+  entered_by small node t None within = tt
+  entered_by small node t (Some v) within =
+      let paid = small.paid node t in
+      record {
+        low = omega (arith, ints, within.low, paid.low);
+        high = omega (arith, ints, within.high, paid.high);
+      }
+
+  -- so it is small too
+  pub entered_within : (small : AreSmall rates) (node t : ℕ) (least : Option ℤ)
+      → IsLeast (IsWayOn flight row rates (stop_at node t)) (entered_cost rates (stop_at node t))
+      least → IfSome least (IsValueWithin (2 ^ 112))
+  entered_within small node t least is =
+      entered_by small node t least
+      (within_by small node t (raised (neg_ℤ (rates.paid node t)) least)
+      (entered_is node t least is))
+
   module _ (legs : List Leg) (node t : ℕ) where
     -- by no leg there is no way
     none_among : (rest : List Stop)
@@ -124,7 +154,7 @@ module _ (flight : Flight) (row : ℕ → Access) (rates : Rates) (upward : IsUp
     none_among (next ∷ rest) way = passage_none row rates legs (stop_at node t) next way.0
 
     pub among_none : IsLeast (IsWayAmong flight legs 0 row rates (stop_at node t))
-        (way_cost rates (stop_at node t)) None
+        (entered_cost rates (stop_at node t)) None
     among_none = none_among
 
     -- by all legs from the node there are all ways
@@ -145,9 +175,11 @@ module _ (flight : Flight) (row : ℕ → Access) (rates : Rates) (upward : IsUp
 
       pub among_is : (least : Option ℤ)
           → IsLeast (IsWayAmong flight legs (length legs) row rates (stop_at node t))
-          (way_cost rates (stop_at node t)) least → IsCell flight row rates node t least
+          (entered_cost rates (stop_at node t)) least
+          → IsLeast (IsWayOn flight row rates (stop_at node t))
+          (entered_cost rates (stop_at node t)) least
       among_is = least_same (IsWayAmong flight legs (length legs) row rates (stop_at node t))
-          (IsWayOn flight row rates (stop_at node t)) (way_cost rates (stop_at node t))
+          (IsWayOn flight row rates (stop_at node t)) (entered_cost rates (stop_at node t))
           among_all all_among
 
     module _ (cells : List (Option ℤ)) (are : AreCells flight row rates (node + 1) cells)
@@ -162,8 +194,8 @@ module _ (flight : Flight) (row : ℕ → Access) (rates : Rates) (upward : IsUp
 
       to_move : (u : ℕ) (v : ℤ) → Leads u → cell_at cells leg.to u ≡ Some v
           → IsMoveBy row rates cells leg node t u
-          × (move_cost rates (cell_at cells leg.to) node t u
-          ≡ (rates.paid node u -ℤ rates.paid node t) +ℤ v)
+          × (entry_cost (rates.paid node) (cell_at cells leg.to) u
+          ≡ rates.paid node u +ℤ v)
       to_move u v leads is = (
         record {
           here = leads.here;
@@ -173,8 +205,7 @@ module _ (flight : Flight) (row : ℕ → Access) (rates : Rates) (upward : IsUp
           stay = leads.stay;
           reaches = some_is (cell_at cells leg.to u) v is;
         },
-        ap (λ z. (rates.paid node u -ℤ rates.paid node t) +ℤ z)
-            (value_is (cell_at cells leg.to u) v is),
+        (let same = value_is (cell_at cells leg.to u) v is in omega (arith, ints, same)),
       )
 
       of_move : (u : ℕ) → IsMoveBy row rates cells leg node t u
@@ -193,8 +224,8 @@ module _ (flight : Flight) (row : ℕ → Access) (rates : Rates) (upward : IsUp
       join_leg : (u : ℕ) (rest : List Stop) → Leads u
           → IsWayOn flight row rates (stop_at leg.to u) rest → (way : List Stop)
           × IsWayBy flight leg row rates (stop_at node t) way
-          × (way_cost rates (stop_at node t) way
-          ≡ (rates.paid node u -ℤ rates.paid node t) +ℤ way_cost rates (stop_at leg.to u) rest)
+          × (entered_cost rates (stop_at node t) way
+          ≡ rates.paid node u +ℤ way_cost rates (stop_at leg.to u) rest)
       join_leg u rest leads on = (
         stop_at leg.to u ∷ rest,
         (
@@ -206,14 +237,14 @@ module _ (flight : Flight) (row : ℕ → Access) (rates : Rates) (upward : IsUp
           },
           on,
         ),
-        refl,
+        omega (arith, ints),
       )
 
       part_leg : (way : List Stop) → IsWayBy flight leg row rates (stop_at node t) way
           → (u : ℕ) × (rest : List Stop) × Leads u
           × IsWayOn flight row rates (stop_at leg.to u) rest
-          × (way_cost rates (stop_at node t) way
-          ≡ (rates.paid node u -ℤ rates.paid node t) +ℤ way_cost rates (stop_at leg.to u) rest)
+          × (entered_cost rates (stop_at node t) way
+          ≡ rates.paid node u +ℤ way_cost rates (stop_at leg.to u) rest)
       part_leg [] way = absurd way
       part_leg (next ∷ rest) way =
           let to : next.node ≡ leg.to = sym way.0.between.to in (
@@ -227,22 +258,23 @@ module _ (flight : Flight) (row : ℕ → Access) (rates : Rates) (upward : IsUp
               stay = way.0.stay;
             },
             subst (λ (n : ℕ). IsWayOn flight row rates (stop_at n next.time) rest) to way.1,
-            ap (λ (n : ℕ). (rates.paid node next.time -ℤ rates.paid node t)
-                +ℤ way_cost rates (stop_at n next.time) rest) to,
+            (let same = ap (λ (n : ℕ). way_cost rates (stop_at n next.time) rest) to in
+                omega (arith, ints, same)),
           )
 
       ways_by : (offer : Option ℤ) → IsLeast (IsMoveBy row rates cells leg node t)
-          (move_cost rates (cell_at cells leg.to) node t) offer
+          (entry_cost (rates.paid node) (cell_at cells leg.to)) offer
           → IsLeast (IsWayBy flight leg row rates (stop_at node t))
-          (way_cost rates (stop_at node t)) offer
+          (entered_cost rates (stop_at node t)) offer
       ways_by = least_through Leads (cell_at cells leg.to)
-          (λ u. rates.paid node u -ℤ rates.paid node t)
+          (λ u. rates.paid node u)
           (λ u. IsWayOn flight row rates (stop_at leg.to u))
           (λ u. way_cost rates (stop_at leg.to u))
           (λ u leads. are.each leg.to u (omega (arith, is_leg.upward, leads.here)) is_leg.within
           leads.window)
-          (IsMoveBy row rates cells leg node t) (move_cost rates (cell_at cells leg.to) node t)
-          (IsWayBy flight leg row rates (stop_at node t)) (way_cost rates (stop_at node t))
+          (IsMoveBy row rates cells leg node t)
+          (entry_cost (rates.paid node) (cell_at cells leg.to))
+          (IsWayBy flight leg row rates (stop_at node t)) (entered_cost rates (stop_at node t))
           to_move of_move join_leg part_leg
 
       among_left : (k : ℕ) (way : List Stop)
@@ -279,18 +311,18 @@ module _ (flight : Flight) (row : ℕ → Access) (rates : Rates) (upward : IsUp
       -- one leg more
       pub among_next : (k : ℕ) → k < length legs → leg ≡ get_or legs k leg → (old new : Option ℤ)
           → IsLeast (IsWayAmong flight legs k row rates (stop_at node t))
-          (way_cost rates (stop_at node t)) old
+          (entered_cost rates (stop_at node t)) old
           → Offers (IsMoveBy row rates cells leg node t)
-          (move_cost rates (cell_at cells leg.to) node t) old new
+          (entry_cost (rates.paid node) (cell_at cells leg.to)) old new
           → IsLeast (IsWayAmong flight legs (k + 1) row rates (stop_at node t))
-          (way_cost rates (stop_at node t)) new
+          (entered_cost rates (stop_at node t)) new
       among_next k inside is old new so_far offers =
           subst (IsLeast (IsWayAmong flight legs (k + 1) row rates (stop_at node t))
-          (way_cost rates (stop_at node t))) (sym offers.is)
+          (entered_cost rates (stop_at node t))) (sym offers.is)
           (least_either (IsWayAmong flight legs k row rates (stop_at node t))
           (IsWayBy flight leg row rates (stop_at node t))
           (IsWayAmong flight legs (k + 1) row rates (stop_at node t))
-          (way_cost rates (stop_at node t)) (among_left k) (among_right k inside is)
+          (entered_cost rates (stop_at node t)) (among_left k) (among_right k inside is)
           (among_apart k inside is) old offers.offer so_far (ways_by offers.offer offers.least))
 
   module _ (cells : List (Option ℤ)) (are : AreCells flight row rates 0 cells) where

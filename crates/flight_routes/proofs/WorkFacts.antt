@@ -1,5 +1,5 @@
 -- Ways at the rates of a flight are its trips in the box.
-use Rattle.std.proofs.Common.{◌≡◌, ◌⊎◌, ◌*◌, ℕ, ◌+◌, ◌<◌, ◌≤◌, ◌^◌, List, [], ◌∷◌, ◌++◌, take, drop, length, get_or, replicate, slice_get, Option, Some, None, IfSome, MatchOption, ℤ, pos, sym, ap, ◌∙◌, subst, inl, inr, arith}
+use Rattle.std.proofs.Common.{◌≡◌, ◌⊎◌, ◌*◌, ℕ, zero, suc, ◌+◌, ◌<◌, ◌≤◌, ◌^◌, List, [], ◌∷◌, ◌++◌, take, drop, length, get_or, replicate, slice_get, Option, Some, None, IfSome, MatchOption, ℤ, pos, sym, ap, ◌∙◌, subst, inl, inr, arith}
 use Rattle.std.proofs.lemmas.Bool.{cases_lt}
 use Rattle.std.proofs.Math.Seq.{take-append_seam}
 use Rattle.std.proofs.lemmas.Int.{ints}
@@ -15,7 +15,8 @@ use Rattle.flow_types.specs.Limits.{most_nodes, most_periods}
 use Rattle.flow_types.specs.Trips.{IsTrip}
 use Rattle.flow_types.specs.Valid.{IsFlight, IsScenario}
 use Rattle.time_windows.specs.declared.access.Access.{Access}
-use Rattle.time_windows.specs.Boxes.{Box, IsBoxOf, IsInWindow, IsProper, IsTripInBox, IsWindowWithin, root_access, root_box, root_row}
+use Rattle.time_windows.specs.Boxes.{Box, IsBoxOf, IsProper, IsTripInBox, IsWindowWithin, root_access, root_box, root_row}
+use Rattle.time_windows.proofs.BoxFacts.{trip_in_same}
 use Rattle.flight_routes.specs.Filling.{IsFitTable, IsPriceTable}
 use Rattle.flight_routes.specs.FitRates.{AreFitRates}
 use Rattle.flight_routes.specs.Fits.{FitsAs, IsTripThatFits}
@@ -23,22 +24,12 @@ use Rattle.flight_routes.specs.Inside.{IsTripIn}
 use Rattle.flight_routes.specs.Prices.{PriceTable, priced_cost, priced_cost_of}
 use Rattle.flight_routes.specs.RateLists.{IsBlank, RateLists, place_of, rates_of}
 use Rattle.flight_routes.specs.Rates.{AreClear, IsValueWithin, IsWay, Rates, whole_cost}
-use Rattle.flight_routes.specs.Ready.{AreWindows, IsReady, IsUpward, row_of}
+use Rattle.flight_routes.specs.Ready.{AreRising, AreWindows, IsReady, IsUpward, row_of}
 use Rattle.flight_routes.specs.TripOrder.{IsNoLater}
 use Rattle.flight_routes.specs.TripRates.{AreTripRates}
 use Rattle.flight_routes.proofs.FitFacts.{allowed_cost, allowed_fits, fits_allowed}
 use Rattle.flight_routes.proofs.TripFacts.{IsRowOf, in_day, in_hours, trip_way, way_trip}
 use Rattle.flight_routes.proofs.TripRateFacts.{all_allowed, priced_is}
-
--- rows that say the same
-in_box_same : (row other : ℕ → Access) (stops : List Stop) → ((n : ℕ) → row n ≡ other n)
-    → IsTripInBox row stops → IsTripInBox other stops
-in_box_same row other stops same inside = record {
-  windows = λ k d within.
-      subst (λ (a : Access). IsInWindow a.window (get_or stops k d).time)
-      (same (get_or stops k d).node) (inside.windows k d within);
-  musts = λ n must. inside.musts n (ap (λ (a : Access). a.must) (same n) ∙ must);
-}
 
 module _ (parts : Parts) (valid : IsScenario parts) (box : Box) (of : IsBoxOf parts box)
     (number : ℕ) (flight : Flight) (here : slice_get parts.flights number ≡ Some flight)
@@ -69,7 +60,7 @@ module _ (parts : Parts) (valid : IsScenario parts) (box : Box) (of : IsBoxOf pa
   inside_row stops is =
       let e : is.flight ≡ flight = cc in (
         subst (λ (f : Flight). IsTrip parts.day.periods f stops) e is.trip,
-        in_box_same (box number) row stops (λ n. sym (same n)) is.inside,
+        trip_in_same (box number) row stops (λ n. sym (same n)) is.inside,
       )
 
   row_inside : (stops : List Stop) → IsTrip parts.day.periods flight stops → IsTripInBox row stops
@@ -78,7 +69,7 @@ module _ (parts : Parts) (valid : IsScenario parts) (box : Box) (of : IsBoxOf pa
     flight = flight;
     there = here;
     trip = trip;
-    inside = in_box_same row (box number) stops same inside;
+    inside = trip_in_same row (box number) stops same inside;
   }
 
   -- at the rates of prices
@@ -136,7 +127,8 @@ module _ (parts : Parts) (valid : IsScenario parts) (box : Box) (of : IsBoxOf pa
             fits = λ f there.
                 let e : flight ≡ f = cc in
                 subst (λ (g : Flight). FitsAs parts trips number g (stop ∷ rest)) e
-                (allowed_fits parts valid trips number flight here long row rates are stop rest trip.0
+                (allowed_fits parts valid trips number flight here long row rates are stop rest
+                trip.0
                 trip.1 trip.2);
           },
           ap (λ f. trip_cost_at parts.tables f (stop ∷ rest)) here
@@ -210,15 +202,40 @@ fit_clear_by lists n few table (inr past) t day =
     (omega arith) in
     inr (omega (arith, one, few, day), one ∙ sym two)
 
+free_is : (lists : RateLists) → IsFitTable lists → (n t : ℕ) → (rates_of lists).paid n t ≡ pos 0
+free_is lists table n t =
+    ap (λ costs. get_or costs (place_of n t) (pos 0)) table.free
+    ∙ read_replicate (most_nodes * most_periods) (place_of n t) (pos 0)
+    (cases_lt (place_of n t) (most_nodes * most_periods))
+
 free_small : (lists : RateLists) → IsFitTable lists → (n t : ℕ)
     → IsValueWithin (2 ^ 100) ((rates_of lists).paid n t)
 free_small lists table n t =
-    let is : (rates_of lists).paid n t ≡ pos 0 =
-    ap (λ costs. get_or costs (place_of n t) (pos 0)) table.free
-    ∙ read_replicate (most_nodes * most_periods) (place_of n t) (pos 0)
-    (cases_lt (place_of n t) (most_nodes * most_periods)) in
-    subst (IsValueWithin (2 ^ 100)) (sym is)
+    subst (IsValueWithin (2 ^ 100)) (sym (free_is lists table n t))
     (record { low = omega (arith, ints); high = omega (arith, ints) })
+
+-- what is paid at a node never falls
+pub fit_rising : (flight : Flight) (periods : ℕ) (lists : RateLists) → IsFitTable lists
+    → AreRising flight periods (rates_of lists)
+fit_rising flight periods lists table n t u inside later day =
+    omega (arith, ints, free_is lists table n t, free_is lists table n u)
+
+rising_by : (weight : ℕ) (table : PriceTable) (parts : Parts) (number : ℕ) (flight : Flight)
+    (row : ℕ → Access) (rates : Rates)
+    → AreTripRates weight table parts number flight row rates
+    → AreRising flight parts.day.periods rates
+rising_by weight table parts number flight row rates are zero t u inside later day =
+    omega (arith, ints, are.unpaid t u later day)
+rising_by weight table parts number flight row rates are (suc n) t u inside later day =
+    omega (arith, ints, are.paid (suc n) t u (omega arith) inside later day)
+
+pub price_rising : (weight : ℕ) (table : PriceTable) (parts : Parts) (number : ℕ)
+    (flight : Flight) (row : ℕ → Access) (rates : Rates) (periods : ℕ)
+    → periods ≡ parts.day.periods → AreTripRates weight table parts number flight row rates
+    → AreRising flight periods rates
+price_rising weight table parts number flight row rates periods same are =
+    subst (λ p. AreRising flight p rates) (sym same)
+    (rising_by weight table parts number flight row rates are)
 
 module _ (parts : Parts) (valid : IsScenario parts) (box : Box) (of : IsBoxOf parts box)
     (number : ℕ) (flight : Flight) (here : slice_get parts.flights number ≡ Some flight)

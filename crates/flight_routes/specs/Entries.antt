@@ -1,5 +1,6 @@
--- From one node to the next, by periods alone.
-use Rattle.std.specs.Prelude.{◌≡◌, ℕ, ◌+◌, ◌<◌, ◌≤◌, ◌==◌, max, nat_le, List, Option, None, IsSome, slice_index_or, ℤ, neg_ℤ, ◌+ℤ◌, ◌-ℤ◌, if◌then◌else◌}
+-- From one node to the next, by periods alone: what being at the node has cost up to each period,
+-- how long it is clear from each period on, and what the next one holds for each period.
+use Rattle.std.specs.Prelude.{◌≡◌, ℕ, ◌+◌, ◌<◌, ◌≤◌, ◌==◌, max, nat_le, List, Option, None, IsSome, slice_index_or, ℤ, ◌+ℤ◌, ◌-ℤ◌, if◌then◌else◌}
 use Rattle.flow_types.specs.declared.flight.Leg.{Leg}
 use Rattle.time_windows.specs.declared.access.Access.{Access}
 use Rattle.time_windows.specs.declared.access.Window.{Window}
@@ -12,44 +13,45 @@ use Rattle.flight_routes.specs.Rates.{PassesNoMust, Rates, value_or_zero}
 abbrev pub cell_at : List (Option ℤ) → ℕ → ℕ → Option ℤ
 cell_at cells node time = slice_index_or cells (place_of node time) None
 
+abbrev pub cell_in : List (Option ℤ) → ℕ → Option ℤ
+cell_in cells time = slice_index_or cells time None
+
 -- Whoever is at the node in a period may enter the next one in this period, and go on from there.
-pub record IsEntry (rates : Rates) (cell : ℕ → Option ℤ) (next : Window) (node from time : ℕ)
+pub record IsEntry (clear : ℕ → ℕ) (cell : ℕ → Option ℤ) (next : Window) (from time : ℕ)
     : Type 0 where
   pub late : from ≤ time
-  pub stay : time ≤ max from (rates.clear node from)
+  pub stay : time ≤ max from (clear from)
   pub lo : next.lo ≤ time
   pub hi : time ≤ next.hi
   pub reaches : IsSome (cell time)
 
-abbrev pub entry_cost : Rates → (ℕ → Option ℤ) → ℕ → ℕ → ℤ
-entry_cost rates cell node time = value_or_zero (cell time) +ℤ rates.paid node time
+abbrev pub entry_cost : (ℕ → ℤ) → (ℕ → Option ℤ) → ℕ → ℤ
+entry_cost paid cell time = value_or_zero (cell time) +ℤ paid time
 
 -- the least entry from a period on, by that from the next one on
-abbrev pub kept_of : Rates → ℕ → ℕ → Option ℤ → Option ℤ
-kept_of rates node time wait = if rates.clear node time == time then None else wait
+abbrev pub kept_of : (ℕ → ℕ) → ℕ → Option ℤ → Option ℤ
+kept_of clear time wait = if clear time == time then None else wait
 
-abbrev pub entered_of : Rates → (ℕ → Option ℤ) → Window → ℕ → ℕ → Option ℤ
-entered_of rates cell next node time =
-    if nat_le next.lo time then raised (rates.paid node time) (cell time) else None
+abbrev pub entered_of : (ℕ → ℤ) → (ℕ → Option ℤ) → Window → ℕ → Option ℤ
+entered_of paid cell next time =
+    if nat_le next.lo time then raised (paid time) (cell time) else None
 
 -- Whoever enters the node in a period may leave it by the leg and enter the next one in this one.
-pub record IsMove (rates : Rates) (cell : ℕ → Option ℤ) (next : Window) (node least from time : ℕ)
+pub record IsMove (clear : ℕ → ℕ) (cell : ℕ → Option ℤ) (next : Window) (least from time : ℕ)
     : Type 0 where
   pub late : from + least ≤ time
-  pub stay : time ≤ rates.clear node from
+  pub stay : time ≤ clear from
   pub lo : next.lo ≤ time
   pub hi : time ≤ next.hi
   pub reaches : IsSome (cell time)
 
-abbrev pub move_cost : Rates → (ℕ → Option ℤ) → ℕ → ℕ → ℕ → ℤ
-move_cost rates cell node from time =
-    (rates.paid node time -ℤ rates.paid node from) +ℤ value_or_zero (cell time)
+abbrev pub move_cost : (ℕ → ℤ) → (ℕ → Option ℤ) → ℕ → ℕ → ℤ
+move_cost paid cell from time = (paid time -ℤ paid from) +ℤ value_or_zero (cell time)
 
 -- what a slot becomes by a leg that enters the next node in a period or later
-abbrev pub offered_of : Rates → ℕ → ℕ → ℕ → Option ℤ → Option ℤ → Option ℤ
-offered_of rates node from time wait slot =
-    if nat_le time (rates.clear node from)
-    then lesser slot (raised (neg_ℤ (rates.paid node from)) wait) else slot
+abbrev pub offered_of : (ℕ → ℕ) → ℕ → ℕ → Option ℤ → Option ℤ → Option ℤ
+offered_of clear from time wait slot =
+    if nat_le time (clear from) then lesser slot wait else slot
 
 -- the slot is now the lesser of what it was and of the least move
 pub record Offers (P : ℕ → Type 0) (cost : ℕ → ℤ) (old new : Option ℤ) : Type 0 where

@@ -1,9 +1,11 @@
 -- What changes in a table of rates, and what stays.
 use Rattle.std.specs.Prelude.{◌≡◌, ◌≢◌, ◌<◌, ℕ, ◌*◌, ◌^◌, IfSome, length, pos, replicate}
 use Rattle.flow_types.specs.Limits.{most_nodes, most_periods}
+use Rattle.flight_routes.specs.declared.ends.End.{End}
+use Rattle.flight_routes.specs.declared.ends.End.TheVariants.{Arrival, Departure}
 use Rattle.flight_routes.specs.FitTimes.{IsClearAt}
 use Rattle.flight_routes.specs.RateLists.{RateLists, rates_of}
-use Rattle.flight_routes.specs.Rates.{IsValueWithin}
+use Rattle.flight_routes.specs.Rates.{IsValueWithin, rate_at}
 
 -- what leaving costs, and nothing else
 pub record OnlyLeaves (old new : RateLists) : Type 0 where
@@ -18,6 +20,10 @@ pub record OnlyArrives (old new : RateLists) : Type 0 where
   pub leaves : new.leaves ≡ old.leaves
   pub paid : new.paid ≡ old.paid
   pub clear : new.clear ≡ old.clear
+
+abbrev pub OnlyEnd : End → RateLists → RateLists → Type 0
+OnlyEnd Departure old new = OnlyLeaves old new
+OnlyEnd Arrival old new = OnlyArrives old new
 
 -- what being at one node has cost, and nothing else
 pub record OnlyPaid (node : ℕ) (old new : RateLists) : Type 0 where
@@ -51,6 +57,10 @@ AreLeavesSmall lists = (t : ℕ) → IfSome ((rates_of lists).leaves t) (IsValue
 
 abbrev pub AreArrivesSmall : RateLists → Type 0
 AreArrivesSmall lists = (t : ℕ) → IfSome ((rates_of lists).arrives t) (IsValueWithin (2 ^ 110))
+
+abbrev pub AreSmallAt : End → RateLists → Type 0
+AreSmallAt end lists =
+    (t : ℕ) → IfSome (rate_at end (rates_of lists) t) (IsValueWithin (2 ^ 110))
 
 abbrev pub ArePaidSmall : RateLists → Type 0
 ArePaidSmall lists = (n t : ℕ) → IsValueWithin (2 ^ 100) ((rates_of lists).paid n t)

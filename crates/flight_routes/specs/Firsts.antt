@@ -5,6 +5,7 @@ use Rattle.flow_types.specs.declared.flight.Leg.{Leg}
 use Rattle.flow_types.specs.declared.plan.Stop.{Stop}
 use Rattle.time_windows.specs.declared.access.Access.{Access}
 use Rattle.time_windows.specs.declared.access.Window.{Window}
+use Rattle.exact_sums.specs.Leasts.{raised}
 use Rattle.flight_routes.specs.Entries.{IsMove, cell_at, move_cost}
 use Rattle.flight_routes.specs.RateLists.{place_of}
 use Rattle.flight_routes.specs.Rates.{IsPassage, Rates, value_or_zero}
@@ -74,5 +75,12 @@ pub record IsKeptStart (row : ℕ → Access) (rates : Rates) (cells : List (Opt
 -- a move into a window that keeps the cost
 pub record IsKeptMove (rates : Rates) (cell : ℕ → Option ℤ) (next : Window) (node least from : ℕ)
     (value : Option ℤ) (time : ℕ) : Type 0 where
-  pub move : IsMove rates cell next node least from time
-  pub cost : Some (move_cost rates cell node from time) ≡ value
+  pub move : IsMove (rates.clear node) cell next least from time
+  pub cost : Some (move_cost (rates.paid node) cell from time) ≡ value
+
+-- a period from one up to another in which an entry costs so much, with a way on from there
+pub record IsEntryAt (paid : ℕ → ℤ) (cell : ℕ → Option ℤ) (first last : ℕ) (wanted : Option ℤ)
+    (time : ℕ) : Type 0 where
+  pub from : first ≤ time
+  pub to : time ≤ last
+  pub cost : raised (paid time) (cell time) ≡ wanted

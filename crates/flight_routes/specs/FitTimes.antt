@@ -1,5 +1,6 @@
 -- The periods in which a flight may leave, arrive or stay beside the loads.
-use Rattle.std.specs.Prelude.{◌≡◌, ◌⊎◌, ℕ, ◌+◌, ◌<◌, ◌≤◌, Option}
+use Rattle.std.specs.Prelude.{ℕ, ◌+◌, ◌<◌, ◌≤◌, List, Option, ℤ, pos, ◌-ℤ◌}
+use Rattle.flow_types.specs.declared.flight.CostTable.{CostTable}
 use Rattle.flow_types.specs.declared.flight.Flight.{Flight}
 use Rattle.flow_types.specs.declared.parts.Parts.{Parts}
 use Rattle.flow_types.specs.declared.place.CapKind.{CapKind}
@@ -7,25 +8,33 @@ use Rattle.flow_types.specs.declared.place.CapKind.TheVariants as kind
 use Rattle.flow_types.specs.Capacities.{capacity_of}
 use Rattle.plan_rules.specs.Cells.{Tally}
 use Rattle.plan_rules.specs.Loads.{load_at}
-use Rattle.flight_routes.specs.Rates.{Rates}
-use Rattle.flight_routes.specs.PriceRates.{from_of, to_of}
+use Rattle.flight_routes.specs.declared.ends.End.{End}
+use Rattle.flight_routes.specs.declared.ends.End.TheVariants.{Arrival, Departure}
+use Rattle.flight_routes.specs.Ends.{kind_at}
+use Rattle.flight_routes.specs.PriceRates.{airport_of}
+use Rattle.flight_routes.specs.Rates.{IsClear, Rates}
+use Rattle.flight_routes.specs.TimeCosts.{credit_then, total_then}
 
 -- room for one more flight
 abbrev pub HasSpace : Parts → Tally → CapKind → ℕ → ℕ → Type 0
 HasSpace parts loads kind place time =
     load_at loads kind place time + 1 ≤ capacity_of parts.places kind place time
 
--- in the first period or later, with room for the departure
-pub record IsFreeToLeave (parts : Parts) (loads : Tally) (flight : Option Flight) (first time : ℕ)
-    : Type 0 where
-  pub late : first ≤ time
-  pub space : HasSpace parts loads kind.Dep (from_of flight) time
+-- a departure from a period on, an arrival before one
+abbrev pub IsInTimeAt : End → ℕ → ℕ → Type 0
+IsInTimeAt Departure bound time = bound ≤ time
+IsInTimeAt Arrival bound time = time < bound
 
--- before the limit, with room for the arrival
-pub record IsFreeToArrive (parts : Parts) (loads : Tally) (flight : Option Flight) (limit time : ℕ)
-    : Type 0 where
-  pub early : time < limit
-  pub space : HasSpace parts loads kind.Arr (to_of flight) time
+-- in time, and with room for one more flight at that end of its trip
+pub record IsFreeAt (end : End) (parts : Parts) (loads : Tally) (flight : Option Flight)
+    (bound time : ℕ) : Type 0 where
+  pub in_time : IsInTimeAt end bound time
+  pub space : HasSpace parts loads (kind_at end) (airport_of end flight) time
+
+-- what it costs then: the departure pays back its credit
+abbrev pub fit_value : End → List CostTable → Option Flight → ℕ → ℤ
+fit_value Departure tables flight time = pos 0 -ℤ credit_then tables flight time
+fit_value Arrival tables flight time = total_then tables flight time
 
 -- the first period from one on without room in the sector, or a number past the day
 pub record IsFirstFull (parts : Parts) (loads : Tally) (place time first : ℕ) : Type 0 where
@@ -36,6 +45,4 @@ pub record IsFirstFull (parts : Parts) (loads : Tally) (place time first : ℕ) 
 
 -- of one node: the first full period is the period, or that of the next one
 abbrev pub IsClearAt : ℕ → ℕ → Rates → Type 0
-IsClearAt periods node rates = (t : ℕ) → t + 1 < periods
-    → (rates.clear node t ≡ t)
-    ⊎ ((t < rates.clear node t) × (rates.clear node t ≡ rates.clear node (t + 1)))
+IsClearAt periods node rates = IsClear periods (rates.clear node)

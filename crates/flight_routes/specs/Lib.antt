@@ -1,3 +1,6 @@
+pub mod Costs
+pub mod Early
+pub mod Ends
 pub mod Entries
 pub mod Filling
 pub mod Firsts

@@ -1,5 +1,5 @@
 -- What a table of rates holds, and the rates that it is read as.
-use Rattle.std.specs.Prelude.{◌≡◌, ℕ, ◌+◌, ◌*◌, ◌≤◌, List, length, replicate, Option, None, slice_index_or, ℤ, pos}
+use Rattle.std.specs.Prelude.{◌≡◌, ℕ, ◌+◌, ◌*◌, ◌≤◌, List, drop, length, replicate, take, Option, None, slice_index_or, ℤ, pos}
 use Rattle.flow_types.specs.Limits.{most_nodes, most_periods}
 use Rattle.flight_routes.specs.Rates.{Rates}
 
@@ -15,6 +15,17 @@ pub record RateLists : Type 0 where
 -- where a node and a period stand in a list
 abbrev pub place_of : ℕ → ℕ → ℕ
 place_of node time = node * most_periods + time
+
+-- the part of a list that is of one node
+abbrev pub part_of : {A : Type 0} → ℕ → List A → List A
+part_of node items = take most_periods (drop (node * most_periods) items)
+
+-- what the part of a node holds for a period: what being there has cost, how long it is clear
+abbrev pub paid_in : List ℤ → ℕ → ℤ
+paid_in paid time = slice_index_or paid time (pos 0)
+
+abbrev pub clear_in : List ℕ → ℕ → ℕ
+clear_in clear time = slice_index_or clear time most_periods
 
 abbrev pub rates_of : RateLists → Rates
 rates_of lists = record {

@@ -5,6 +5,8 @@ use Rattle.flow_types.specs.declared.plan.Stop.{Stop}
 use Rattle.flow_types.specs.Trips.{IsStep}
 use Rattle.time_windows.specs.declared.access.Access.{Access}
 use Rattle.time_windows.specs.Boxes.{IsInWindow}
+use Rattle.flight_routes.specs.declared.ends.End.{End}
+use Rattle.flight_routes.specs.declared.ends.End.TheVariants.{Arrival, Departure}
 
 -- What leaving and arriving in a period cost, nothing where the flight may not; what being at a
 -- node has cost from period 0 up to a period; and, of a node and a period, the first period from
@@ -14,6 +16,11 @@ pub record Rates : Type 0 where
   pub arrives : ℕ → Option ℤ
   pub paid : ℕ → ℕ → ℤ
   pub clear : ℕ → ℕ → ℕ
+
+-- what an end of the trip costs in a period
+abbrev pub rate_at : End → Rates → ℕ → Option ℤ
+rate_at Departure rates = rates.leaves
+rate_at Arrival rates = rates.arrives
 
 abbrev pub value_or_zero : Option ℤ → ℤ
 value_or_zero None = pos 0
@@ -56,10 +63,14 @@ abbrev pub whole_cost : Rates → List Stop → ℤ
 whole_cost rates [] = pos 0
 whole_cost rates (stop ∷ rest) = value_or_zero (rates.leaves stop.time) +ℤ way_cost rates stop rest
 
--- the first period in which the flight may not be there is the period, or that of the next one
+-- of one node: the first period in which the flight may not be there is the period, or that of the
+-- next one
+abbrev pub IsClear : ℕ → (ℕ → ℕ) → Type 0
+IsClear periods clear = (t : ℕ) → t + 1 < periods
+    → (clear t ≡ t) ⊎ ((t < clear t) × (clear t ≡ clear (t + 1)))
+
 abbrev pub AreClear : ℕ → Rates → Type 0
-AreClear periods rates = (n t : ℕ) → t + 1 < periods
-    → (rates.clear n t ≡ t) ⊎ ((t < rates.clear n t) × (rates.clear n t ≡ rates.clear n (t + 1)))
+AreClear periods rates = (n : ℕ) → IsClear periods (rates.clear n)
 
 -- no further from zero than this
 pub record IsValueWithin (most : ℕ) (value : ℤ) : Type 0 where

@@ -1,5 +1,5 @@
 -- What the least ways of a flight are found under.
-use Rattle.std.specs.Prelude.{ℕ, ◌^◌, ◌<◌, ◌≤◌, List, length, IfSome, slice_index_or, All}
+use Rattle.std.specs.Prelude.{ℕ, ◌+◌, ◌^◌, ◌<◌, ◌≤◌, ◌≤ℤ◌, List, length, IfSome, slice_index_or, All}
 use Rattle.flow_types.specs.declared.flight.Flight.{Flight}
 use Rattle.flow_types.specs.Limits.{most_nodes, most_periods}
 use Rattle.flow_types.specs.Routes.{IsLeg}
@@ -39,3 +39,8 @@ pub record IsReady (flight : Flight) (row : ℕ → Access) (periods : ℕ) (rat
   pub day : AreRates periods rates
   pub windows : AreWindows periods row
   pub network : IsUpward flight
+
+-- being at a node costs more the longer it is
+abbrev pub AreRising : Flight → ℕ → Rates → Type 0
+AreRising flight periods rates = (n t u : ℕ) → n + 1 < length flight.nodes → t ≤ u → u < periods
+    → rates.paid n t ≤ℤ rates.paid n u

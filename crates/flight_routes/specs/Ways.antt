@@ -19,6 +19,10 @@ abbrev pub IsCell : Flight → (ℕ → Access) → Rates → ℕ → ℕ → Op
 IsCell flight row rates node time cell =
     IsLeast (IsWayOn flight row rates (stop_at node time)) (way_cost rates (stop_at node time)) cell
 
+-- what a way on costs, with what being at the node had cost when the flight came there
+abbrev pub entered_cost : Rates → Stop → List Stop → ℤ
+entered_cost rates stop way = way_cost rates stop way +ℤ rates.paid stop.node stop.time
+
 -- every cell of a window is, from a node on
 pub record AreCells (flight : Flight) (row : ℕ → Access) (rates : Rates) (from : ℕ)
     (cells : List (Option ℤ)) : Type 0 where

@@ -1,32 +1,34 @@
 //! The least cost of the ways on from each stop, node by node from the last.
-ghost use Rattle.std.specs.Prelude.{◌≡◌, ◌*◌, ◌+◌, ◌≤◌, ◌<◌, ◌^◌, ℕ, None, Some, IfSome, length, slice_index_or};
+ghost use Rattle.std.specs.Prelude.{◌≡◌, ◌*◌, ◌+◌, ◌≤◌, ◌<◌, ◌^◌, ℕ, None, Some, IfSome, length, neg_ℤ, slice_index_or};
+ghost use Rattle.exact_sums.specs.Leasts.{IsLeast, raised};
 ghost use Rattle.flow_types.specs.Limits.{most_nodes, most_periods};
 ghost use Rattle.flow_types.specs.Routes.{IsLeg};
 ghost use Rattle.time_windows.specs.Boxes.{IsInWindow};
-ghost use Rattle.flight_routes.specs.Entries.{IsMoveBy, Offers, cell_at, move_cost};
-ghost use Rattle.flight_routes.specs.RateLists.{rates_of};
-ghost use Rattle.flight_routes.specs.Rates.{IsValueWithin};
+ghost use Rattle.flight_routes.specs.Entries.{IsMoveBy, Offers, cell_at, entry_cost};
+ghost use Rattle.flight_routes.specs.RateLists.{paid_in, rates_of};
+ghost use Rattle.flight_routes.specs.Rates.{IsValueWithin, IsWayOn};
 ghost use Rattle.flight_routes.specs.Ready.{AreRates, AreWindows, IsReady, row_of};
-ghost use Rattle.flight_routes.specs.Ways.{AreCells, HasLegsFrom, IsCell, IsLimit};
+ghost use Rattle.flight_routes.specs.Ways.{AreCells, HasLegsFrom, IsCell, IsLimit, entered_cost, stop_at};
 
 use crate::accesses::{limit_of, window_at};
-use crate::rates::{RateTable, place_of};
+use crate::cost::Cost;
+use crate::rates::{RateTable, part_of, place_of};
 use crate::relax::relax;
 use flow_types::{Flight, Leg};
 use time_windows::{Access, Window};
 
-// Offers to the slot of each period of the node's window the least move by a leg, if it starts
+// Offers to the slot of each period of the node's window the least entry by a leg, if it starts
 // there.
 fn relax_leg(
     rates: &RateTable,
     accesses: &[Access],
-    cells: &[Option<i128>],
+    cells: &[Cost],
     nodes: u16,
     node: u16,
     window: Window,
     limit: u16,
     leg: Leg,
-    row: &mut [Option<i128>],
+    row: &mut [Cost],
 )
     requires accesses { length accesses.now ≡ most_nodes }
     requires cells { length cells.now ≡ most_nodes * most_periods }
@@ -42,29 +44,37 @@ fn relax_leg(
         → IfSome (cell_at cells.now n u) (IsValueWithin (2 ^ 111)) }
     ensures { (t : ℕ) → window.lo ≤ t → t ≤ window.hi → Offers
         (IsMoveBy (row_of accesses.now) (rates_of rates.now) cells.now leg node t)
-        (move_cost (rates_of rates.now) (cell_at cells.now leg.to) node t)
+        (entry_cost ((rates_of rates.now).paid node) (cell_at cells.now leg.to))
         (slice_index_or row.old t None) (slice_index_or row.new t None) }
 {
     if leg.from == node && leg.to <= limit {
         if let Some(next) = window_at(accesses, leg.to) {
-            relax(rates, cells, leg, next, window, row);
+            relax(
+                rates.paid_part(node),
+                rates.clear_part(node),
+                part_of(cells, leg.to),
+                leg.least,
+                next,
+                window,
+                row,
+            );
         }
     }
 }
 
 // Puts nothing into the slots of a window.
-fn clear_row(window: Window, row: &mut [Option<i128>])
+fn clear_row(window: Window, row: &mut [Cost])
     requires row { length row.old ≡ most_periods }
     requires end { window.hi < most_periods }
     ensures { (t : ℕ) → window.lo ≤ t → t ≤ window.hi → slice_index_or row.new t None ≡ None }
 {
     for time in window.lo..window.hi + 1 {
-        row[usize::from(time)] = None;
+        row[usize::from(time)] = Cost::none();
     }
 }
 
 // Puts into the slot of each period of a window what arriving then costs.
-fn arrive_row(rates: &RateTable, window: Window, row: &mut [Option<i128>])
+fn arrive_row(rates: &RateTable, window: Window, row: &mut [Cost])
     requires row { length row.old ≡ most_periods }
     requires end { window.hi < most_periods }
     ensures { (t : ℕ) → window.lo ≤ t → t ≤ window.hi
@@ -75,16 +85,69 @@ fn arrive_row(rates: &RateTable, window: Window, row: &mut [Option<i128>])
     }
 }
 
+// Puts into the slot of each period of a node's window the least cost of the ways on from there,
+// with what being at the node had cost by then.
+fn enter_row(
+    flight: &Flight,
+    accesses: &[Access],
+    rates: &RateTable,
+    legs: &[Leg],
+    cells: &[Cost],
+    node: u16,
+    window: Window,
+    row: &mut [Cost],
+)
+    requires accesses { length accesses.now ≡ most_nodes }
+    requires ready { IsReady flight.now (row_of accesses.now) rates.now.periods
+        (rates_of rates.now) }
+    requires legs { HasLegsFrom node flight.now.legs legs.now }
+    requires length { length cells.now ≡ most_nodes * most_periods }
+    requires cells { AreCells flight.now (row_of accesses.now) (rates_of rates.now) (node + 1)
+        cells.now }
+    requires node { node + 1 < length flight.now.nodes }
+    requires window { (row_of accesses.now node).window ≡ Some window }
+    requires row { length row.old ≡ most_periods }
+    ensures { (t : ℕ) → window.lo ≤ t → t ≤ window.hi
+        → IsLeast (IsWayOn flight.now (row_of accesses.now) (rates_of rates.now) (stop_at node t))
+        (entered_cost (rates_of rates.now) (stop_at node t)) (slice_index_or row.new t None) }
+{
+    let nodes = flight.nodes.items().len() as u16;
+    let limit = limit_of(accesses, nodes, node);
+    clear_row(window, row);
+    for at in 0..legs.len() {
+        relax_leg(
+            rates, accesses, cells, nodes, node, window, limit, legs[at], row,
+        );
+    }
+}
+
+// Takes from the slot of each period of a window what being at the node had cost by then.
+fn lower_row(paid: &[i128], window: Window, row: &mut [Cost])
+    requires paid { length paid.now ≡ most_periods }
+    requires row { length row.old ≡ most_periods }
+    requires end { window.hi < most_periods }
+    requires small { (t : ℕ) → IsValueWithin (2 ^ 100) (paid_in paid.now t) }
+    requires costs { (t : ℕ) → window.lo ≤ t → t ≤ window.hi
+        → IfSome (slice_index_or row.old t None) (IsValueWithin (2 ^ 112)) }
+    ensures { (t : ℕ) → window.lo ≤ t → t ≤ window.hi → slice_index_or row.new t None
+        ≡ raised (neg_ℤ (paid_in paid.now t)) (slice_index_or row.old t None) }
+{
+    for time in window.lo..window.hi + 1 {
+        let at = usize::from(time);
+        row[at] = row[at].minus(paid[at]);
+    }
+}
+
 // Puts into the slot of each period of a node's window the least cost of the ways on from there.
 fn leave_row(
     flight: &Flight,
     accesses: &[Access],
     rates: &RateTable,
     legs: &[Leg],
-    cells: &[Option<i128>],
+    cells: &[Cost],
     node: u16,
     window: Window,
-    row: &mut [Option<i128>],
+    row: &mut [Cost],
 )
     requires accesses { length accesses.now ≡ most_nodes }
     requires ready { IsReady flight.now (row_of accesses.now) rates.now.periods
@@ -100,14 +163,8 @@ fn leave_row(
         → IsCell flight.now (row_of accesses.now) (rates_of rates.now) node t
         (slice_index_or row.new t None) }
 {
-    let nodes = flight.nodes.items().len() as u16;
-    let limit = limit_of(accesses, nodes, node);
-    clear_row(window, row);
-    for at in 0..legs.len() {
-        relax_leg(
-            rates, accesses, cells, nodes, node, window, limit, legs[at], row,
-        );
-    }
+    enter_row(flight, accesses, rates, legs, cells, node, window, row);
+    lower_row(rates.paid_part(node), window, row);
 }
 
 // The same at any node.
@@ -116,10 +173,10 @@ fn fill_row(
     accesses: &[Access],
     rates: &RateTable,
     legs: &[Leg],
-    cells: &[Option<i128>],
+    cells: &[Cost],
     node: u16,
     window: Window,
-    row: &mut [Option<i128>],
+    row: &mut [Cost],
 )
     requires accesses { length accesses.now ≡ most_nodes }
     requires ready { IsReady flight.now (row_of accesses.now) rates.now.periods
@@ -143,7 +200,7 @@ fn fill_row(
 }
 
 // Copies the slots of a node's window into its cells.
-fn store(row: &[Option<i128>], node: u16, window: Window, cells: &mut [Option<i128>])
+fn store(row: &[Cost], node: u16, window: Window, cells: &mut [Cost])
     requires row { length row.now ≡ most_periods }
     requires cells { length cells.old ≡ most_nodes * most_periods }
     requires node { node < most_nodes }
@@ -166,8 +223,8 @@ fn fill_node(
     rates: &RateTable,
     legs: &[Leg],
     node: u16,
-    row: &mut [Option<i128>],
-    cells: &mut [Option<i128>],
+    row: &mut [Cost],
+    cells: &mut [Cost],
 )
     requires accesses { length accesses.now ≡ most_nodes }
     requires ready { IsReady flight.now (row_of accesses.now) rates.now.periods
@@ -191,8 +248,8 @@ pub fn fill_nodes(
     flight: &Flight,
     accesses: &[Access],
     rates: &RateTable,
-    row: &mut [Option<i128>],
-    cells: &mut [Option<i128>],
+    row: &mut [Cost],
+    cells: &mut [Cost],
 )
     requires accesses { length accesses.now ≡ most_nodes }
     requires ready { IsReady flight.now (row_of accesses.now) rates.now.periods

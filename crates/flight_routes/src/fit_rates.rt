@@ -9,15 +9,16 @@ ghost use Rattle.flow_types.specs.Scenario.{flight_at, parts_of};
 ghost use Rattle.flow_types.specs.Trips.{place_at};
 ghost use Rattle.plan_rules.specs.Loads.{AreLoads, IsMadeFor};
 ghost use Rattle.time_windows.specs.Boxes.{IsInWindow};
-ghost use Rattle.flight_routes.specs.Filling.{AreArrivesSmall, AreLeavesSmall, IsFitTable, OnlyArrives, OnlyClear, OnlyLeaves};
+ghost use Rattle.flight_routes.specs.Filling.{AreSmallAt, IsFitTable, OnlyClear, OnlyEnd};
 ghost use Rattle.flight_routes.specs.FitRates.{AreFitRates, IsGiven};
-ghost use Rattle.flight_routes.specs.FitTimes.{HasSpace, IsClearAt, IsFirstFull, IsFreeToArrive, IsFreeToLeave};
+ghost use Rattle.flight_routes.specs.FitTimes.{HasSpace, IsClearAt, IsFirstFull, IsFreeAt, IsInTimeAt, fit_value};
 ghost use Rattle.flight_routes.specs.RateLists.{rates_of};
-ghost use Rattle.flight_routes.specs.Rates.{IsValueWithin};
+ghost use Rattle.flight_routes.specs.Rates.{IsValueWithin, rate_at};
 ghost use Rattle.flight_routes.specs.Ready.{AreWindows, row_of};
-ghost use Rattle.flight_routes.specs.TimeCosts.{credit_then, total_then};
 ghost use Rattle.flight_routes.specs.Turns.{AreTurnsOf};
 
+use crate::cost::Cost;
+use crate::ends::{End, airport_at, kind_at};
 use crate::rates::RateTable;
 use crate::time_costs::{credit_then, last_of, total_then};
 use crate::turn_times::{arrive_limit, first_leave};
@@ -58,103 +59,101 @@ fn negated(cost: Option<i64>) -> Option<i128>
     }
 }
 
-// What leaving in the period costs, nothing where the flight may not: before the first period, or
-// without room.
-fn fit_leave(s: &Scenario, flight: u32, time: u16, first: u32, loads: &Loads) -> Option<i128>
+// Whether a departure is no earlier, or an arrival is earlier.
+fn is_in_time(end: End, bound: u32, time: u16) -> bool
+    ensures { IsTrue result ↔ IsInTimeAt end bound time }
+{
+    match end {
+        End::Departure => bound <= u32::from(time),
+        End::Arrival => u32::from(time) < bound,
+    }
+}
+
+// What this end of the trip costs in the period, by the flight's table alone.
+fn value_at(s: &Scenario, flight: u32, end: End, time: u16) -> Option<i128>
+    requires { flight < length (parts_of s.now).flights }
+    ensures value { result
+        ≡ Some (fit_value end (parts_of s.now).tables (flight_at s.now flight) time) }
+    ensures within { IfSome result (IsValueWithin (2 ^ 110)) }
+{
+    match end {
+        End::Departure => negated(credit_then(s, flight, time)),
+        End::Arrival => widened(total_then(s, flight, time)),
+    }
+}
+
+// The same, nothing where the flight may not leave or arrive then: out of time, or without room.
+fn fit_at(s: &Scenario, flight: u32, end: End, time: u16, bound: u32, loads: &Loads) -> Option<i128>
     requires loads { IsMadeFor (parts_of s.now) loads.now }
     requires flight { flight < length (parts_of s.now).flights }
     requires time { time < (parts_of s.now).day.periods }
     ensures given { IsGiven result
-        (IsFreeToLeave (parts_of s.now) loads.now (flight_at s.now flight) first time)
-        (pos 0 -ℤ credit_then (parts_of s.now).tables (flight_at s.now flight) time) }
+        (IsFreeAt end (parts_of s.now) loads.now (flight_at s.now flight) bound time)
+        (fit_value end (parts_of s.now).tables (flight_at s.now flight) time) }
     ensures within { IfSome result (IsValueWithin (2 ^ 110)) }
 {
-    if u32::from(time) < first {
+    if !is_in_time(end, bound, time) {
         return None;
     }
-    if !has_space(
-        s,
-        loads,
-        CapKind::Dep,
-        s.flights()[flight as usize].from,
-        time,
-    ) {
+    let airport = airport_at(end, &s.flights()[flight as usize]);
+    if !has_space(s, loads, kind_at(end), airport, time) {
         return None;
     }
-    negated(credit_then(s, flight, time))
+    value_at(s, flight, end, time)
 }
 
-// What arriving in the period costs, nothing where the flight may not: from the limit on, or
-// without room.
-fn fit_arrive(s: &Scenario, flight: u32, time: u16, limit: u32, loads: &Loads) -> Option<i128>
-    requires loads { IsMadeFor (parts_of s.now) loads.now }
-    requires flight { flight < length (parts_of s.now).flights }
-    requires time { time < (parts_of s.now).day.periods }
-    ensures given { IsGiven result
-        (IsFreeToArrive (parts_of s.now) loads.now (flight_at s.now flight) limit time)
-        (total_then (parts_of s.now).tables (flight_at s.now flight) time) }
-    ensures within { IfSome result (IsValueWithin (2 ^ 110)) }
-{
-    if limit <= u32::from(time) {
-        return None;
-    }
-    if !has_space(
-        s,
-        loads,
-        CapKind::Arr,
-        s.flights()[flight as usize].to,
-        time,
-    ) {
-        return None;
-    }
-    widened(total_then(s, flight, time))
-}
-
-// Sets what leaving costs in each period of the window.
-fn set_leaves(
+// Sets what this end of the trip costs in each period of the window.
+#[tactic(auto, using(crate::proofs::FillFacts::end_more, crate::proofs::FillFacts::end_none))]
+fn set_end(
     table: &mut RateTable,
     s: &Scenario,
     flight: u32,
+    end: End,
     window: Window,
-    first: u32,
+    bound: u32,
     loads: &Loads,
 )
     requires loads { IsMadeFor (parts_of s.now) loads.now }
     requires flight { flight < length (parts_of s.now).flights }
     requires window { window.hi < (parts_of s.now).day.periods }
-    ensures leaves { (t : ℕ) → window.lo ≤ t → t ≤ window.hi
-        → IsGiven ((rates_of table.new).leaves t)
-        (IsFreeToLeave (parts_of s.now) loads.now (flight_at s.now flight) first t)
-        (pos 0 -ℤ credit_then (parts_of s.now).tables (flight_at s.now flight) t) }
-    ensures only { OnlyLeaves table.old table.new }
-    ensures within { AreLeavesSmall table.old → AreLeavesSmall table.new }
+    ensures costs { (t : ℕ) → window.lo ≤ t → t ≤ window.hi
+        → IsGiven (rate_at end (rates_of table.new) t)
+        (IsFreeAt end (parts_of s.now) loads.now (flight_at s.now flight) bound t)
+        (fit_value end (parts_of s.now).tables (flight_at s.now flight) t) }
+    ensures only { OnlyEnd end table.old table.new }
+    ensures within { AreSmallAt end table.old → AreSmallAt end table.new }
 {
     for time in window.lo..window.hi + 1 {
-        table.set_leave(time, fit_leave(s, flight, time, first, loads));
+        let value = fit_at(s, flight, end, time, bound, loads);
+        table.set_end(end, time, Cost::new(value));
     }
 }
 
-// Sets what arriving costs in each period of the window.
-fn set_arrives(
+// The same where the node at that end may be closed, so that there is no period to set.
+fn set_end_in(
     table: &mut RateTable,
     s: &Scenario,
     flight: u32,
-    window: Window,
-    limit: u32,
+    end: End,
+    accesses: &[Access],
+    node: u16,
+    bound: u32,
     loads: &Loads,
 )
     requires loads { IsMadeFor (parts_of s.now) loads.now }
     requires flight { flight < length (parts_of s.now).flights }
-    requires window { window.hi < (parts_of s.now).day.periods }
-    ensures arrives { (t : ℕ) → window.lo ≤ t → t ≤ window.hi
-        → IsGiven ((rates_of table.new).arrives t)
-        (IsFreeToArrive (parts_of s.now) loads.now (flight_at s.now flight) limit t)
-        (total_then (parts_of s.now).tables (flight_at s.now flight) t) }
-    ensures only { OnlyArrives table.old table.new }
-    ensures within { AreArrivesSmall table.old → AreArrivesSmall table.new }
+    requires accesses { length accesses.now ≡ most_nodes }
+    requires windows { AreWindows (parts_of s.now).day.periods (row_of accesses.now) }
+    requires node { node < most_nodes }
+    ensures costs { (t : ℕ) → IsInWindow (row_of accesses.now node).window t
+        → IsGiven (rate_at end (rates_of table.new) t)
+        (IsFreeAt end (parts_of s.now) loads.now (flight_at s.now flight) bound t)
+        (fit_value end (parts_of s.now).tables (flight_at s.now flight) t) }
+    ensures only { OnlyEnd end table.old table.new }
+    ensures within { AreSmallAt end table.old → AreSmallAt end table.new }
 {
-    for time in window.lo..window.hi + 1 {
-        table.set_arrival(time, fit_arrive(s, flight, time, limit, loads));
+    if let Some(window) = accesses[usize::from(node)].window {
+        set_end(table, s, flight, end, window, bound, loads);
     }
 }
 
@@ -214,58 +213,6 @@ fn set_all_full(table: &mut RateTable, s: &Scenario, flight: &Flight, last: u16,
     }
 }
 
-// Sets what leaving costs in each period of the origin's window, if it is open.
-fn set_leaves_in(
-    table: &mut RateTable,
-    s: &Scenario,
-    accesses: &[Access],
-    flight: u32,
-    first: u32,
-    loads: &Loads,
-)
-    requires loads { IsMadeFor (parts_of s.now) loads.now }
-    requires flight { flight < length (parts_of s.now).flights }
-    requires accesses { length accesses.now ≡ most_nodes }
-    requires windows { AreWindows (parts_of s.now).day.periods (row_of accesses.now) }
-    ensures leaves { (t : ℕ) → IsInWindow (row_of accesses.now 0).window t
-        → IsGiven ((rates_of table.new).leaves t)
-        (IsFreeToLeave (parts_of s.now) loads.now (flight_at s.now flight) first t)
-        (pos 0 -ℤ credit_then (parts_of s.now).tables (flight_at s.now flight) t) }
-    ensures only { OnlyLeaves table.old table.new }
-    ensures within { AreLeavesSmall table.old → AreLeavesSmall table.new }
-{
-    if let Some(window) = accesses[0].window {
-        set_leaves(table, s, flight, window, first, loads);
-    }
-}
-
-// Sets what arriving costs in each period of the destination's window, if it is open.
-fn set_arrives_in(
-    table: &mut RateTable,
-    s: &Scenario,
-    accesses: &[Access],
-    last: u16,
-    flight: u32,
-    limit: u32,
-    loads: &Loads,
-)
-    requires loads { IsMadeFor (parts_of s.now) loads.now }
-    requires flight { flight < length (parts_of s.now).flights }
-    requires accesses { length accesses.now ≡ most_nodes }
-    requires windows { AreWindows (parts_of s.now).day.periods (row_of accesses.now) }
-    requires last { last < most_nodes }
-    ensures arrives { (t : ℕ) → IsInWindow (row_of accesses.now last).window t
-        → IsGiven ((rates_of table.new).arrives t)
-        (IsFreeToArrive (parts_of s.now) loads.now (flight_at s.now flight) limit t)
-        (total_then (parts_of s.now).tables (flight_at s.now flight) t) }
-    ensures only { OnlyArrives table.old table.new }
-    ensures within { AreArrivesSmall table.old → AreArrivesSmall table.new }
-{
-    if let Some(window) = accesses[usize::from(last)].window {
-        set_arrives(table, s, flight, window, limit, loads);
-    }
-}
-
 /// Sets the rates of the flight beside the loads: what leaving and arriving cost it where there is
 /// room and its connections let it, and how long there is room in each of its sectors.
 pub fn set_fit_rates(
@@ -292,9 +239,11 @@ pub fn set_fit_rates(
 {
     let details = &s.flights()[flight as usize];
     let last = last_of(details);
-    let first = first_leave(turns.waits(flight), loads);
-    let limit = arrive_limit(turns.waited(flight), loads);
-    set_leaves_in(table, s, accesses, flight, first, loads);
-    set_arrives_in(table, s, accesses, last, flight, limit, loads);
+    let leave = End::Departure;
+    let first = first_leave(turns.of_flight(flight, leave), loads);
+    set_end_in(table, s, flight, leave, accesses, 0, first, loads);
+    let arrive = End::Arrival;
+    let limit = arrive_limit(turns.of_flight(flight, arrive), loads);
+    set_end_in(table, s, flight, arrive, accesses, last, limit, loads);
     set_all_full(table, s, details, last, loads);
 }

@@ -4,12 +4,13 @@ ghost use Rattle.flow_types.specs.Limits.{most_connections, most_periods};
 ghost use Rattle.flight_routes.specs.Later.{shift_of};
 ghost use Rattle.flight_routes.specs.Prices.{price_in, summed};
 
+use crate::ends::End;
 use crate::prices::Prices;
-use crate::turns::{End, Turn};
+use crate::turns::Turn;
 use flow_types::MOST_PERIODS;
 
-/// Sets the sum of each period to what the connections cost from then on: at the second end from
-/// the period itself, at the first end from the turnaround after it.
+/// Sets the sum of each period to what the connections cost from then on: with a departure from the
+/// period itself, with an arrival from the turnaround after it.
 pub fn add_up_later(sums: &mut [u128], prices: &Prices, turns: &[Turn], end: End, periods: u16)
     requires sums { length sums.old ≡ most_periods }
     requires periods { periods ≤ most_periods }
@@ -33,8 +34,8 @@ fn shift_of(end: End, turn: Turn) -> u16
     ensures { result ≡ shift_of end turn }
 {
     match end {
-        End::First => turn.turnaround,
-        End::Second => 0,
+        End::Departure => 0,
+        End::Arrival => turn.turnaround,
     }
 }
 

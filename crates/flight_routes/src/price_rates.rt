@@ -5,20 +5,22 @@ ghost use Rattle.flow_types.specs.Limits.{most_connections, most_nodes, most_per
 ghost use Rattle.flow_types.specs.Scenario.{flight_at, parts_of};
 ghost use Rattle.flow_types.specs.Trips.{place_at};
 ghost use Rattle.time_windows.specs.Boxes.{IsInWindow};
-ghost use Rattle.flight_routes.specs.Filling.{AreArrivesSmall, AreLeavesSmall, ArePaidSmall, IsPriceTable, OnlyArrives, OnlyLeaves, OnlyPaid, OnlyStays};
-ghost use Rattle.flight_routes.specs.PriceRates.{arrive_value, arriving_of, leave_value, leaving_of};
+ghost use Rattle.flight_routes.specs.Filling.{ArePaidSmall, AreSmallAt, IsPriceTable, OnlyEnd, OnlyPaid, OnlyStays};
+ghost use Rattle.flight_routes.specs.PriceRates.{end_cost, end_value};
 ghost use Rattle.flight_routes.specs.Prices.{ArePricesOf, price_in, summed};
 ghost use Rattle.flight_routes.specs.RateLists.{rates_of};
-ghost use Rattle.flight_routes.specs.Rates.{IsValueWithin};
+ghost use Rattle.flight_routes.specs.Rates.{IsValueWithin, rate_at};
 ghost use Rattle.flight_routes.specs.Ready.{AreWindows, row_of};
 ghost use Rattle.flight_routes.specs.TripRates.{AreTripRates};
 ghost use Rattle.flight_routes.specs.Turns.{AreTurnsOf};
 
+use crate::cost::Cost;
+use crate::ends::End;
 use crate::later::add_up_later;
 use crate::prices::Prices;
 use crate::rates::RateTable;
 use crate::time_costs::{credit_then, last_of, total_then};
-use crate::turns::{End, Turns};
+use crate::turns::Turns;
 use flow_types::{Flight, Scenario, place_at};
 use time_windows::{Access, Window};
 
@@ -61,11 +63,13 @@ fn more(cost: Option<i128>, paid: u64, back: u128) -> Option<i128>
     }
 }
 
-// What leaving in the period costs: its price, and what the connections cost from then on, less the
-// credit.
-fn leave_value(
+// What this end of the trip costs in the period: leaving its price, and what the connections cost
+// from then on, less the credit; arriving the total and its price, less what the connections pay
+// back.
+fn end_value(
     s: &Scenario,
     flight: u32,
+    end: End,
     time: u16,
     weight: u64,
     prices: &Prices,
@@ -76,72 +80,35 @@ fn leave_value(
     requires time { time < (parts_of s.now).day.periods }
     requires weight { weight < 2 ^ 62 }
     requires later { later ≤ most_connections * 2 ^ 71 }
-    ensures value { result ≡ Some (leave_value weight prices.now (parts_of s.now)
+    ensures value { result ≡ Some (end_value end weight prices.now (parts_of s.now)
         (flight_at s.now flight) time later) }
     ensures within { IfSome result (IsValueWithin (2 ^ 110)) }
 {
-    let price = prices.departure(s.flights()[flight as usize].from, time);
-    less(
-        u128::from(price) + later,
-        weighted(weight, credit_then(s, flight, time)),
-    )
-}
-
-// What arriving in the period costs: the total and its price, less what the connections pay back.
-fn arrive_value(
-    s: &Scenario,
-    flight: u32,
-    time: u16,
-    weight: u64,
-    prices: &Prices,
-    later: u128,
-) -> Option<i128>
-    requires prices { ArePricesOf (parts_of s.now) prices.now }
-    requires flight { flight < length (parts_of s.now).flights }
-    requires time { time < (parts_of s.now).day.periods }
-    requires weight { weight < 2 ^ 62 }
-    requires later { later ≤ most_connections * 2 ^ 71 }
-    ensures value { result ≡ Some (arrive_value weight prices.now (parts_of s.now)
-        (flight_at s.now flight) time later) }
-    ensures within { IfSome result (IsValueWithin (2 ^ 110)) }
-{
-    let price = prices.arrival(s.flights()[flight as usize].to, time);
-    more(weighted(weight, total_then(s, flight, time)), price, later)
-}
-
-// Sets what leaving costs in each period of the window.
-fn set_leaves(
-    table: &mut RateTable,
-    s: &Scenario,
-    flight: u32,
-    window: Window,
-    weight: u64,
-    prices: &Prices,
-    sums: &[u128],
-)
-    requires prices { ArePricesOf (parts_of s.now) prices.now }
-    requires flight { flight < length (parts_of s.now).flights }
-    requires window { window.hi < (parts_of s.now).day.periods }
-    requires weight { weight < 2 ^ 62 }
-    requires sums { length sums.now ≡ most_periods }
-    requires small { (t : ℕ) → slice_index sums.now t ≤ most_connections * 2 ^ 71 }
-    ensures leaves { (t : ℕ) → window.lo ≤ t → t ≤ window.hi → (rates_of table.new).leaves t
-        ≡ Some (leave_value weight prices.now (parts_of s.now) (flight_at s.now flight) t
-        (slice_index sums.now t)) }
-    ensures only { OnlyLeaves table.old table.new }
-    ensures within { AreLeavesSmall table.old → AreLeavesSmall table.new }
-{
-    for time in window.lo..window.hi + 1 {
-        let later = sums[usize::from(time)];
-        table.set_leave(time, leave_value(s, flight, time, weight, prices, later));
+    let details = &s.flights()[flight as usize];
+    match end {
+        End::Departure => {
+            less(
+                u128::from(prices.departure(details.from, time)) + later,
+                weighted(weight, credit_then(s, flight, time)),
+            )
+        }
+        End::Arrival => {
+            more(
+                weighted(weight, total_then(s, flight, time)),
+                prices.arrival(details.to, time),
+                later,
+            )
+        }
     }
 }
 
-// Sets what arriving costs in each period of the window.
-fn set_arrives(
+// Sets what this end of the trip costs in each period of the window.
+#[tactic(auto, using(crate::proofs::FillFacts::end_more, crate::proofs::FillFacts::end_none))]
+fn set_end(
     table: &mut RateTable,
     s: &Scenario,
     flight: u32,
+    end: End,
     window: Window,
     weight: u64,
     prices: &Prices,
@@ -153,15 +120,16 @@ fn set_arrives(
     requires weight { weight < 2 ^ 62 }
     requires sums { length sums.now ≡ most_periods }
     requires small { (t : ℕ) → slice_index sums.now t ≤ most_connections * 2 ^ 71 }
-    ensures arrives { (t : ℕ) → window.lo ≤ t → t ≤ window.hi → (rates_of table.new).arrives t
-        ≡ Some (arrive_value weight prices.now (parts_of s.now) (flight_at s.now flight) t
-        (slice_index sums.now t)) }
-    ensures only { OnlyArrives table.old table.new }
-    ensures within { AreArrivesSmall table.old → AreArrivesSmall table.new }
+    ensures costs { (t : ℕ) → window.lo ≤ t → t ≤ window.hi
+        → rate_at end (rates_of table.new) t ≡ Some (end_value end weight prices.now
+        (parts_of s.now) (flight_at s.now flight) t (slice_index sums.now t)) }
+    ensures only { OnlyEnd end table.old table.new }
+    ensures within { AreSmallAt end table.old → AreSmallAt end table.new }
 {
     for time in window.lo..window.hi + 1 {
         let later = sums[usize::from(time)];
-        table.set_arrival(time, arrive_value(s, flight, time, weight, prices, later));
+        let value = end_value(s, flight, end, time, weight, prices, later);
+        table.set_end(end, time, Cost::new(value));
     }
 }
 
@@ -183,13 +151,14 @@ fn set_paid(table: &mut RateTable, s: &Scenario, node: u16, place: u32, prices: 
     }
 }
 
-// Sets what leaving costs in each period of the window, the connections among it for which the
-// flight waits.
-fn set_leave_rates(
+// The same with the connections that the flight has there: each costs from its departure on, and
+// pays back from the turnaround after its arrival on.
+fn set_end_rates(
     table: &mut RateTable,
     sums: &mut [u128],
     s: &Scenario,
     flight: u32,
+    end: End,
     window: Window,
     weight: u64,
     prices: &Prices,
@@ -201,63 +170,32 @@ fn set_leave_rates(
     requires window { window.hi < (parts_of s.now).day.periods }
     requires weight { weight < 2 ^ 62 }
     requires sums { length sums.old ≡ most_periods }
-    ensures leaves { (t : ℕ) → window.lo ≤ t → t ≤ window.hi → (rates_of table.new).leaves t
-        ≡ Some (leaving_of weight prices.now (parts_of s.now) flight (flight_at s.now flight) t) }
-    ensures only { OnlyLeaves table.old table.new }
-    ensures within { AreLeavesSmall table.old → AreLeavesSmall table.new }
+    ensures costs { (t : ℕ) → window.lo ≤ t → t ≤ window.hi
+        → rate_at end (rates_of table.new) t ≡ Some (end_cost end weight prices.now
+        (parts_of s.now) flight (flight_at s.now flight) t) }
+    ensures only { OnlyEnd end table.old table.new }
+    ensures within { AreSmallAt end table.old → AreSmallAt end table.new }
     ensures sums { length sums.new ≡ most_periods }
 {
     add_up_later(
         sums,
         prices,
-        turns.waits(flight),
-        End::Second,
+        turns.of_flight(flight, end),
+        end,
         s.day().periods,
     );
-    set_leaves(table, s, flight, window, weight, prices, sums);
+    set_end(table, s, flight, end, window, weight, prices, sums);
 }
 
-// Sets what arriving costs in each period of the window, less what the connections pay back for
-// which another flight waits.
-fn set_arrive_rates(
+// The same where the node at that end may be closed, so that there is no period to set.
+fn set_end_in(
     table: &mut RateTable,
     sums: &mut [u128],
     s: &Scenario,
     flight: u32,
-    window: Window,
-    weight: u64,
-    prices: &Prices,
-    turns: &Turns,
-)
-    requires prices { ArePricesOf (parts_of s.now) prices.now }
-    requires turns { AreTurnsOf (parts_of s.now) turns.now }
-    requires flight { flight < length (parts_of s.now).flights }
-    requires window { window.hi < (parts_of s.now).day.periods }
-    requires weight { weight < 2 ^ 62 }
-    requires sums { length sums.old ≡ most_periods }
-    ensures arrives { (t : ℕ) → window.lo ≤ t → t ≤ window.hi → (rates_of table.new).arrives t
-        ≡ Some (arriving_of weight prices.now (parts_of s.now) flight (flight_at s.now flight) t) }
-    ensures only { OnlyArrives table.old table.new }
-    ensures within { AreArrivesSmall table.old → AreArrivesSmall table.new }
-    ensures sums { length sums.new ≡ most_periods }
-{
-    add_up_later(
-        sums,
-        prices,
-        turns.waited(flight),
-        End::First,
-        s.day().periods,
-    );
-    set_arrives(table, s, flight, window, weight, prices, sums);
-}
-
-// The same where the origin may be closed, so that there is no period to leave in.
-fn set_leaves_in(
-    table: &mut RateTable,
-    sums: &mut [u128],
-    s: &Scenario,
+    end: End,
     accesses: &[Access],
-    flight: u32,
+    node: u16,
     weight: u64,
     prices: &Prices,
     turns: &Turns,
@@ -267,49 +205,18 @@ fn set_leaves_in(
     requires flight { flight < length (parts_of s.now).flights }
     requires accesses { length accesses.now ≡ most_nodes }
     requires windows { AreWindows (parts_of s.now).day.periods (row_of accesses.now) }
+    requires node { node < most_nodes }
     requires weight { weight < 2 ^ 62 }
     requires sums { length sums.old ≡ most_periods }
-    ensures leaves { (t : ℕ) → IsInWindow (row_of accesses.now 0).window t
-        → (rates_of table.new).leaves t
-        ≡ Some (leaving_of weight prices.now (parts_of s.now) flight (flight_at s.now flight) t) }
-    ensures only { OnlyLeaves table.old table.new }
-    ensures within { AreLeavesSmall table.old → AreLeavesSmall table.new }
+    ensures costs { (t : ℕ) → IsInWindow (row_of accesses.now node).window t
+        → rate_at end (rates_of table.new) t ≡ Some (end_cost end weight prices.now
+        (parts_of s.now) flight (flight_at s.now flight) t) }
+    ensures only { OnlyEnd end table.old table.new }
+    ensures within { AreSmallAt end table.old → AreSmallAt end table.new }
     ensures sums { length sums.new ≡ most_periods }
 {
-    if let Some(window) = accesses[0].window {
-        set_leave_rates(table, sums, s, flight, window, weight, prices, turns);
-    }
-}
-
-// The same where the destination may be closed.
-fn set_arrives_in(
-    table: &mut RateTable,
-    sums: &mut [u128],
-    s: &Scenario,
-    accesses: &[Access],
-    last: u16,
-    flight: u32,
-    weight: u64,
-    prices: &Prices,
-    turns: &Turns,
-)
-    requires prices { ArePricesOf (parts_of s.now) prices.now }
-    requires turns { AreTurnsOf (parts_of s.now) turns.now }
-    requires flight { flight < length (parts_of s.now).flights }
-    requires accesses { length accesses.now ≡ most_nodes }
-    requires windows { AreWindows (parts_of s.now).day.periods (row_of accesses.now) }
-    requires last { last < most_nodes }
-    requires weight { weight < 2 ^ 62 }
-    requires sums { length sums.old ≡ most_periods }
-    ensures arrives { (t : ℕ) → IsInWindow (row_of accesses.now last).window t
-        → (rates_of table.new).arrives t
-        ≡ Some (arriving_of weight prices.now (parts_of s.now) flight (flight_at s.now flight) t) }
-    ensures only { OnlyArrives table.old table.new }
-    ensures within { AreArrivesSmall table.old → AreArrivesSmall table.new }
-    ensures sums { length sums.new ≡ most_periods }
-{
-    if let Some(window) = accesses[usize::from(last)].window {
-        set_arrive_rates(table, sums, s, flight, window, weight, prices, turns);
+    if let Some(window) = accesses[usize::from(node)].window {
+        set_end_rates(table, sums, s, flight, end, window, weight, prices, turns);
     }
 }
 
@@ -361,9 +268,13 @@ pub fn set_price_rates(
 {
     let details = &s.flights()[flight as usize];
     let last = last_of(details);
-    set_leaves_in(table, sums, s, accesses, flight, weight, prices, turns);
-    set_arrives_in(
-        table, sums, s, accesses, last, flight, weight, prices, turns,
+    let leave = End::Departure;
+    set_end_in(
+        table, sums, s, flight, leave, accesses, 0, weight, prices, turns,
+    );
+    let arrive = End::Arrival;
+    set_end_in(
+        table, sums, s, flight, arrive, accesses, last, weight, prices, turns,
     );
     set_stays(table, s, details, last, prices);
 }

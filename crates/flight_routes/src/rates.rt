@@ -1,10 +1,12 @@
 //! What a flight pays on its way, in lists that are made once.
-ghost use Rattle.std.specs.Prelude.{◌≡◌, ◌<◌, ◌^◌, None, IfOk, IfSome, pos, neg_ℤ, replicate, slice_index_or, length};
+ghost use Rattle.std.specs.Prelude.{◌≡◌, ◌*◌, ◌<◌, None, IfOk, pos, replicate, length};
 ghost use Rattle.exact_sums.specs.Leasts.{raised};
 ghost use Rattle.flow_types.specs.Limits.{most_nodes, most_periods};
-ghost use Rattle.flight_routes.specs.RateLists.{place_of};
+ghost use Rattle.flight_routes.specs.RateLists.{part_of, place_of};
 ghost use Rattle.flight_routes.specs.Rates.{IsValueWithin};
 
+use crate::cost::Cost;
+use crate::ends::End;
 use flow_types::{MOST_PERIODS, OutOfMemory};
 use std::alloc::Global;
 use std::marker::Model;
@@ -20,8 +22,8 @@ pub const CELLS: usize = 16_384;
 #[derive(Debug, Drop)]
 pub struct RateTable {
     periods: u16,
-    leaves: Vec<Option<i128>>,
-    arrives: Vec<Option<i128>>,
+    leaves: Vec<Cost>,
+    arrives: Vec<Cost>,
     paid: Vec<i128>,
     clear: Vec<u16>,
 }
@@ -57,12 +59,23 @@ pub fn place_of(node: u16, time: u16) -> usize
     usize::from(node) * usize::from(MOST_PERIODS) + usize::from(time)
 }
 
+/// The part of a list that is of the node: a slot for each period.
+pub fn part_of<T>(items: &[T], node: u16) -> &[T]
+    requires items { length items.now ≡ most_nodes * most_periods }
+    requires node { node < most_nodes }
+    ensures part { result.now ≡ part_of node items.now }
+    ensures length { length result.now ≡ most_periods }
+{
+    let first = usize::from(node) * usize::from(MOST_PERIODS);
+    &items[first..first + usize::from(MOST_PERIODS)]
+}
+
 impl RateTable {
-    ghost use Rattle.std.specs.Prelude.{◌≡◌, ◌<◌, ◌≤◌, ◌^◌, IfOk, IfSome, neg_ℤ};
+    ghost use Rattle.std.specs.Prelude.{◌≡◌, ◌<◌, ◌≤◌, ◌^◌, IfOk, IfSome, length, neg_ℤ};
     ghost use Rattle.exact_sums.specs.Leasts.{raised};
     ghost use Rattle.flow_types.specs.Limits.{most_nodes, most_periods};
-    ghost use Rattle.flight_routes.specs.RateLists.{IsBlank, rates_of};
-    ghost use Rattle.flight_routes.specs.Rates.{IsValueWithin};
+    ghost use Rattle.flight_routes.specs.RateLists.{IsBlank, part_of, rates_of};
+    ghost use Rattle.flight_routes.specs.Rates.{IsValueWithin, rate_at};
 
     /// Rates of a day of so many periods: no period to leave or to arrive in, nothing paid, and
     /// every node clear.
@@ -80,7 +93,7 @@ impl RateTable {
     }
 
     /// What leaving in the period costs, nothing where the flight may not.
-    pub fn leaves_at(&self, time: u16) -> Option<i128>
+    pub fn leaves_at(&self, time: u16) -> Cost
         requires { time < most_periods }
         ensures { result ≡ (rates_of self.now).leaves time }
     {
@@ -88,11 +101,47 @@ impl RateTable {
     }
 
     /// What arriving in the period costs, nothing where the flight may not.
-    pub fn arrives_at(&self, time: u16) -> Option<i128>
+    pub fn arrives_at(&self, time: u16) -> Cost
         requires { time < most_periods }
         ensures { result ≡ (rates_of self.now).arrives time }
     {
         self.arrives[usize::from(time)]
+    }
+
+    /// What an end of the trip costs in the period, nothing where the flight may not be there.
+    pub fn end_at(&self, end: End, time: u16) -> Cost
+        requires { time < most_periods }
+        ensures { result ≡ rate_at end (rates_of self.now) time }
+    {
+        match end {
+            End::Departure => self.leaves[usize::from(time)],
+            End::Arrival => self.arrives[usize::from(time)],
+        }
+    }
+
+    /// How many periods the day has.
+    pub fn periods(&self) -> u16
+        ensures { result ≡ self.now.periods }
+    {
+        self.periods
+    }
+
+    /// What being at the node has cost up to each period.
+    pub fn paid_part(&self, node: u16) -> &[i128]
+        requires { node < most_nodes }
+        ensures part { result.now ≡ part_of node self.now.paid }
+        ensures length { length result.now ≡ most_periods }
+    {
+        part_of(&self.paid, node)
+    }
+
+    /// From each period on, the first in which the flight may not be at the node.
+    pub fn clear_part(&self, node: u16) -> &[u16]
+        requires { node < most_nodes }
+        ensures part { result.now ≡ part_of node self.now.clear }
+        ensures length { length result.now ≡ most_periods }
+    {
+        part_of(&self.clear, node)
     }
 
     /// The first period from this one on in which the flight may not be at the node.
@@ -105,33 +154,22 @@ impl RateTable {
     }
 
     /// The cost with what being at the node has cost up to the period.
-    pub fn with_paid(&self, node: u16, time: u16, cost: Option<i128>) -> Option<i128>
+    pub fn with_paid(&self, node: u16, time: u16, cost: Cost) -> Cost
         requires node { node < most_nodes }
         requires time { time < most_periods }
         requires paid { IsValueWithin (2 ^ 100) ((rates_of self.now).paid node time) }
         requires cost { IfSome cost (IsValueWithin (2 ^ 120)) }
         ensures { result ≡ raised ((rates_of self.now).paid node time) cost }
     {
-        plus(&self.paid, place_of(node, time), cost)
-    }
-
-    /// The cost without what being at the node has cost up to the period.
-    pub fn without_paid(&self, node: u16, time: u16, cost: Option<i128>) -> Option<i128>
-        requires node { node < most_nodes }
-        requires time { time < most_periods }
-        requires paid { IsValueWithin (2 ^ 100) ((rates_of self.now).paid node time) }
-        requires cost { IfSome cost (IsValueWithin (2 ^ 120)) }
-        ensures { result ≡ raised (neg_ℤ ((rates_of self.now).paid node time)) cost }
-    {
-        minus(&self.paid, place_of(node, time), cost)
+        cost.plus(self.paid[place_of(node, time)])
     }
 }
 
 /// So many costs that aren't there.
-pub fn no_costs(alloc: Global, count: usize) -> Result<Vec<Option<i128>>, OutOfMemory>
+pub fn no_costs(alloc: Global, count: usize) -> Result<Vec<Cost>, OutOfMemory>
     ensures { IfOk result (λ costs. costs.items ≡ replicate count None) }
 {
-    Ok(vec![in alloc; None; count]?)
+    Ok(vec![in alloc; Cost::none(); count]?)
 }
 
 // So many zeros.
@@ -151,29 +189,22 @@ fn all_clear(alloc: Global, count: usize) -> Result<Vec<u16>, OutOfMemory>
 impl RateTable {
     ghost use Rattle.std.specs.Prelude.{◌≡◌, ◌≢◌, ◌<◌, ◌^◌, ℕ, pos};
     ghost use Rattle.flow_types.specs.Limits.{most_nodes, most_periods};
-    ghost use Rattle.flight_routes.specs.Filling.{ArePaidSmall, OnlyArrives, OnlyClear, OnlyLeaves, OnlyPaid};
+    ghost use Rattle.flight_routes.specs.Filling.{ArePaidSmall, OnlyClear, OnlyEnd, OnlyPaid};
     ghost use Rattle.flight_routes.specs.RateLists.{rates_of};
+    ghost use Rattle.flight_routes.specs.Rates.{rate_at};
 
-    /// Sets what leaving in the period costs.
-    pub fn set_leave(&mut self, time: u16, cost: Option<i128>)
+    /// Sets what this end of the trip costs in the period.
+    pub fn set_end(&mut self, end: End, time: u16, cost: Cost)
         requires { time < most_periods }
-        ensures here { (rates_of self.new).leaves time ≡ cost }
+        ensures here { rate_at end (rates_of self.new) time ≡ cost }
         ensures others { (t : ℕ) → t ≢ time
-            → (rates_of self.new).leaves t ≡ (rates_of self.old).leaves t }
-        ensures only { OnlyLeaves self.old self.new }
+            → rate_at end (rates_of self.new) t ≡ rate_at end (rates_of self.old) t }
+        ensures only { OnlyEnd end self.old self.new }
     {
-        self.leaves[usize::from(time)] = cost;
-    }
-
-    /// Sets what arriving in the period costs.
-    pub fn set_arrival(&mut self, time: u16, cost: Option<i128>)
-        requires { time < most_periods }
-        ensures here { (rates_of self.new).arrives time ≡ cost }
-        ensures others { (t : ℕ) → t ≢ time
-            → (rates_of self.new).arrives t ≡ (rates_of self.old).arrives t }
-        ensures only { OnlyArrives self.old self.new }
-    {
-        self.arrives[usize::from(time)] = cost;
+        match end {
+            End::Departure => self.leaves[usize::from(time)] = cost,
+            End::Arrival => self.arrives[usize::from(time)] = cost,
+        }
     }
 
     /// Sets what being at the node has cost up to the period.
@@ -200,31 +231,5 @@ impl RateTable {
         ensures only { OnlyClear node self.old self.new }
     {
         self.clear[place_of(node, time)] = first;
-    }
-}
-
-// The cost and the number at the place.
-fn plus(paid: &[i128], at: usize, cost: Option<i128>) -> Option<i128>
-    requires at { at < length paid.now }
-    requires paid { IsValueWithin (2 ^ 100) (slice_index_or paid.now at (pos 0)) }
-    requires cost { IfSome cost (IsValueWithin (2 ^ 120)) }
-    ensures { result ≡ raised (slice_index_or paid.now at (pos 0)) cost }
-{
-    match cost {
-        None => None,
-        Some(cost) => Some(cost + paid[at]),
-    }
-}
-
-// The cost less the number at the place.
-fn minus(paid: &[i128], at: usize, cost: Option<i128>) -> Option<i128>
-    requires at { at < length paid.now }
-    requires paid { IsValueWithin (2 ^ 100) (slice_index_or paid.now at (pos 0)) }
-    requires cost { IfSome cost (IsValueWithin (2 ^ 120)) }
-    ensures { result ≡ raised (neg_ℤ (slice_index_or paid.now at (pos 0))) cost }
-{
-    match cost {
-        None => None,
-        Some(cost) => Some(cost - paid[at]),
     }
 }

@@ -1,29 +1,21 @@
 //! What one leg offers to the stops at its start.
+//!
+//! The functions take the parts of the lists that are of the two nodes: what being at the first one
+//! has cost up to each period (`paid`), how long it is clear from each period on (`clear`), and the
+//! least cost of the ways on from the next one in each period (`cells`).
 ghost use Rattle.std.specs.Prelude.{◌≡◌, ◌*◌, ◌+◌, ◌≤◌, ◌<◌, ◌^◌, ℕ, None, IfSome, length, slice_index_or};
-ghost use Rattle.exact_sums.specs.Leasts.{IsLeast, lesser};
+ghost use Rattle.exact_sums.specs.Leasts.{IsLeast, raised};
 ghost use Rattle.flow_types.specs.Limits.{most_delay, most_nodes, most_periods};
-ghost use Rattle.flight_routes.specs.Entries.{IsEntry, IsMove, Offers, cell_at, entered_of, entry_cost, kept_of, move_cost, offered_of};
-ghost use Rattle.flight_routes.specs.RateLists.{rates_of};
-ghost use Rattle.flight_routes.specs.Rates.{AreClear, IsValueWithin};
-ghost use Rattle.flight_routes.specs.Ready.{AreSmall};
+ghost use Rattle.flight_routes.specs.Entries.{IsEntry, IsMove, Offers, cell_at, cell_in, entered_of, entry_cost, kept_of, offered_of};
+ghost use Rattle.flight_routes.specs.RateLists.{clear_in, paid_in};
+ghost use Rattle.flight_routes.specs.Rates.{IsClear, IsValueWithin};
 
-use crate::rates::{RateTable, place_of};
-use flow_types::Leg;
+use crate::cost::Cost;
+use crate::rates::place_of;
 use time_windows::Window;
 
-/// The lesser of two costs, as far as they are there.
-pub fn lesser(a: Option<i128>, b: Option<i128>) -> Option<i128>
-    ensures { result ≡ lesser a b }
-{
-    match (a, b) {
-        (None, b) => b,
-        (a, None) => a,
-        (Some(a), Some(b)) => { if b < a { Some(b) } else { Some(a) } }
-    }
-}
-
 /// What the cells hold for the node and the period.
-pub fn cell_at(cells: &[Option<i128>], node: u16, time: u16) -> Option<i128>
+pub fn cell_at(cells: &[Cost], node: u16, time: u16) -> Cost
     requires cells { length cells.now ≡ most_nodes * most_periods }
     requires node { node < most_nodes }
     requires time { time < most_periods }
@@ -33,61 +25,65 @@ pub fn cell_at(cells: &[Option<i128>], node: u16, time: u16) -> Option<i128>
 }
 
 // The least entry from the next period on, where the flight may wait for it.
-fn kept_of(rates: &RateTable, node: u16, time: u16, wait: Option<i128>) -> Option<i128>
-    requires node { node < most_nodes }
+fn kept_of(clear: &[u16], time: u16, wait: Cost) -> Cost
+    requires clear { length clear.now ≡ most_periods }
     requires time { time < most_periods }
-    ensures { result ≡ kept_of (rates_of rates.now) node time wait }
+    ensures { result ≡ kept_of (clear_in clear.now) time wait }
 {
-    if rates.clear_at(node, time) == time {
-        None
+    if clear_at(clear, time) == time {
+        Cost::none()
     } else {
         wait
     }
 }
 
-// The cost of an entry in this period.
-fn entered_of(
-    rates: &RateTable,
-    cells: &[Option<i128>],
-    to: u16,
-    next: Window,
-    node: u16,
-    time: u16,
-) -> Option<i128>
-    requires cells { length cells.now ≡ most_nodes * most_periods }
-    requires node { node < most_nodes }
-    requires to { to < most_nodes }
+/// What an entry in the period costs, with a way on from there.
+pub fn entry_at(paid: &[i128], cells: &[Cost], time: u16) -> Cost
+    requires paid { length paid.now ≡ most_periods }
+    requires cells { length cells.now ≡ most_periods }
+    requires time { time < most_periods }
+    requires small { IsValueWithin (2 ^ 100) (paid_in paid.now time) }
+    requires cost { IfSome (cell_in cells.now time) (IsValueWithin (2 ^ 111)) }
+    ensures { result ≡ raised (paid_in paid.now time) (cell_in cells.now time) }
+{
+    cells[usize::from(time)].plus(paid[usize::from(time)])
+}
+
+// The same, if the next node is open then.
+fn entered_of(paid: &[i128], cells: &[Cost], next: Window, time: u16) -> Cost
+    requires paid { length paid.now ≡ most_periods }
+    requires cells { length cells.now ≡ most_periods }
     requires time { time < most_periods }
     requires hi { time ≤ next.hi }
-    requires small { AreSmall (rates_of rates.now) }
+    requires small { (t : ℕ) → IsValueWithin (2 ^ 100) (paid_in paid.now t) }
     requires costs { (u : ℕ) → next.lo ≤ u → u ≤ next.hi
-        → IfSome (cell_at cells.now to u) (IsValueWithin (2 ^ 111)) }
-    ensures { result ≡ entered_of (rates_of rates.now) (cell_at cells.now to) next node time }
+        → IfSome (cell_in cells.now u) (IsValueWithin (2 ^ 111)) }
+    ensures { result ≡ entered_of (paid_in paid.now) (cell_in cells.now) next time }
 {
     if next.lo <= time {
-        rates.with_paid(node, time, cell_at(cells, to, time))
+        entry_at(paid, cells, time)
     } else {
-        None
+        Cost::none()
     }
 }
 
-// What the slot of a period becomes.
-fn offered_of(
-    rates: &RateTable,
-    node: u16,
-    from: u16,
-    time: u16,
-    wait: Option<i128>,
-    slot: Option<i128>,
-) -> Option<i128>
-    requires node { node < most_nodes }
-    requires from { from < most_periods }
-    requires small { AreSmall (rates_of rates.now) }
-    requires wait { IfSome wait (IsValueWithin (2 ^ 112)) }
-    ensures { result ≡ offered_of (rates_of rates.now) node from time wait slot }
+// The first period from this one on in which the flight may not be there.
+fn clear_at(clear: &[u16], time: u16) -> u16
+    requires clear { length clear.now ≡ most_periods }
+    requires time { time < most_periods }
+    ensures { result ≡ clear_in clear.now time }
 {
-    if time <= rates.clear_at(node, from) {
-        lesser(slot, rates.without_paid(node, from, wait))
+    clear[usize::from(time)]
+}
+
+// What the slot of a period becomes.
+fn offered_of(clear: &[u16], from: u16, time: u16, wait: Cost, slot: Cost) -> Cost
+    requires clear { length clear.now ≡ most_periods }
+    requires from { from < most_periods }
+    ensures { result ≡ offered_of (clear_in clear.now) from time wait slot }
+{
+    if time <= clear_at(clear, from) {
+        slot.lesser(wait)
     } else {
         slot
     }
@@ -95,93 +91,78 @@ fn offered_of(
 
 // The least entry from this period on, by that from the next one on.
 fn wait_from(
-    rates: &RateTable,
-    cells: &[Option<i128>],
-    to: u16,
+    paid: &[i128],
+    clear: &[u16],
+    cells: &[Cost],
     next: Window,
-    node: u16,
     time: u16,
-    wait: Option<i128>,
-) -> Option<i128>
-    requires cells { length cells.now ≡ most_nodes * most_periods }
-    requires node { node < most_nodes }
-    requires to { to < most_nodes }
+    wait: Cost,
+) -> Cost
+    requires paid { length paid.now ≡ most_periods }
+    requires clear { length clear.now ≡ most_periods }
+    requires cells { length cells.now ≡ most_periods }
     requires hi { time ≤ next.hi }
-    requires last { next.hi < rates.now.periods }
-    requires few { rates.now.periods ≤ most_periods }
-    requires clear { AreClear rates.now.periods (rates_of rates.now) }
-    requires small { AreSmall (rates_of rates.now) }
+    requires last { next.hi < most_periods }
+    requires kept { IsClear (next.hi + 1) (clear_in clear.now) }
+    requires small { (t : ℕ) → IsValueWithin (2 ^ 100) (paid_in paid.now t) }
     requires costs { (u : ℕ) → next.lo ≤ u → u ≤ next.hi
-        → IfSome (cell_at cells.now to u) (IsValueWithin (2 ^ 111)) }
-    requires wait { IsLeast
-        (IsEntry (rates_of rates.now) (cell_at cells.now to) next node (time + 1))
-        (entry_cost (rates_of rates.now) (cell_at cells.now to) node) wait }
-    ensures { IsLeast (IsEntry (rates_of rates.now) (cell_at cells.now to) next node time)
-        (entry_cost (rates_of rates.now) (cell_at cells.now to) node) result }
+        → IfSome (cell_in cells.now u) (IsValueWithin (2 ^ 111)) }
+    requires wait { IsLeast (IsEntry (clear_in clear.now) (cell_in cells.now) next (time + 1))
+        (entry_cost (paid_in paid.now) (cell_in cells.now)) wait }
+    ensures { IsLeast (IsEntry (clear_in clear.now) (cell_in cells.now) next time)
+        (entry_cost (paid_in paid.now) (cell_in cells.now)) result }
 {
-    lesser(
-        kept_of(rates, node, time, wait),
-        entered_of(rates, cells, to, next, node, time),
-    )
+    let entered = entered_of(paid, cells, next, time);
+    kept_of(clear, time, wait).lesser(entered)
 }
 
 // Offers to the slot of a period, if it is in the window, the least entry in a period or later.
-fn offer(
-    rates: &RateTable,
-    node: u16,
-    window: Window,
-    from: u16,
-    time: u16,
-    wait: Option<i128>,
-    row: &mut [Option<i128>],
-)
+fn offer(clear: &[u16], window: Window, from: u16, time: u16, wait: Cost, row: &mut [Cost])
+    requires clear { length clear.now ≡ most_periods }
     requires row { length row.old ≡ most_periods }
-    requires node { node < most_nodes }
     requires end { window.hi < most_periods }
-    requires small { AreSmall (rates_of rates.now) }
-    requires wait { IfSome wait (IsValueWithin (2 ^ 112)) }
     ensures here { from ≤ window.hi → slice_index_or row.new from None
-        ≡ offered_of (rates_of rates.now) node from time wait (slice_index_or row.old from None) }
+        ≡ offered_of (clear_in clear.now) from time wait (slice_index_or row.old from None) }
     ensures other { (t : ℕ) → (t ≡ from → ⊥)
         → slice_index_or row.new t None ≡ slice_index_or row.old t None }
 {
     if from <= window.hi {
         let at = usize::from(from);
-        row[at] = offered_of(rates, node, from, time, wait, row[at]);
+        row[at] = offered_of(clear, from, time, wait, row[at]);
     }
 }
 
-/// Offers to the slot of each period of a window the least move by a leg, which leads to a node
-/// that is open in `next`.
+/// Offers to the slot of each period of a window the least entry by a leg of so many periods, which
+/// leads to a node that is open in `next`.
 pub fn relax(
-    rates: &RateTable,
-    cells: &[Option<i128>],
-    leg: Leg,
+    paid: &[i128],
+    clear: &[u16],
+    cells: &[Cost],
+    least: u16,
     next: Window,
     window: Window,
-    row: &mut [Option<i128>],
+    row: &mut [Cost],
 )
-    requires cells { length cells.now ≡ most_nodes * most_periods }
+    requires paid { length paid.now ≡ most_periods }
+    requires clear { length clear.now ≡ most_periods }
+    requires cells { length cells.now ≡ most_periods }
     requires row { length row.old ≡ most_periods }
-    requires from { leg.from < most_nodes }
-    requires to { leg.to < most_nodes }
-    requires least { leg.least ≤ most_delay }
-    requires last { next.hi < rates.now.periods }
+    requires least { least ≤ most_delay }
+    requires last { next.hi < most_periods }
     requires proper { window.lo ≤ window.hi }
     requires end { window.hi < most_periods }
-    requires few { rates.now.periods ≤ most_periods }
-    requires clear { AreClear rates.now.periods (rates_of rates.now) }
-    requires small { AreSmall (rates_of rates.now) }
+    requires kept { IsClear (next.hi + 1) (clear_in clear.now) }
+    requires small { (t : ℕ) → IsValueWithin (2 ^ 100) (paid_in paid.now t) }
     requires costs { (u : ℕ) → next.lo ≤ u → u ≤ next.hi
-        → IfSome (cell_at cells.now leg.to u) (IsValueWithin (2 ^ 111)) }
+        → IfSome (cell_in cells.now u) (IsValueWithin (2 ^ 111)) }
     ensures { (t : ℕ) → window.lo ≤ t → t ≤ window.hi → Offers
-        (IsMove (rates_of rates.now) (cell_at cells.now leg.to) next leg.from leg.least t)
-        (move_cost (rates_of rates.now) (cell_at cells.now leg.to) leg.from t)
+        (IsMove (clear_in clear.now) (cell_in cells.now) next least t)
+        (entry_cost (paid_in paid.now) (cell_in cells.now))
         (slice_index_or row.old t None) (slice_index_or row.new t None) }
 {
-    let mut wait = None;
-    for time in (window.lo + leg.least..next.hi + 1).rev() {
-        wait = wait_from(rates, cells, leg.to, next, leg.from, time, wait);
-        offer(rates, leg.from, window, time - leg.least, time, wait, row);
+    let mut wait = Cost::none();
+    for time in (window.lo + least..next.hi + 1).rev() {
+        wait = wait_from(paid, clear, cells, next, time, wait);
+        offer(clear, window, time - least, time, wait, row);
     }
 }

@@ -9,32 +9,21 @@ ghost use Rattle.flight_routes.specs.Ready.{IsReady, row_of};
 ghost use Rattle.flight_routes.specs.Ways.{AreCells, IsStart, both_of, start_cost};
 
 use crate::accesses::window_at;
+use crate::cost::Cost;
 use crate::rates::RateTable;
-use crate::relax::{cell_at, lesser};
+use crate::relax::cell_at;
 use flow_types::Flight;
 use time_windows::{Access, Window};
 
 /// What the ways from a first stop in the period cost at least.
-pub fn start_of(rates: &RateTable, cells: &[Option<i128>], time: u16) -> Option<i128>
+pub fn start_of(rates: &RateTable, cells: &[Cost], time: u16) -> Cost
     requires length { length cells.now ≡ most_nodes * most_periods }
     requires time { time < most_periods }
     requires leaves { IfSome ((rates_of rates.now).leaves time) (IsValueWithin (2 ^ 110)) }
     requires cell { IfSome (cell_at cells.now 0 time) (IsValueWithin (2 ^ 111)) }
     ensures { result ≡ both_of ((rates_of rates.now).leaves time) (cell_at cells.now 0 time) }
 {
-    both_of(rates.leaves_at(time), cell_at(cells, 0, time))
-}
-
-// The sum of two costs, where both are there.
-fn both_of(a: Option<i128>, b: Option<i128>) -> Option<i128>
-    requires a { IfSome a (IsValueWithin (2 ^ 110)) }
-    requires b { IfSome b (IsValueWithin (2 ^ 111)) }
-    ensures { result ≡ both_of a b }
-{
-    match (a, b) {
-        (Some(a), Some(b)) => Some(a + b),
-        _ => None,
-    }
+    rates.leaves_at(time).and(cell_at(cells, 0, time))
 }
 
 // The least of them over the window of the first node.
@@ -42,9 +31,9 @@ fn least_start(
     flight: &Flight,
     accesses: &[Access],
     rates: &RateTable,
-    cells: &[Option<i128>],
+    cells: &[Cost],
     window: Window,
-) -> Option<i128>
+) -> Cost
     requires accesses { length accesses.now ≡ most_nodes }
     requires ready { IsReady flight.now (row_of accesses.now) rates.now.periods
         (rates_of rates.now) }
@@ -54,20 +43,15 @@ fn least_start(
     ensures { IsLeast (IsStart (row_of accesses.now) (rates_of rates.now) cells.now)
         (start_cost (rates_of rates.now) cells.now) result }
 {
-    let mut least = None;
+    let mut least = Cost::none();
     for time in window.lo..window.hi + 1 {
-        least = lesser(least, start_of(rates, cells, time));
+        least = least.lesser(start_of(rates, cells, time));
     }
     least
 }
 
 /// The least over the window of the first node, if it is open.
-pub fn least_cost(
-    flight: &Flight,
-    accesses: &[Access],
-    rates: &RateTable,
-    cells: &[Option<i128>],
-) -> Option<i128>
+pub fn least_cost(flight: &Flight, accesses: &[Access], rates: &RateTable, cells: &[Cost]) -> Cost
     requires accesses { length accesses.now ≡ most_nodes }
     requires ready { IsReady flight.now (row_of accesses.now) rates.now.periods
         (rates_of rates.now) }
@@ -77,7 +61,7 @@ pub fn least_cost(
         (whole_cost (rates_of rates.now)) result }
 {
     match window_at(accesses, 0) {
-        None => None,
+        None => Cost::none(),
         Some(window) => least_start(flight, accesses, rates, cells, window),
     }
 }

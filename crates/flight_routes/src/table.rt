@@ -1,4 +1,5 @@
 //! The least way of a flight, in room that is made once.
+use crate::cost::Cost;
 use crate::fill::fill_nodes;
 use crate::rates::{CELLS, PERIODS, RateTable, no_costs};
 use crate::starts::least_cost;
@@ -12,8 +13,8 @@ use time_windows::Access;
 /// see it as its cells.
 #[derive(Debug, Drop)]
 pub struct Table {
-    cells: Vec<Option<i128>>,
-    row: Vec<Option<i128>>,
+    cells: Vec<Cost>,
+    row: Vec<Cost>,
 }
 
 impl Model for Table {
@@ -48,12 +49,7 @@ impl Table {
 
     /// The least cost of the flight's ways through a row of accesses, nothing where there is no
     /// way. The table is then of the flight.
-    pub fn least_way(
-        &mut self,
-        flight: &Flight,
-        accesses: &[Access],
-        rates: &RateTable,
-    ) -> Option<i128>
+    pub fn least_way(&mut self, flight: &Flight, accesses: &[Access], rates: &RateTable) -> Cost
         requires accesses { length accesses.now ≡ most_nodes }
         requires ready { IsReady flight.now (row_of accesses.now) rates.now.periods
             (rates_of rates.now) }
@@ -72,7 +68,7 @@ impl Table {
         flight: &Flight,
         accesses: &[Access],
         rates: &RateTable,
-        least: Option<i128>,
+        least: Cost,
         stops: &mut Vec<Stop>,
     )
         requires accesses { length accesses.now ≡ most_nodes }

@@ -4,17 +4,18 @@ ghost use Rattle.exact_sums.specs.Leasts.{IsFirstLeast, IsLeast, raised};
 ghost use Rattle.flow_types.specs.Limits.{most_delay, most_nodes, most_periods};
 ghost use Rattle.flow_types.specs.Routes.{IsLeg};
 ghost use Rattle.time_windows.specs.Boxes.{IsInWindow};
-ghost use Rattle.flight_routes.specs.Entries.{cell_at};
-ghost use Rattle.flight_routes.specs.Firsts.{IsFirst, IsFirstAt, IsFirstTime, IsFirstTimeAt, IsKeptMove, IsKeptStart, IsNext, IsNextBy, earlier, key_of};
-ghost use Rattle.flight_routes.specs.RateLists.{rates_of};
+ghost use Rattle.flight_routes.specs.Entries.{cell_at, cell_in};
+ghost use Rattle.flight_routes.specs.Firsts.{IsFirst, IsFirstAt, IsFirstTime, IsEntryAt, IsFirstTimeAt, IsKeptMove, IsKeptStart, IsNext, IsNextBy, earlier, key_of};
+ghost use Rattle.flight_routes.specs.RateLists.{paid_in, rates_of};
 ghost use Rattle.flight_routes.specs.Rates.{IsValueWithin, IsWay, whole_cost};
 ghost use Rattle.flight_routes.specs.Ready.{AreRates, AreWindows, IsReady, row_of};
 ghost use Rattle.flight_routes.specs.TripOrder.{IsNoLater};
 ghost use Rattle.flight_routes.specs.Ways.{AreCells, IsLimit};
 
 use crate::accesses::{limit_of, window_at};
-use crate::rates::RateTable;
-use crate::relax::cell_at;
+use crate::cost::Cost;
+use crate::rates::{RateTable, part_of};
+use crate::relax::{cell_at, entry_at};
 use crate::starts::start_of;
 use flow_types::{Flight, Leg, Stop};
 use time_windows::{Access, Window};
@@ -43,42 +44,33 @@ fn earlier(a: Option<Stop>, b: Option<Stop>) -> Option<Stop>
     }
 }
 
-// Whether two costs are the same.
-fn is_same(a: Option<i128>, b: Option<i128>) -> bool
-    ensures { (result ≡ true) ↔ (a ≡ b) }
+// The first of the periods in which an entry costs so much, with a way on from there.
+fn first_cost(paid: &[i128], cells: &[Cost], first: u16, last: u16, wanted: Cost) -> Option<u16>
+    requires paid { length paid.now ≡ most_periods }
+    requires cells { length cells.now ≡ most_periods }
+    requires last { last < most_periods }
+    requires small { (t : ℕ) → IsValueWithin (2 ^ 100) (paid_in paid.now t) }
+    requires costs { (u : ℕ) → first ≤ u → u ≤ last
+        → IfSome (cell_in cells.now u) (IsValueWithin (2 ^ 111)) }
+    ensures { IsFirstTime (IsEntryAt (paid_in paid.now) (cell_in cells.now) first last wanted)
+        result }
 {
-    match (a, b) {
-        (None, None) => true,
-        (Some(a), Some(b)) => a == b,
-        _ => false,
+    for time in first..last + 1 {
+        if entry_at(paid, cells, time).is_same(wanted) {
+            return Some(time);
+        }
     }
-}
-
-// What a move costs, with a way on from there.
-fn moved(rates: &RateTable, cells: &[Option<i128>], leg: Leg, from: u16, time: u16) -> Option<i128>
-    requires cells { length cells.now ≡ most_nodes * most_periods }
-    requires node { leg.from < most_nodes }
-    requires to { leg.to < most_nodes }
-    requires from { from < most_periods }
-    requires time { time < most_periods }
-    requires cell { IfSome (cell_at cells.now leg.to time) (IsValueWithin (2 ^ 111)) }
-    requires enters { IsValueWithin (2 ^ 100) ((rates_of rates.now).paid leg.from time) }
-    requires leaves { IsValueWithin (2 ^ 100) ((rates_of rates.now).paid leg.from from) }
-    ensures { result ≡ raised (neg_ℤ ((rates_of rates.now).paid leg.from from))
-        (raised ((rates_of rates.now).paid leg.from time) (cell_at cells.now leg.to time)) }
-{
-    let cost = rates.with_paid(leg.from, time, cell_at(cells, leg.to, time));
-    rates.without_paid(leg.from, from, cost)
+    None
 }
 
 // The first period in which entering the next node keeps the cost.
 fn first_entry(
     rates: &RateTable,
-    cells: &[Option<i128>],
+    cells: &[Cost],
     leg: Leg,
     next: Window,
     from: u16,
-    value: Option<i128>,
+    value: Cost,
 ) -> Option<u16>
     requires cells { length cells.now ≡ most_nodes * most_periods }
     requires node { leg.from < most_nodes }
@@ -89,29 +81,28 @@ fn first_entry(
     requires paid { (n t : ℕ) → IsValueWithin (2 ^ 100) ((rates_of rates.now).paid n t) }
     requires costs { (u : ℕ) → next.lo ≤ u → u ≤ next.hi
         → IfSome (cell_at cells.now leg.to u) (IsValueWithin (2 ^ 111)) }
-    requires value { IsSome value }
+    requires some { IsSome value }
+    requires value { IfSome value (IsValueWithin (2 ^ 111)) }
     ensures { IsFirstTime (IsKeptMove (rates_of rates.now) (cell_at cells.now leg.to) next leg.from
         leg.least from value) result }
 {
+    let first = next.lo.max(from + leg.least);
     let last = next.hi.min(rates.clear_at(leg.from, from));
-    for time in next.lo.max(from + leg.least)..last + 1 {
-        if is_same(moved(rates, cells, leg, from, time), value) {
-            return Some(time);
-        }
-    }
-    None
+    let wanted = rates.with_paid(leg.from, from, value);
+    let paid = rates.paid_part(leg.from);
+    first_cost(paid, part_of(cells, leg.to), first, last, wanted)
 }
 
 // The first stop to go on to by the leg, if that keeps the cost.
 fn first_by(
     rates: &RateTable,
     accesses: &[Access],
-    cells: &[Option<i128>],
+    cells: &[Cost],
     nodes: u16,
     stop: Stop,
     limit: u16,
     leg: Leg,
-    value: Option<i128>,
+    value: Cost,
 ) -> Option<Stop>
     requires accesses { length accesses.now ≡ most_nodes }
     requires cells { length cells.now ≡ most_nodes * most_periods }
@@ -123,7 +114,8 @@ fn first_by(
     requires windows { AreWindows rates.now.periods (row_of accesses.now) }
     requires costs { (n u : ℕ) → n < nodes → IsInWindow (row_of accesses.now n).window u
         → IfSome (cell_at cells.now n u) (IsValueWithin (2 ^ 111)) }
-    requires value { IsSome value }
+    requires some { IsSome value }
+    requires value { IfSome value (IsValueWithin (2 ^ 111)) }
     ensures { IsFirst (IsNextBy leg (row_of accesses.now) (rates_of rates.now) cells.now stop value)
         result }
 {
@@ -147,7 +139,7 @@ fn next_stop(
     flight: &Flight,
     accesses: &[Access],
     rates: &RateTable,
-    cells: &[Option<i128>],
+    cells: &[Cost],
     stop: Stop,
 ) -> Stop
     requires accesses { length accesses.now ≡ most_nodes }
@@ -183,9 +175,9 @@ fn first_start(
     flight: &Flight,
     accesses: &[Access],
     rates: &RateTable,
-    cells: &[Option<i128>],
+    cells: &[Cost],
     window: Window,
-    least: Option<i128>,
+    least: Cost,
 ) -> Option<u16>
     requires accesses { length accesses.now ≡ most_nodes }
     requires ready { IsReady flight.now (row_of accesses.now) rates.now.periods
@@ -198,7 +190,7 @@ fn first_start(
         result }
 {
     for time in window.lo..window.hi + 1 {
-        if is_same(start_of(rates, cells, time), least) {
+        if start_of(rates, cells, time).is_same(least) {
             return Some(time);
         }
     }
@@ -210,8 +202,8 @@ fn start_stop(
     flight: &Flight,
     accesses: &[Access],
     rates: &RateTable,
-    cells: &[Option<i128>],
-    least: Option<i128>,
+    cells: &[Cost],
+    least: Cost,
 ) -> Stop
     requires accesses { length accesses.now ≡ most_nodes }
     requires ready { IsReady flight.now (row_of accesses.now) rates.now.periods
@@ -240,8 +232,8 @@ pub fn trace(
     flight: &Flight,
     accesses: &[Access],
     rates: &RateTable,
-    cells: &[Option<i128>],
-    least: Option<i128>,
+    cells: &[Cost],
+    least: Cost,
     stops: &mut Vec<Stop>,
 )
     requires accesses { length accesses.now ≡ most_nodes }

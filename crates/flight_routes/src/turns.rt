@@ -1,21 +1,14 @@
 //! The connections of each flight.
-ghost use Rattle.std.specs.Prelude.{◌≡◌, ◌++◌, ◌^◌, ◌<◌, [], IfOk, OnOk, get_or, length};
+ghost use Rattle.std.specs.Prelude.{◌≡◌, ◌++◌, ◌^◌, ◌<◌, ℕ, [], All, IfOk, OnOk, get_or, length, slice_index};
 ghost use Rattle.flow_types.specs.Scenario.{parts_of};
-ghost use Rattle.flight_routes.specs.Turns.{AreTurnsAt, AreTurnsOf, flight_at, other_at, turns_in};
+ghost use Rattle.flight_routes.specs.Ends.{flight_at};
+ghost use Rattle.flight_routes.specs.Turns.{AreLinks, AreTurnsAt, AreTurnsOf, turns_in, turns_of};
 
+use crate::ends::{End, flight_at, other_at};
 use flow_types::{Connection, OutOfMemory, Scenario};
 use std::alloc::Global;
 use std::marker::Model;
 use time_windows::Groups;
-
-/// An end of a connection.
-#[derive(Clone, Copy, Debug, PartialEq, Eq)]
-pub enum End {
-    /// The flight that brings the aircraft.
-    First,
-    /// The flight that leaves with it.
-    Second,
-}
 
 /// A connection as one of its flights sees it.
 #[derive(Clone, Copy, Debug, PartialEq, Eq)]
@@ -30,8 +23,8 @@ pub struct Turn {
 /// The connections of all flights, by flight: 24 bytes a connection, and 16 a flight.
 #[derive(Debug, Drop)]
 pub struct Turns {
-    waits: Groups<Turn>,
-    waited: Groups<Turn>,
+    departures: Groups<Turn>,
+    arrivals: Groups<Turn>,
 }
 
 impl Model for Turns {
@@ -39,52 +32,29 @@ impl Model for Turns {
 
     ghost Value = { TurnLists };
 
-    ghost view = { λ a. record { waits = a.waits; waited = a.waited } };
+    ghost view = { λ a. record { departures = a.departures; arrivals = a.arrivals } };
 }
 
 impl Turns {
-    /// The connections of the scenario's flights. It looks at each connection once a flight.
+    /// The connections of the scenario's flights. While it runs it takes 8 bytes more a connection
+    /// and a flight.
     pub fn new(alloc: Global, s: &Scenario) -> Result<Turns, OutOfMemory>
         ensures { IfOk result (AreTurnsOf (parts_of s.now)) }
     {
         Ok(Turns {
-            waits: turns_at(alloc, s, End::Second)?,
-            waited: turns_at(alloc, s, End::First)?,
+            departures: turns_at(alloc, s, End::Departure)?,
+            arrivals: turns_at(alloc, s, End::Arrival)?,
         })
     }
 
-    /// Those in which the flight waits for another one.
-    pub fn waits(&self, flight: u32) -> &[Turn]
-        ensures { result.now ≡ get_or self.now.waits.closed flight [] }
+    /// Those that the flight has at this end of its trip.
+    pub fn of_flight(&self, flight: u32, end: End) -> &[Turn]
+        ensures { result.now ≡ get_or (turns_of end self.now).closed flight [] }
     {
-        self.waits.group(flight as usize)
-    }
-
-    /// Those in which another one waits for the flight.
-    pub fn waited(&self, flight: u32) -> &[Turn]
-        ensures { result.now ≡ get_or self.now.waited.closed flight [] }
-    {
-        self.waited.group(flight as usize)
-    }
-}
-
-// The flight at one end of a connection.
-fn flight_at(end: End, connection: Connection) -> u32
-    ensures { result ≡ flight_at end connection }
-{
-    match end {
-        End::First => connection.first,
-        End::Second => connection.second,
-    }
-}
-
-// The flight at the other end.
-fn other_at(end: End, connection: Connection) -> u32
-    ensures { result ≡ other_at end connection }
-{
-    match end {
-        End::First => connection.second,
-        End::Second => connection.first,
+        match end {
+            End::Departure => self.departures.group(flight as usize),
+            End::Arrival => self.arrivals.group(flight as usize),
+        }
     }
 }
 
@@ -93,35 +63,81 @@ fn turns_at(alloc: Global, s: &Scenario, end: End) -> Result<Groups<Turn>, OutOf
     ensures { IfOk result (AreTurnsAt end (parts_of s.now)) }
 {
     let connections = s.connections();
+    let none = connections.len() as u32;
+    let mut firsts = vec![in alloc; none; s.flights().len()]?;
+    let mut nexts = vec![in alloc; none; connections.len()]?;
+    link(connections, end, &mut firsts, &mut nexts);
+    turns_by(alloc, connections, end, &firsts, &nexts)
+}
+
+// Sets for each flight its first connection, and for each connection the next one of its flight,
+// where there is one.
+fn link(connections: &[Connection], end: End, firsts: &mut [u32], nexts: &mut [u32])
+    requires few { length connections.now < 2 ^ 32 }
+    requires flights { All (λ connection. flight_at end connection < length firsts.old)
+        connections.now }
+    requires firsts { (number : ℕ) → number < length firsts.old
+        → slice_index firsts.old number ≡ length connections.now }
+    requires nexts { length nexts.old ≡ length connections.now }
+    ensures links { AreLinks end connections.now 0 firsts.new nexts.new }
+    ensures firsts { length firsts.new ≡ length firsts.old }
+    ensures nexts { length nexts.new ≡ length nexts.old }
+{
+    for k in (0..connections.len()).rev() {
+        let flight = flight_at(end, connections[k]) as usize;
+        nexts[k] = firsts[flight];
+        firsts[flight] = k as u32;
+    }
+}
+
+// The connections of each flight, one after the other.
+fn turns_by(
+    alloc: Global,
+    connections: &[Connection],
+    end: End,
+    firsts: &[u32],
+    nexts: &[u32],
+) -> Result<Groups<Turn>, OutOfMemory>
+    requires few { length connections.now < 2 ^ 32 }
+    requires nexts { length nexts.now ≡ length connections.now }
+    requires links { AreLinks end connections.now 0 firsts.now nexts.now }
+    ensures { IfOk result (λ turns. (number : ℕ) → number < length firsts.now
+        → get_or turns.closed number [] ≡ turns_in end number 0 connections.now) }
+{
     let mut groups = Groups::new(alloc);
-    for flight in 0..s.flights().len() {
-        add_turns(&mut groups, connections, end, flight)?;
+    for flight in 0..firsts.len() {
+        add_turns(&mut groups, connections, end, flight, firsts, nexts)?;
         groups.close()?;
     }
     Ok(groups)
 }
 
-// Adds those with the flight at this end.
+// Adds the connections of a flight, from its first one on.
 fn add_turns(
     groups: &mut Groups<Turn>,
     connections: &[Connection],
     end: End,
     flight: usize,
+    firsts: &[u32],
+    nexts: &[u32],
 ) -> Result<(), OutOfMemory>
-    requires { length connections.now < 2 ^ 32 }
+    requires few { length connections.now < 2 ^ 32 }
+    requires nexts { length nexts.now ≡ length connections.now }
+    requires links { AreLinks end connections.now 0 firsts.now nexts.now }
+    requires flight { flight < length firsts.now }
     ensures closed { groups.new.closed ≡ groups.old.closed }
     ensures added { OnOk result
         (groups.new.pending ≡ groups.old.pending ++ turns_in end flight 0 connections.now) }
 {
-    for k in 0..connections.len() {
-        let connection = connections[k];
-        if flight_at(end, connection) as usize == flight {
-            groups.add(Turn {
-                connection: k as u32,
-                other: other_at(end, connection),
-                turnaround: connection.turnaround,
-            })?;
-        }
+    let mut at = firsts[flight];
+    while (at as usize) < connections.len() {
+        let connection = connections[at as usize];
+        groups.add(Turn {
+            connection: at,
+            other: other_at(end, connection),
+            turnaround: connection.turnaround,
+        })?;
+        at = nexts[at as usize];
     }
     Ok(())
 }

@@ -6,9 +6,12 @@ ghost use Rattle.time_windows.specs.Boxes.{IsProper};
 ghost use Rattle.time_windows.specs.Held.{box_of};
 ghost use Rattle.flight_routes.specs.RateLists.{rates_of};
 ghost use Rattle.flight_routes.specs.Rates.{IsWay, whole_cost};
-ghost use Rattle.flight_routes.specs.Ready.{IsReady, row_of};
+ghost use Rattle.flight_routes.specs.Ready.{AreRising, IsReady, row_of};
 ghost use Rattle.flight_routes.specs.TripOrder.{IsNoLater};
 
+use crate::cost::Cost;
+use crate::distances::distances_of;
+use crate::early::{about_first_end, early_way};
 use crate::fit_rates::set_fit_rates;
 use crate::price_rates::set_price_rates;
 use crate::prices::Prices;
@@ -21,7 +24,7 @@ use std::alloc::Global;
 use std::marker::Model;
 use time_windows::{Access, Boxes};
 
-/// The room in which least trips are found, made once for a scenario: 1.2 MB and a few bytes a
+/// The room in which least trips are found, made once for a scenario: 0.9 MB and a few bytes a
 /// flight and connection. Contracts see it as the stops of the last least trip.
 #[derive(Debug, Drop)]
 pub struct Work {
@@ -31,8 +34,9 @@ pub struct Work {
     priced: RateTable,
     fitting: RateTable,
     table: Table,
-    // What the box says of each node of the flight.
+    // What the box says of each node of the flight, and the same with windows that are cut.
     accesses: Vec<Access>,
+    cut: Vec<Access>,
     // What connections cost from each period on.
     sums: Vec<u128>,
     stops: Vec<Stop>,
@@ -54,7 +58,8 @@ impl Model for Work {
 
     ghost invariant = { λ a. (a.priced.periods ≡ a.periods) × (a.fitting.periods ≡ a.periods)
         × IsPriceTable a.priced × IsFitTable a.fitting
-        × (vec_len a.accesses ≡ most_nodes) × (vec_len a.sums ≡ most_periods)
+        × (vec_len a.accesses ≡ most_nodes) × (vec_len a.cut ≡ most_nodes)
+        × (vec_len a.sums ≡ most_periods)
         × (most_nodes ≤ vec_capacity a.stops) };
 }
 
@@ -85,6 +90,7 @@ impl Work {
             fitting: RateTable::new(alloc, periods)?,
             table: Table::new(alloc)?,
             accesses: no_accesses(alloc)?,
+            cut: no_accesses(alloc)?,
             sums: no_sums(alloc)?,
             stops: Vec::with_capacity(alloc, MOST_NODES)?,
         })
@@ -132,9 +138,11 @@ impl Work {
             &mut self.table,
             &s.flights()[flight as usize],
             &self.accesses,
+            &mut self.cut,
             &self.priced,
             &mut self.stops,
         )
+        .get()
     }
 
     /// The least cost of the trips of the flight in the box that fit beside the trips that the
@@ -175,9 +183,11 @@ impl Work {
             &mut self.table,
             &s.flights()[flight as usize],
             &self.accesses,
+            &mut self.cut,
             &self.fitting,
             &mut self.stops,
         )
+        .get()
     }
 
     /// The stops of the first, in the order of trips, of those that reached the least that was
@@ -219,14 +229,15 @@ fn take_row(accesses: &mut [Access], boxes: &Boxes, flight: u32)
     }
 }
 
-// The least way of the flight, and the first of those that reach it: no stops where there is none.
-fn least_way(
+// The least of all ways of the flight, and the first of those that reach it: no stops where there
+// is none.
+fn whole_way(
     table: &mut Table,
     flight: &Flight,
     accesses: &[Access],
     rates: &RateTable,
     stops: &mut Vec<Stop>,
-) -> Option<i128>
+) -> Cost
     requires accesses { length accesses.now ≡ most_nodes }
     requires ready { IsReady flight.now (row_of accesses.now) rates.now.periods
         (rates_of rates.now) }
@@ -239,9 +250,51 @@ fn least_way(
     ensures room { most_nodes ≤ vec_capacity stops.new }
 {
     let least = table.least_way(flight, accesses, rates);
-    match least {
-        None => stops.clear(),
-        Some(_) => table.trace(flight, accesses, rates, least, stops),
+    if least.is_some() {
+        table.trace(flight, accesses, rates, least, stops);
+    } else {
+        stops.clear();
     }
     least
+}
+
+// The same. It looks among the ways that end early first: while a later one may cost as little,
+// among those that have twice as many periods.
+fn least_way(
+    table: &mut Table,
+    flight: &Flight,
+    accesses: &[Access],
+    cut: &mut [Access],
+    rates: &RateTable,
+    stops: &mut Vec<Stop>,
+) -> Cost
+    requires accesses { length accesses.now ≡ most_nodes }
+    requires cut { length cut.old ≡ most_nodes }
+    requires ready { IsReady flight.now (row_of accesses.now) rates.now.periods
+        (rates_of rates.now) }
+    requires rising { AreRising flight.now rates.now.periods (rates_of rates.now) }
+    requires room { most_nodes ≤ vec_capacity stops.old }
+    ensures least { IsLeast (IsWay flight.now (row_of accesses.now) (rates_of rates.now))
+        (whole_cost (rates_of rates.now)) result }
+    ensures first { MatchOption result (stops.new.items ≡ []) (λ least.
+        IsFirstLeast (IsWay flight.now (row_of accesses.now) (rates_of rates.now))
+        (whole_cost (rates_of rates.now)) IsNoLater stops.new.items) }
+    ensures room { most_nodes ≤ vec_capacity stops.new }
+    ensures length { length cut.new ≡ most_nodes }
+{
+    let last = (flight.nodes.items().len() - 1) as u16;
+    let distances = distances_of(flight);
+    let first = about_first_end(accesses, rates, last);
+    let mut width = 32u32;
+    while first + width < u32::from(rates.periods()) {
+        let cap = (first + width) as u16;
+        let early = early_way(
+            table, flight, accesses, cut, rates, &distances, last, cap, stops,
+        );
+        if early.is_some() {
+            return early;
+        }
+        width *= 2;
+    }
+    whole_way(table, flight, accesses, rates, stops)
 }

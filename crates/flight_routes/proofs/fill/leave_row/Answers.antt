@@ -1,65 +1,45 @@
-use Rattle.std.proofs.Common.{◌≡◌, ◌+◌, ◌<◌, ℕ, List, None, length, slice_index_or, sym, subst, arith}
-use Rattle.std.proofs.lemmas.List.{get_or_default}
-use Rattle.exact_sums.specs.Leasts.{IsLeast}
-use Rattle.flow_types.specs.Routes.{IsLeg}
+use Rattle.std.proofs.Common.{◌∙◌, ◌^◌, ℤ, None, pos, neg_ℤ, ap, slice_index_or, sym, subst, arith}
+use Rattle.std.proofs.lemmas.Int.{ints}
+use Rattle.exact_sums.specs.Leasts.{raised}
 use Rattle.flight_routes.specs.RateLists.{rates_of}
-use Rattle.flight_routes.specs.Rates.{way_cost}
+use Rattle.flight_routes.specs.Rates.{IsValueWithin}
 use Rattle.flight_routes.specs.Ready.{row_of}
-use Rattle.flight_routes.specs.Ways.{IsWayAmong, stop_at}
-use Rattle.flight_routes.proofs.MoveFacts.{window_last}
-use Rattle.flight_routes.proofs.WayFacts.{among_is, among_next, among_none, cells_within, leg_at}
+use Rattle.flight_routes.specs.Ways.{IsCell}
+use Rattle.flight_routes.proofs.MoveFacts.{part_all, part_at, window_last}
+use Rattle.flight_routes.proofs.WayFacts.{entered_is, entered_within}
 use Rattle.flight_routes.proofs.fill.leave_row.Goals as goal
 
-pub clear_row-requires-clause-end : goal.clear_row-requires-clause-end
-clear_row-requires-clause-end c =
+pub lower_row-requires-clause-end : goal.lower_row-requires-clause-end
+lower_row-requires-clause-end c =
     let last = window_last c.args.rates.now.periods (row_of c.args.accesses.now) c.args.node
     c.args.window c.requires.ready.windows c.requires.window in
     omega (arith, last.1, c.requires.ready.day.few)
 
-pub relax_leg-requires-clause-leg : goal.relax_leg-requires-clause-leg
-relax_leg-requires-clause-leg c =
-    subst (λ (nodes : List ℕ). IsLeg (length nodes)
-    (slice_index_or c.args.legs.now c.loop-at.at (record { from = 0; to = 0; least = 0 })))
-    (sym c.items.ensures)
-    (leg_at c.args.flight.now c.requires.ready.network c.args.legs.now c.args.node
-    c.requires.legs c.loop-at.at _ c.loop-at-test.true)
+pub lower_row-requires-clause-small : goal.lower_row-requires-clause-small
+lower_row-requires-clause-small c =
+    part_all (IsValueWithin (2 ^ 100)) c.paid_part.result.now (pos 0) c.paid_part.ensures.length
+    (record { low = omega (arith, ints); high = omega (arith, ints) })
+    (λ t in_day. subst (IsValueWithin (2 ^ 100))
+    (sym (part_at c.args.rates.now.paid c.args.node (pos 0) c.paid_part.result.now
+    c.paid_part.ensures.part t in_day))
+    (c.requires.ready.day.small.paid c.args.node t))
 
-pub relax_leg-requires-clause-costs : goal.relax_leg-requires-clause-costs
-relax_leg-requires-clause-costs c = λ n u after inside within.
-    cells_within c.args.flight.now (row_of c.args.accesses.now) (rates_of c.args.rates.now)
-    c.requires.ready.network c.requires.ready.day.small (c.args.node + 1) c.args.cells.now
-    c.requires.cells n u (omega arith)
-    (subst (λ (nodes : List ℕ). n < length nodes) c.items.ensures inside) within
-
-pub loop-at-init : goal.loop-at-init
-loop-at-init c = λ t from to.
-    subst (IsLeast (IsWayAmong c.args.flight.now c.args.legs.now 0 (row_of c.args.accesses.now)
-    (rates_of c.args.rates.now) (stop_at c.args.node t))
-    (way_cost (rates_of c.args.rates.now) (stop_at c.args.node t)))
-    (sym (c.clear_row.ensures t from to))
-    (among_none c.args.flight.now (row_of c.args.accesses.now) (rates_of c.args.rates.now)
-    c.requires.ready.network c.args.legs.now c.args.node t)
-
-pub loop-at-preserved : goal.loop-at-preserved
-loop-at-preserved c = λ t from to.
-    let leg = slice_index_or c.args.legs.now c.loop-at.at
-    (record { from = 0; to = 0; least = 0 }) in
-    among_next c.args.flight.now (row_of c.args.accesses.now) (rates_of c.args.rates.now)
-    c.requires.ready.network c.args.legs.now c.args.node t c.args.cells.now c.requires.cells leg
-    (leg_at c.args.flight.now c.requires.ready.network c.args.legs.now c.args.node
-    c.requires.legs c.loop-at.at _ c.loop-at-test.true)
-    c.loop-at.at c.loop-at-test.true (get_or_default c.args.legs.now c.loop-at.at _ _
-    c.loop-at-test.true)
-    (slice_index_or c.loop-at.row t None) (slice_index_or c.relax_leg.new.row t None)
-    (c.loop-at.invariant t from to) (c.relax_leg.ensures t from to)
+pub lower_row-requires-clause-costs : goal.lower_row-requires-clause-costs
+lower_row-requires-clause-costs c = λ t from to.
+    entered_within c.args.flight.now (row_of c.args.accesses.now) (rates_of c.args.rates.now)
+    c.requires.ready.network c.requires.ready.day.small c.args.node t
+    (slice_index_or c.enter_row.new.row t None) (c.enter_row.ensures t from to)
 
 pub returns : goal.returns
 returns c = λ t from to.
-    let same : c.loop-at.at ≡ length c.args.legs.now = omega arith in
-    among_is c.args.flight.now (row_of c.args.accesses.now) (rates_of c.args.rates.now)
-    c.requires.ready.network c.args.legs.now c.args.node t c.requires.legs c.requires.node
-    (slice_index_or c.loop-at.row t None)
-    (subst (λ (k : ℕ). IsLeast (IsWayAmong c.args.flight.now c.args.legs.now k
-    (row_of c.args.accesses.now) (rates_of c.args.rates.now) (stop_at c.args.node t))
-    (way_cost (rates_of c.args.rates.now) (stop_at c.args.node t))
-    (slice_index_or c.loop-at.row t None)) same (c.loop-at.invariant t from to))
+    let last = window_last c.args.rates.now.periods (row_of c.args.accesses.now) c.args.node
+    c.args.window c.requires.ready.windows c.requires.window in
+    let paid = part_at c.args.rates.now.paid c.args.node (pos 0) c.paid_part.result.now
+    c.paid_part.ensures.part t (omega (arith, to, last.1, c.requires.ready.day.few)) in
+    subst (IsCell c.args.flight.now (row_of c.args.accesses.now) (rates_of c.args.rates.now)
+    c.args.node t)
+    (ap (λ (p : ℤ). raised (neg_ℤ p) (slice_index_or c.enter_row.new.row t None)) (sym paid)
+    ∙ sym (c.lower_row.ensures t from to))
+    (entered_is c.args.flight.now (row_of c.args.accesses.now) (rates_of c.args.rates.now)
+    c.requires.ready.network c.args.node t (slice_index_or c.enter_row.new.row t None)
+    (c.enter_row.ensures t from to))

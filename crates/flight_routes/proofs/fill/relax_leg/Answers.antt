@@ -1,13 +1,19 @@
-use Rattle.std.proofs.Common.{◌∙◌, None, arith, slice_index_or, sym}
-use Rattle.flight_routes.specs.RateLists.{rates_of}
+use Rattle.std.proofs.Common.{◌∙◌, ◌^◌, ℤ, Option, IfSome, None, pos, arith, slice_index_or, subst, sym}
+use Rattle.std.proofs.lemmas.Int.{ints}
+use Rattle.flow_types.specs.Limits.{most_periods}
+use Rattle.time_windows.specs.Boxes.{IsInWindow}
+use Rattle.flight_routes.specs.Entries.{cell_in}
+use Rattle.flight_routes.specs.RateLists.{clear_in, paid_in, rates_of}
+use Rattle.flight_routes.specs.Rates.{IsValueWithin}
 use Rattle.flight_routes.specs.Ready.{row_of}
-use Rattle.flight_routes.proofs.MoveFacts.{offers_by, window_last}
+use Rattle.flight_routes.proofs.MoveFacts.{offers_by, part_all, part_at, part_clear, window_last}
 use Rattle.flight_routes.proofs.fill.relax_leg.Goals as goal
 
 pub relax-requires-clause-last : goal.relax-requires-clause-last
 relax-requires-clause-last c =
-    (window_last c.args.rates.now.periods (row_of c.args.accesses.now) c.args.leg.to c.in-Some.next
-    c.requires.windows (sym c.window_at.ensures ∙ c.in-Some.is)).1
+    let last = window_last c.args.rates.now.periods (row_of c.args.accesses.now) c.args.leg.to
+    c.in-Some.next c.requires.windows (sym c.window_at.ensures ∙ c.in-Some.is) in
+    omega (arith, last.1, c.requires.day.few)
 
 pub relax-requires-clause-end : goal.relax-requires-clause-end
 relax-requires-clause-end c =
@@ -15,10 +21,55 @@ relax-requires-clause-end c =
     c.args.window c.requires.windows c.requires.window in
     omega (arith, last.1, c.requires.day.few)
 
+pub relax-requires-clause-kept : goal.relax-requires-clause-kept
+relax-requires-clause-kept c =
+    let last = window_last c.args.rates.now.periods (row_of c.args.accesses.now) c.args.leg.to
+    c.in-Some.next c.requires.windows (sym c.window_at.ensures ∙ c.in-Some.is) in
+    part_clear c.args.rates.now.periods (rates_of c.args.rates.now) c.args.node c.in-Some.next.hi
+    (clear_in c.clear_part.result.now) c.requires.day.clear last.1 c.requires.day.few
+    (part_at c.args.rates.now.clear c.args.node most_periods c.clear_part.result.now
+    c.clear_part.ensures.part)
+
+pub relax-requires-clause-small : goal.relax-requires-clause-small
+relax-requires-clause-small c =
+    part_all (IsValueWithin (2 ^ 100)) c.paid_part.result.now (pos 0) c.paid_part.ensures.length
+    (record { low = omega (arith, ints); high = omega (arith, ints) })
+    (λ t in_day. subst (IsValueWithin (2 ^ 100))
+    (sym (part_at c.args.rates.now.paid c.args.node (pos 0) c.paid_part.result.now
+    c.paid_part.ensures.part t in_day))
+    (c.requires.day.small.paid c.args.node t))
+
+pub relax-requires-clause-costs : goal.relax-requires-clause-costs
+relax-requires-clause-costs c = λ u from to.
+    let next = c.in-Some.next in
+    let is = sym c.window_at.ensures ∙ c.in-Some.is in
+    let last = window_last c.args.rates.now.periods (row_of c.args.accesses.now) c.args.leg.to
+    next c.requires.windows is in
+    subst (λ (o : Option ℤ). IfSome o (IsValueWithin (2 ^ 111)))
+    (sym (part_at c.args.cells.now c.args.leg.to None c.part_of.result.now c.part_of.ensures.part u
+    (omega (arith, to, last.1, c.requires.day.few))))
+    (c.requires.costs c.args.leg.to u
+    (omega (arith, c.requires.leg.upward, c.if-leg-node.true)) c.requires.leg.within
+    (subst (λ w. IsInWindow w u) (sym is) (from, to)))
+
 pub returns-in-Some : goal.returns-in-Some
 returns-in-Some c = λ t from to.
+    let next = c.in-Some.next in
+    let is = sym c.window_at.ensures ∙ c.in-Some.is in
+    let last = window_last c.args.rates.now.periods (row_of c.args.accesses.now) c.args.leg.to
+    next c.requires.windows is in
+    let end = window_last c.args.rates.now.periods (row_of c.args.accesses.now) c.args.node
+    c.args.window c.requires.windows c.requires.window in
     offers_by (row_of c.args.accesses.now) (rates_of c.args.rates.now) c.args.cells.now c.args.leg
-    c.args.node t c.in-Some.next (sym c.window_at.ensures ∙ c.in-Some.is) c.if-leg-node.true
+    c.args.node t (clear_in c.clear_part.result.now) (paid_in c.paid_part.result.now)
+    (cell_in c.part_of.result.now)
+    (part_at c.args.rates.now.clear c.args.node most_periods c.clear_part.result.now
+    c.clear_part.ensures.part)
+    (part_at c.args.rates.now.paid c.args.node (pos 0) c.paid_part.result.now
+    c.paid_part.ensures.part)
+    (part_at c.args.cells.now c.args.leg.to None c.part_of.result.now c.part_of.ensures.part)
+    (omega (arith, to, end.1, c.requires.day.few)) next is
+    (omega (arith, last.1, c.requires.day.few)) c.if-leg-node.true
     (c.requires.limit.free c.args.leg.to c.if-leg-limit.true)
     (slice_index_or c.args.row.now t None) (slice_index_or c.relax.new.row t None)
     (c.relax.ensures t from to)

@@ -12,7 +12,8 @@ loop-node-preserved c =
     let parts = parts_of c.args.s.now in
     let same = c.loop-node.invariant.4 ∙ c.requires.periods in (
       λ n t above below in_day.
-          full_by parts c.args.loads.now (place_at c.args.flight.now) c.loop-node.node c.loop-node.table
+          full_by parts c.args.loads.now (place_at c.args.flight.now) c.loop-node.node
+          c.loop-node.table
           c.set_full.new.table c.args.s.now.valid.day.periods_to c.set_full.ensures.only
           (λ u day. subst (λ place. IsFirstFull parts c.args.loads.now place u
           ((rates_of c.set_full.new.table).clear c.loop-node.node u)) c.place_at.ensures

@@ -3,10 +3,10 @@ use Rattle.std.proofs.lemmas.Option.{get_or_from_slice_get}
 use Rattle.flow_types.specs.declared.flight.Flight.{Flight}
 use Rattle.flow_types.specs.Scenario.{flight_at, parts_of}
 use Rattle.flow_types.specs.Trips.{place_at}
-use Rattle.flight_routes.specs.declared.turns.End.TheVariants.{First, Second}
+use Rattle.flight_routes.specs.declared.ends.End.TheVariants.{Arrival, Departure}
 use Rattle.flight_routes.specs.declared.turns.Turn.{Turn}
 use Rattle.flight_routes.specs.FitRates.{IsGiven}
-use Rattle.flight_routes.specs.FitTimes.{IsFirstFull, IsFreeToArrive, IsFreeToLeave}
+use Rattle.flight_routes.specs.FitTimes.{IsFirstFull, IsFreeAt}
 use Rattle.flight_routes.specs.RateLists.{rates_of}
 use Rattle.flight_routes.specs.Ready.{row_of}
 use Rattle.flight_routes.specs.TimeCosts.{credit_then, total_then}
@@ -18,16 +18,16 @@ use Rattle.flight_routes.proofs.fit_rates.set_fit_rates.Goals as goal
 pub first_leave-first-requires : goal.first_leave-first-requires
 first_leave-first-requires c =
     subst (All (λ (turn : Turn). turn.other < length c.args.loads.now.arrives))
-    (sym (c.waits.ensures ∙ c.requires.turns.waits c.args.flight c.requires.flight))
-    (others_there Second c.args.flight (length c.args.loads.now.arrives)
+    (sym (c.of_flight.ensures ∙ c.requires.turns.departures c.args.flight c.requires.flight))
+    (others_there Departure c.args.flight (length c.args.loads.now.arrives)
     (parts_of c.args.s.now).flights (parts_of c.args.s.now).connections c.requires.loads.arrives
     c.args.s.now.valid.connections)
 
 pub arrive_limit-limit-requires : goal.arrive_limit-limit-requires
 arrive_limit-limit-requires c =
     subst (All (λ (turn : Turn). turn.other < length c.args.loads.now.leaves))
-    (sym (c.waited.ensures ∙ c.requires.turns.waited c.args.flight c.requires.flight))
-    (others_there First c.args.flight (length c.args.loads.now.leaves)
+    (sym (c.of_flight-2.ensures ∙ c.requires.turns.arrivals c.args.flight c.requires.flight))
+    (others_there Arrival c.args.flight (length c.args.loads.now.leaves)
     (parts_of c.args.s.now).flights (parts_of c.args.s.now).connections c.requires.loads.leaves
     c.args.s.now.valid.connections)
 
@@ -47,22 +47,22 @@ returns-clause-rates c = λ trips details are is.
     (c.last_of-last.ensures ∙ ap (λ (f : Flight). length f.nodes) same)
     c.requires.windows.within
     (λ time. subst (λ turns. (c.first_leave-first.result ≤ time) ↔ All (IsAfter loads time) turns)
-    (c.waits.ensures ∙ c.requires.turns.waits c.args.flight c.requires.flight)
+    (c.of_flight.ensures ∙ c.requires.turns.departures c.args.flight c.requires.flight)
     (c.first_leave-first.ensures time))
     (λ time small. subst
     (λ turns. (time < c.arrive_limit-limit.result) ↔ All (IsInTime loads time) turns)
-    (c.waited.ensures ∙ c.requires.turns.waited c.args.flight c.requires.flight)
+    (c.of_flight-2.ensures ∙ c.requires.turns.arrivals c.args.flight c.requires.flight)
     (c.arrive_limit-limit.ensures time small))
     (λ t window. subst (λ given. IsGiven given
-    (IsFreeToLeave parts loads there c.first_leave-first.result t)
+    (IsFreeAt Departure parts loads there c.first_leave-first.result t)
     (pos 0 -ℤ credit_then parts.tables there t))
-    (sym (ap (costs t) (c.set_all_full.ensures.leaves ∙ c.set_arrives_in.ensures.only.leaves)))
-    (c.set_leaves_in.ensures.leaves t window))
+    (sym (ap (costs t) (c.set_all_full.ensures.leaves ∙ c.set_end_in-2.ensures.only.leaves)))
+    (c.set_end_in.ensures.costs t window))
     (λ t window. subst (λ given. IsGiven given
-    (IsFreeToArrive parts loads there c.arrive_limit-limit.result t)
+    (IsFreeAt Arrival parts loads there c.arrive_limit-limit.result t)
     (total_then parts.tables there t))
     (sym (ap (costs t) c.set_all_full.ensures.arrives))
-    (c.set_arrives_in.ensures.arrives t window))
+    (c.set_end_in-2.ensures.costs t window))
     (λ n t above below day. subst (λ (f : Flight). IsFirstFull parts loads (place_at f n) t
     ((rates_of c.set_all_full.new.table).clear n t)) same
     (c.set_all_full.ensures.full n t above below day))

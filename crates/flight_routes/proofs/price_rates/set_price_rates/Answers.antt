@@ -22,16 +22,16 @@ returns-clause-rates c = λ details is.
     (c.last_of-last.ensures ∙ ap (λ (f : Flight). length f.nodes) same)
     c.args.s.now.valid.day.periods_to
     (λ t window.
-    ap (leaves t) (c.set_stays.ensures.only.leaves ∙ c.set_arrives_in.ensures.only.leaves)
-    ∙ c.set_leaves_in.ensures.leaves t window)
+    ap (leaves t) (c.set_stays.ensures.only.leaves ∙ c.set_end_in-2.ensures.only.leaves)
+    ∙ c.set_end_in.ensures.costs t window)
     (λ t window.
-    ap (leaves t) c.set_stays.ensures.only.arrives ∙ c.set_arrives_in.ensures.arrives t window)
+    ap (leaves t) c.set_stays.ensures.only.arrives ∙ c.set_end_in-2.ensures.costs t window)
     (λ n t above below in_day.
     c.set_stays.ensures.paid n t above below in_day
     ∙ ap (λ (f : Flight). pos (summed (price_in c.args.prices.now.inside (place_at f n)) 0 t)) same)
     (λ t in_day. c.set_stays.ensures.first t in_day
     ∙ ap (λ costs. get_or costs (place_of 0 t) (pos 0))
-    (c.set_arrives_in.ensures.only.paid ∙ c.set_leaves_in.ensures.only.paid)
+    (c.set_end_in-2.ensures.only.paid ∙ c.set_end_in.ensures.only.paid)
     ∙ c.requires.table.free t in_day)
-    (c.set_stays.ensures.only.clear ∙ c.set_arrives_in.ensures.only.clear
-    ∙ c.set_leaves_in.ensures.only.clear ∙ c.requires.table.clear)
+    (c.set_stays.ensures.only.clear ∙ c.set_end_in-2.ensures.only.clear
+    ∙ c.set_end_in.ensures.only.clear ∙ c.requires.table.clear)

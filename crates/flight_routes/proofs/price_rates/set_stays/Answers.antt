@@ -17,7 +17,8 @@ loop-node-preserved c = (
       ∙ ap (λ place. pos (summed (price_in c.args.prices.now.inside place) 0 u)) c.place_at.ensures)
       c.loop-node.invariant.0 n t above below in_day (cases_eq n c.loop-node.node),
   λ t in_day.
-      c.set_paid.ensures.only.others 0 t (λ e. absurd (omega (arith, e, c.loop-node.auto.node))) in_day
+      c.set_paid.ensures.only.others 0 t (λ e. absurd (omega (arith, e, c.loop-node.auto.node)))
+      in_day
       ∙ c.loop-node.invariant.1 t in_day,
   record {
     periods = c.set_paid.ensures.only.periods ∙ c.loop-node.invariant.2.periods;

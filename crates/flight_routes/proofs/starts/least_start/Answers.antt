@@ -31,8 +31,9 @@ start_of-requires-clause-cell c =
 
 pub loop-time-init : goal.loop-time-init
 loop-time-init c =
-    starts_none (row_of c.args.accesses.now) (rates_of c.args.rates.now) c.args.cells.now
-    c.args.window c.requires.window
+    rw c.none-least.ensures
+    (starts_none (row_of c.args.accesses.now) (rates_of c.args.rates.now) c.args.cells.now
+    c.args.window c.requires.window)
 
 pub loop-time-preserved : goal.loop-time-preserved
 loop-time-preserved c =

@@ -11,7 +11,7 @@ use Rattle.flight_routes.specs.Rates.{IsWay, whole_cost}
 use Rattle.flight_routes.specs.Ready.{row_of}
 use Rattle.flight_routes.specs.TripOrder.{IsNoLater}
 use Rattle.flight_routes.specs.Work.{Worked}
-use Rattle.flight_routes.proofs.WorkFacts.{fit_first, fit_least, fit_ready, match_first, proper_written, row_written, written}
+use Rattle.flight_routes.proofs.WorkFacts.{fit_first, fit_least, fit_ready, fit_rising, match_first, proper_written, row_written, written}
 use Rattle.flight_routes.proofs.work.Work.least_fit.Goals as goal
 
 pub least_way-requires-clause-ready : goal.least_way-requires-clause-ready
@@ -33,6 +33,11 @@ least_way-requires-clause-ready c =
     ∙ ap (λ (w : Worked). w.periods) c.self.view_is ∙ c.requires.made.periods)
     c.set_fit_rates.ensures.table
 
+pub least_way-requires-clause-rising : goal.least_way-requires-clause-rising
+least_way-requires-clause-rising c =
+    fit_rising c.index-flights-flight.result c.set_fit_rates.new.table.periods
+    c.set_fit_rates.new.table c.set_fit_rates.ensures.table
+
 pub returns-clause-least : goal.returns-clause-least
 returns-clause-least c = λ trips are.
     let parts = parts_of c.args.s.now in
@@ -48,7 +53,9 @@ returns-clause-least c = λ trips are.
       c.requires.flight,
       AreTripsOrNone-length parts.day.periods parts.flights trips are.each,
     ) in
-    fit_least parts c.args.s.now.valid (box_of c.args.boxes.now) c.requires.boxes.inside c.args.flight
+    rw c.get.ensures
+    (fit_least parts c.args.s.now.valid (box_of c.args.boxes.now) c.requires.boxes.inside
+    c.args.flight
     c.index-flights-flight.result here (row_of c.deref-2.result.now)
     (row_written c.deref-2.result.now c.take_row.new.accesses
     (box_of c.args.boxes.now c.args.flight) read c.take_row.ensures.row)
@@ -57,7 +64,7 @@ returns-clause-least c = λ trips are.
     (rates_of c.set_fit_rates.new.table))
     (c.deref.ensures.value ∙ sym c.deref-2.ensures.value)
     (c.set_fit_rates.ensures.rates trips c.index-flights-flight.result are here))
-    c.least_way.result c.least_way.ensures.least
+    c.least_way.result c.least_way.ensures.least)
 
 pub returns-clause-first : goal.returns-clause-first
 returns-clause-first c = λ trips are.
@@ -74,14 +81,16 @@ returns-clause-first c = λ trips are.
       c.requires.flight,
       AreTripsOrNone-length parts.day.periods parts.flights trips are.each,
     ) in
-    match_first
+    rw c.get.ensures
+    (match_first
     (IsWay c.index-flights-flight.result (row_of c.deref-2.result.now)
     (rates_of c.set_fit_rates.new.table))
     (IsTripThatFits parts (box_of c.args.boxes.now) trips c.args.flight)
     (whole_cost (rates_of c.set_fit_rates.new.table))
     (trip_cost_at parts.tables (flight_at c.args.s.now c.args.flight)) IsNoLater
     c.least_way.result (c.least_way.new.stops.items ≡ []) c.least_way.new.stops.items
-    (fit_first parts c.args.s.now.valid (box_of c.args.boxes.now) c.requires.boxes.inside c.args.flight
+    (fit_first parts c.args.s.now.valid (box_of c.args.boxes.now) c.requires.boxes.inside
+    c.args.flight
     c.index-flights-flight.result here (row_of c.deref-2.result.now)
     (row_written c.deref-2.result.now c.take_row.new.accesses
     (box_of c.args.boxes.now c.args.flight) read c.take_row.ensures.row)
@@ -90,4 +99,4 @@ returns-clause-first c = λ trips are.
     (rates_of c.set_fit_rates.new.table))
     (c.deref.ensures.value ∙ sym c.deref-2.ensures.value)
     (c.set_fit_rates.ensures.rates trips c.index-flights-flight.result are here)))
-    c.least_way.ensures.first
+    c.least_way.ensures.first)

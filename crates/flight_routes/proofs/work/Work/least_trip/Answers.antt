@@ -10,7 +10,7 @@ use Rattle.flight_routes.specs.Ready.{row_of}
 use Rattle.flight_routes.specs.TripOrder.{IsNoLater}
 use Rattle.flight_routes.specs.TripRates.{AreTripRates}
 use Rattle.flight_routes.specs.Work.{Worked}
-use Rattle.flight_routes.proofs.WorkFacts.{match_first, price_ready, priced_first, priced_least, proper_written, row_written, written}
+use Rattle.flight_routes.proofs.WorkFacts.{match_first, price_ready, price_rising, priced_first, priced_least, proper_written, row_written, written}
 use Rattle.flight_routes.proofs.work.Work.least_trip.Goals as goal
 
 pub least_way-requires-clause-ready : goal.least_way-requires-clause-ready
@@ -32,6 +32,19 @@ least_way-requires-clause-ready c =
     ∙ ap (λ (w : Worked). w.periods) c.self.view_is ∙ c.requires.made.periods)
     c.set_price_rates.ensures.table
 
+pub least_way-requires-clause-rising : goal.least_way-requires-clause-rising
+least_way-requires-clause-rising c =
+    let parts = parts_of c.args.s.now in
+    let here = slice_get_read parts.flights (length parts.flights) c.args.flight
+    c.index-flights-flight.result refl c.requires.flight
+    (rw c.flights.ensures at c.index-flights-flight.is) in
+    price_rising c.args.weight c.args.prices.now parts c.args.flight
+    c.index-flights-flight.result (row_of c.deref.result.now)
+    (rates_of c.set_price_rates.new.table) c.set_price_rates.new.table.periods
+    (c.set_price_rates.ensures.periods ∙ c.self.invariant.0
+    ∙ ap (λ (w : Worked). w.periods) c.self.view_is ∙ c.requires.made.periods)
+    (c.set_price_rates.ensures.rates c.index-flights-flight.result here)
+
 pub returns-clause-least : goal.returns-clause-least
 returns-clause-least c =
     let read = written c.self.inside.accesses.len c.take_row.new.accesses
@@ -40,7 +53,8 @@ returns-clause-least c =
     let here = slice_get_read (parts_of c.args.s.now).flights
     (length (parts_of c.args.s.now).flights) c.args.flight c.index-flights-flight.result refl
     c.requires.flight (rw c.flights.ensures at c.index-flights-flight.is) in
-    priced_least (parts_of c.args.s.now) c.args.s.now.valid (box_of c.args.boxes.now)
+    rw c.get.ensures
+    (priced_least (parts_of c.args.s.now) c.args.s.now.valid (box_of c.args.boxes.now)
     c.requires.boxes.inside c.args.flight c.index-flights-flight.result here
     (row_of c.deref-2.result.now)
     (row_written c.deref-2.result.now c.take_row.new.accesses
@@ -50,7 +64,7 @@ returns-clause-least c =
     c.index-flights-flight.result (row_of xs) (rates_of c.set_price_rates.new.table))
     (c.deref.ensures.value ∙ sym c.deref-2.ensures.value)
     (c.set_price_rates.ensures.rates c.index-flights-flight.result here))
-    c.least_way.result c.least_way.ensures.least
+    c.least_way.result c.least_way.ensures.least)
 
 pub returns-clause-first : goal.returns-clause-first
 returns-clause-first c =
@@ -60,7 +74,8 @@ returns-clause-first c =
     let here = slice_get_read (parts_of c.args.s.now).flights
     (length (parts_of c.args.s.now).flights) c.args.flight c.index-flights-flight.result refl
     c.requires.flight (rw c.flights.ensures at c.index-flights-flight.is) in
-    match_first
+    rw c.get.ensures
+    (match_first
     (IsWay c.index-flights-flight.result (row_of c.deref-2.result.now)
     (rates_of c.set_price_rates.new.table))
     (IsTripIn (parts_of c.args.s.now) (box_of c.args.boxes.now) c.args.flight)
@@ -77,4 +92,4 @@ returns-clause-first c =
     c.index-flights-flight.result (row_of xs) (rates_of c.set_price_rates.new.table))
     (c.deref.ensures.value ∙ sym c.deref-2.ensures.value)
     (c.set_price_rates.ensures.rates c.index-flights-flight.result here)))
-    c.least_way.ensures.first
+    c.least_way.ensures.first)

@@ -12,6 +12,7 @@ invariant_of-result c =
       blank_fit c.day-periods.result.periods c.in_ok-new-3.field-0
           (omega (arith, periods, c.args.s.now.valid.day.periods_to)) c.in_ok-new-3.ensures,
       c.in_ok-no_accesses.ensures,
+      c.in_ok-no_accesses-2.ensures,
       c.in_ok-no_sums.ensures,
       c.in_ok-with_capacity.ensures.capacity,
     )

@@ -1,0 +1,10 @@
+use Rattle.std.proofs.Common.{rules}
+use Rattle.flow_types.specs.Scenario.{parts_of}
+use Rattle.flight_routes.specs.Ready.{row_of}
+use Rattle.flight_routes.proofs.FillFacts.{window_end}
+use Rattle.flight_routes.proofs.fit_rates.set_end_in.Goals as goal
+
+pub set_end-requires-clause-window : goal.set_end-requires-clause-window
+set_end-requires-clause-window c =
+    window_end (parts_of c.args.s.now).day.periods (row_of c.args.accesses.now) c.args.node
+    c.in-Some.window c.requires.windows (search rules)

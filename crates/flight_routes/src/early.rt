@@ -1,0 +1,215 @@
+//! Least ways among those that end early, as far as no later one may cost as little.
+ghost use Rattle.std.specs.Prelude.{◌≡◌, ◌+◌, ◌≤◌, ◌<◌, ◌∷◌, ◌*◌, ◌^◌, ◌+ℤ◌, ℕ, IfSome, IsSome, IsTrue, List, Some, length, vec_capacity};
+ghost use Rattle.exact_sums.specs.Leasts.{IsFirstLeast, IsLeast};
+ghost use Rattle.flow_types.specs.declared.plan.Stop.{Stop};
+ghost use Rattle.flow_types.specs.Limits.{most_nodes, most_periods};
+ghost use Rattle.flow_types.specs.Trips.{arrival_from};
+ghost use Rattle.flight_routes.specs.Early.{AreAhead, IsLaterPair, IsLess, IsNoMore, ahead_in, cut_at, cut_window};
+ghost use Rattle.flight_routes.specs.RateLists.{rates_of};
+ghost use Rattle.flight_routes.specs.Rates.{IsValueWithin, IsWay, value_or_zero, whole_cost};
+ghost use Rattle.flight_routes.specs.Ready.{AreRising, AreSmall, AreWindows, IsReady, row_of};
+ghost use Rattle.flight_routes.specs.TripOrder.{IsNoLater};
+
+use crate::accesses::window_at;
+use crate::cost::Cost;
+use crate::ends::End;
+use crate::rates::RateTable;
+use crate::table::Table;
+use flow_types::{Flight, MOST_NODES, Stop};
+use time_windows::{Access, Window};
+
+// The part of a window from which the flight may still arrive by the period, so many periods on.
+fn cut_window(window: Option<Window>, cap: u16, ahead: u16) -> Option<Window>
+    requires cap { cap < most_periods }
+    ensures { result ≡ cut_window cap ahead window }
+{
+    match window {
+        None => None,
+        Some(window) => {
+            if u32::from(window.lo) + u32::from(ahead) <= u32::from(cap) {
+                Some(Window {
+                    lo: window.lo,
+                    hi: window.hi.min(cap - ahead),
+                })
+            } else {
+                None
+            }
+        }
+    }
+}
+
+// Puts the windows of a row into another row, cut so that the flight may still arrive by the
+// period.
+fn cut_row(accesses: &[Access], cap: u16, distances: &[u16], cut: &mut [Access])
+    requires accesses { length accesses.now ≡ most_nodes }
+    requires distances { length distances.now ≡ most_nodes }
+    requires cap { cap < most_periods }
+    requires cut { length cut.old ≡ most_nodes }
+    ensures length { length cut.new ≡ most_nodes }
+    ensures row { (n : ℕ) → row_of cut.new n
+        ≡ cut_at cap (ahead_in distances.now n) (row_of accesses.now n) }
+{
+    for node in 0..MOST_NODES {
+        cut[node] = Access {
+            window: cut_window(accesses[node].window, cap, distances[node]),
+            must: accesses[node].must,
+        };
+    }
+}
+
+// What leaving in the period costs, if that isn't past the window.
+fn leave_in(rates: &RateTable, window: Window, time: u16) -> Cost
+    requires end { window.hi < most_periods }
+    requires small { AreSmall (rates_of rates.now) }
+    ensures rate { time ≤ window.hi → result ≡ (rates_of rates.now).leaves time }
+    ensures small { IfSome result (IsValueWithin (2 ^ 110)) }
+{
+    if time <= window.hi {
+        rates.leaves_at(time)
+    } else {
+        Cost::none()
+    }
+}
+
+// What arriving in the period costs, if that is in the window and after the cap.
+fn arrive_in(rates: &RateTable, window: Window, cap: u16, time: u16) -> Cost
+    requires time { time < most_periods }
+    requires small { AreSmall (rates_of rates.now) }
+    ensures rate { window.lo ≤ time → cap < time → result ≡ (rates_of rates.now).arrives time }
+    ensures small { IfSome result (IsValueWithin (2 ^ 110)) }
+{
+    if window.lo <= time && cap < time {
+        rates.arrives_at(time)
+    } else {
+        Cost::none()
+    }
+}
+
+// No more than leaving and arriving cost, wherever the flight may leave and arrive so many periods
+// later or more, after the cap; none where it may not.
+fn later_least(rates: &RateTable, leave: Window, arrive: Window, ahead: u16, cap: u16) -> Cost
+    requires leave { leave.hi < most_periods }
+    requires arrive { arrive.hi < most_periods }
+    requires proper { leave.lo ≤ leave.hi }
+    requires ahead { ahead ≤ most_periods }
+    requires small { AreSmall (rates_of rates.now) }
+    ensures { (from to : ℕ) → IsLaterPair leave arrive (rates_of rates.now) ahead cap from to
+        → IsNoMore result (value_or_zero ((rates_of rates.now).leaves from)
+        +ℤ value_or_zero ((rates_of rates.now).arrives to)) }
+{
+    let mut from = Cost::none();
+    let mut least = Cost::none();
+    for time in leave.lo + ahead..arrive.hi + 1 {
+        from = from.lesser(leave_in(rates, leave, time - ahead));
+        least = least.lesser(from.and(arrive_in(rates, arrive, cap, time)));
+    }
+    least
+}
+
+// The first period of the window in which an end of the trip has a rate, or one past the window.
+fn first_rated(rates: &RateTable, end: End, window: Window) -> u32
+    requires end { window.hi < most_periods }
+    ensures { result ≤ most_periods }
+{
+    for time in window.lo..window.hi + 1 {
+        if rates.end_at(end, time).is_some() {
+            return u32::from(time);
+        }
+    }
+    u32::from(window.hi) + 1
+}
+
+/// About the first period in which the flight can arrive: as early as it may, but not before it
+/// could, if it left as soon as it may.
+pub fn about_first_end(accesses: &[Access], rates: &RateTable, last: u16) -> u32
+    requires accesses { length accesses.now ≡ most_nodes }
+    requires windows { AreWindows rates.now.periods (row_of accesses.now) }
+    requires few { rates.now.periods ≤ most_periods }
+    requires last { last < most_nodes }
+    ensures { result ≤ 2 * most_periods }
+{
+    let Some(leaves) = window_at(accesses, 0) else {
+        return 0;
+    };
+    let Some(arrives) = window_at(accesses, last) else {
+        return 0;
+    };
+    let waits = first_rated(rates, End::Departure, leaves).saturating_sub(u32::from(leaves.lo));
+    first_rated(rates, End::Arrival, arrives).max(u32::from(arrives.lo) + waits)
+}
+
+// Whether every way that ends after the period costs more: it leaves and arrives at some cost,
+// takes its time, and what it pays in between isn't below 0.
+fn later_cost_more(
+    flight: &Flight,
+    accesses: &[Access],
+    rates: &RateTable,
+    distances: &[u16],
+    last: u16,
+    cap: u16,
+    least: Cost,
+) -> bool
+    requires accesses { length accesses.now ≡ most_nodes }
+    requires distances { length distances.now ≡ most_nodes }
+    requires ready { IsReady flight.now (row_of accesses.now) rates.now.periods
+        (rates_of rates.now) }
+    requires rising { AreRising flight.now rates.now.periods (rates_of rates.now) }
+    requires ahead { AreAhead flight.now (ahead_in distances.now) }
+    requires far { ahead_in distances.now 0 ≤ most_periods }
+    requires last { last + 1 ≡ length flight.now.nodes }
+    ensures some { IsTrue result → IsSome least }
+    ensures more { IsTrue result → (stop : Stop) (rest : List Stop)
+        → IsWay flight.now (row_of accesses.now) (rates_of rates.now) (stop ∷ rest)
+        → cap < arrival_from stop rest
+        → IsLess least (Some (whole_cost (rates_of rates.now) (stop ∷ rest))) }
+{
+    let Some(leave) = window_at(accesses, 0) else {
+        return false;
+    };
+    let Some(arrive) = window_at(accesses, last) else {
+        return false;
+    };
+    least.is_less(later_least(rates, leave, arrive, distances[0], cap))
+}
+
+/// The least cost of the flight's ways, if no way that ends after the period may cost as little,
+/// with the stops of the first that reaches it. Else none, and nothing is known.
+pub fn early_way(
+    table: &mut Table,
+    flight: &Flight,
+    accesses: &[Access],
+    cut: &mut [Access],
+    rates: &RateTable,
+    distances: &[u16],
+    last: u16,
+    cap: u16,
+    stops: &mut Vec<Stop>,
+) -> Cost
+    requires accesses { length accesses.now ≡ most_nodes }
+    requires distances { length distances.now ≡ most_nodes }
+    requires ahead { AreAhead flight.now (ahead_in distances.now) }
+    requires far { ahead_in distances.now 0 ≤ most_periods }
+    requires cut { length cut.old ≡ most_nodes }
+    requires ready { IsReady flight.now (row_of accesses.now) rates.now.periods
+        (rates_of rates.now) }
+    requires rising { AreRising flight.now rates.now.periods (rates_of rates.now) }
+    requires last { last + 1 ≡ length flight.now.nodes }
+    requires cap { cap < most_periods }
+    requires room { most_nodes ≤ vec_capacity stops.old }
+    ensures least { IsSome result
+        → IsLeast (IsWay flight.now (row_of accesses.now) (rates_of rates.now))
+        (whole_cost (rates_of rates.now)) result }
+    ensures first { IsSome result
+        → IsFirstLeast (IsWay flight.now (row_of accesses.now) (rates_of rates.now))
+        (whole_cost (rates_of rates.now)) IsNoLater stops.new.items }
+    ensures room { most_nodes ≤ vec_capacity stops.new }
+    ensures length { length cut.new ≡ most_nodes }
+{
+    cut_row(accesses, cap, distances, cut);
+    let least = table.least_way(flight, cut, rates);
+    if !later_cost_more(flight, accesses, rates, distances, last, cap, least) {
+        return Cost::none();
+    }
+    table.trace(flight, cut, rates, least, stops);
+    least
+}
