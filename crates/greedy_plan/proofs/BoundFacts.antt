@@ -5,6 +5,7 @@ use Rattle.std.proofs.lemmas.Int.{ints}
 use Rattle.std.proofs.lemmas.Option.{get_or_from_slice_get}
 use Rattle.exact_sums.specs.Leasts.{IsLeast, IsLeastAt}
 use Rattle.exact_sums.specs.Sums.{total}
+use Rattle.exact_sums.proofs.ItemFacts.{item_there}
 use Rattle.exact_sums.proofs.SumFacts.{total-push}
 use Rattle.exact_sums.proofs.LeastFacts.{least_said}
 use Rattle.flow_types.specs.declared.bound.Bound.{Bound}
@@ -13,18 +14,18 @@ use Rattle.flow_types.specs.declared.flight.CostTable.{CostTable}
 use Rattle.flow_types.specs.declared.flight.Flight.{Flight}
 use Rattle.flow_types.specs.declared.parts.Parts.{Parts}
 use Rattle.flow_types.specs.declared.plan.Stop.{Stop}
-use Rattle.flow_types.specs.Bounds.{IsBound}
 use Rattle.flow_types.specs.Costs.{plan_cost, trip_cost_at}
-use Rattle.flow_types.specs.Feasible.{AreTrips, IsFeasible}
+use Rattle.flow_types.specs.Feasible.{AreTrips}
 use Rattle.flow_types.specs.Trips.{IsOnward, IsTrip, arrival_from}
 use Rattle.flow_types.specs.Valid.{IsScenario}
 use Rattle.flow_types.proofs.CostFacts.{credit_at-within, total_at-within}
+use Rattle.plan_rules.proofs.TripFacts.{AreTrips-length}
 use Rattle.flight_routes.specs.Inside.{IsTripIn}
 use Rattle.flight_routes.specs.Prices.{AreFree, PriceTable, priced_cost}
 use Rattle.flight_routes.proofs.FreeFacts.{free_cost}
 use Rattle.flight_routes.proofs.TripFacts.{in_day}
 use Rattle.time_windows.specs.Boxes.{Box, IsInBox}
-use Rattle.greedy_plan.specs.FirstBound.{HasNoTrip, IsFirstBound, IsLeastSum, IsNear, plus}
+use Rattle.greedy_plan.specs.FirstBound.{HasNoTrip, IsBoundIn, IsFirstBound, IsLeastSum, IsNear, plus}
 
 -- a range from the front, and one more at the end
 range_more : (from n : ℕ)
@@ -46,12 +47,6 @@ plan_trip parts box (f ∷ flights) (trip ∷ plan) zero flight trips here =
 plan_trip parts box (f ∷ flights) (trip ∷ plan) (suc k) flight trips here =
     plan_trip parts box flights plan k flight trips.1 here
 
-a_flight : (flights : List Flight) (k : ℕ) → k < length flights
-    → (flight : Flight) × (slice_get flights k ≡ Some flight)
-a_flight [] k within = absurd (omega (arith, within))
-a_flight (f ∷ flights) zero within = (f, refl)
-a_flight (f ∷ flights) (suc k) within = a_flight flights k (omega (arith, within))
-
 -- what a plan costs, by what the trip of each flight does
 plan_cost_is : (tables : List CostTable) (cost : ℕ → ℤ) (from : ℕ) (flights : List Flight)
     (plan : List (List Stop)) → length plan ≡ length flights
@@ -71,14 +66,6 @@ plan_cost_is tables cost from (flight ∷ flights) (trip ∷ plan) long each =
     next : (n k : ℕ) → n + 1 + k ≡ n + suc k
     next n k = omega arith
 
-trips_long : (periods : ℕ) (flights : List Flight) (plan : List (List Stop))
-    → AreTrips periods flights plan → length plan ≡ length flights
-trips_long periods [] [] trips = refl
-trips_long periods [] (trip ∷ plan) trips = absurd trips
-trips_long periods (flight ∷ flights) [] trips = absurd trips
-trips_long periods (flight ∷ flights) (trip ∷ plan) trips =
-    ap suc (trips_long periods flights plan trips.1)
-
 trip_in : (parts : Parts) (box : Box) (plan : List (List Stop)) (k : ℕ) (flight : Flight)
     (trip : List Stop) → IsInBox box plan → slice_get parts.flights k ≡ Some flight
     → slice_get plan k ≡ Some trip → IsTrip parts.day.periods flight trip
@@ -90,29 +77,30 @@ trip_in parts box plan k flight trip inside here at is = record {
   inside = inside k trip at;
 }
 
-module _ (parts : Parts) (box : Box)
-    (inside : (plan : List (List Stop)) → IsFeasible parts plan → IsInBox box plan) where
+module _ (parts : Parts) (box : Box) where
   none_bound : (number : ℕ) → HasNoTrip parts box number → (plan : List (List Stop))
-      → IsFeasible parts plan → ⊥
-  none_bound number none plan feasible =
-      let flight = a_flight parts.flights number none.within in
-      let trip = plan_trip parts box parts.flights plan number flight.0 feasible.trips flight.1 in
-      none.none trip.0 (trip_in parts box plan number flight.0 trip.0 (inside plan feasible)
+      → AreTrips parts.day.periods parts.flights plan → IsInBox box plan → ⊥
+  none_bound number none plan trips inside =
+      let flight = item_there parts.flights number none.within in
+      let trip = plan_trip parts box parts.flights plan number flight.0 trips flight.1 in
+      none.none trip.0 (trip_in parts box plan number flight.0 trip.0 inside
       flight.1 trip.1 trip.2)
 
-  sum_below : (plan : List (List Stop)) → IsFeasible parts plan → (n : ℕ)
+  sum_below : (plan : List (List Stop)) → AreTrips parts.day.periods parts.flights plan
+      → IsInBox box plan → (n : ℕ)
       → n ≤ length parts.flights → (sum : ℤ) → IsLeastSum parts box n sum
       → sum ≤ℤ total (λ k. trip_cost_at parts.tables (slice_get parts.flights k) (get_or plan k []))
       (range_with_len 0 n)
-  sum_below plan feasible zero upto sum is = omega (arith, ints, is)
-  sum_below plan feasible (suc n) upto sum is =
-      let cost = λ (k : ℕ). trip_cost_at parts.tables (slice_get parts.flights k) (get_or plan k []) in
-      let before = sum_below plan feasible n (omega (arith, upto)) is.0 is.2 in
-      let flight = a_flight parts.flights n (omega (arith, upto)) in
-      let trip = plan_trip parts box parts.flights plan n flight.0 feasible.trips flight.1 in
+  sum_below plan trips inside zero upto sum is = omega (arith, ints, is)
+  sum_below plan trips inside (suc n) upto sum is =
+      let cost = λ (k : ℕ).
+      trip_cost_at parts.tables (slice_get parts.flights k) (get_or plan k []) in
+      let before = sum_below plan trips inside n (omega (arith, upto)) is.0 is.2 in
+      let flight = item_there parts.flights n (omega (arith, upto)) in
+      let trip = plan_trip parts box parts.flights plan n flight.0 trips flight.1 in
       let at : get_or plan n [] ≡ trip.0 = get_or_from_slice_get plan n trip.0 [] trip.1 in
       let least = is.3.below trip.0 (trip_in parts box plan n flight.0 trip.0
-      (inside plan feasible) flight.1 trip.1 trip.2) in
+      inside flight.1 trip.1 trip.2) in
       let here : is.1 ≤ℤ cost n =
       subst (λ t. is.1 ≤ℤ trip_cost_at parts.tables (slice_get parts.flights n) t) (sym at) least in
       let more = ap (total cost) (range_more 0 n) ∙ total-push cost (range_with_len 0 n) (0 + n)
@@ -124,13 +112,13 @@ module _ (parts : Parts) (box : Box)
       zero_plus k = omega arith
 
   least_bound : (sum : ℤ) → IsLeastSum parts box (length parts.flights) sum
-      → (plan : List (List Stop)) → IsFeasible parts plan
-      → sum ≤ℤ plan_cost parts.tables parts.flights plan
-  least_bound sum is plan feasible =
-      let below = sum_below plan feasible (length parts.flights) (omega arith) sum is in
+      → (plan : List (List Stop)) → AreTrips parts.day.periods parts.flights plan
+      → IsInBox box plan → sum ≤ℤ plan_cost parts.tables parts.flights plan
+  least_bound sum is plan trips inside =
+      let below = sum_below plan trips inside (length parts.flights) (omega arith) sum is in
       let same = plan_cost_is parts.tables
       (λ k. trip_cost_at parts.tables (slice_get parts.flights k) (get_or plan k [])) 0
-      parts.flights plan (trips_long parts.day.periods parts.flights plan feasible.trips)
+      parts.flights plan (AreTrips-length parts.day.periods parts.flights plan trips)
       (λ k. ap (λ m. trip_cost_at parts.tables (slice_get parts.flights m) (get_or plan m []))
       (zero_plus k)) in
       subst (λ c. sum ≤ℤ c) same below
@@ -138,7 +126,7 @@ module _ (parts : Parts) (box : Box)
       zero_plus : (k : ℕ) → 0 + k ≡ k
       zero_plus k = omega arith
 
-  pub is_bound : (bound : Bound) → IsFirstBound parts box bound → IsBound parts bound
+  pub is_bound : (bound : Bound) → IsFirstBound parts box bound → IsBoundIn parts box bound
   is_bound NoPlan is = none_bound is.0 is.1
   is_bound (AtLeast least) is = least_bound least is
 

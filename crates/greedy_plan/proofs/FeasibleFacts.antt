@@ -6,7 +6,7 @@ use Rattle.std.proofs.lemmas.List.{length-take-le, take-append-le}
 use Rattle.std.proofs.lemmas.Option.{slice_get-get_or, slice_get_within}
 use Rattle.std.specs.Option.{is_some, option_and_then}
 use Rattle.exact_sums.specs.Leasts.{IsLeast}
-use Rattle.exact_sums.proofs.ItemFacts.{All-item}
+use Rattle.exact_sums.proofs.ItemFacts.{All-item, slice_get-set_other}
 use Rattle.flow_types.specs.declared.flight.Connection.{Connection}
 use Rattle.flow_types.specs.declared.flight.Flight.{Flight}
 use Rattle.flow_types.specs.declared.parts.Parts.{Parts}
@@ -55,16 +55,6 @@ with_rest-all [] (trip ∷ plan) long = absurd (omega (arith, long))
 with_rest-all (f ∷ flights) [] long = absurd (omega (arith, long))
 with_rest-all (f ∷ flights) (trip ∷ plan) long =
     ap (λ trips. trip ∷ trips) (with_rest-all flights plan (omega (arith, long)))
-
--- another item than the one that is set
-pub slice_get-set_other : {A : Type 0} (xs : List A) (n k : ℕ) (y : A) → k ≢ n
-    → slice_get (set xs n y) k ≡ slice_get xs k
-slice_get-set_other [] n k y other = refl
-slice_get-set_other (x ∷ xs) zero zero y other = absurd (other refl)
-slice_get-set_other (x ∷ xs) zero (suc k) y other = refl
-slice_get-set_other (x ∷ xs) (suc n) zero y other = refl
-slice_get-set_other (x ∷ xs) (suc n) (suc k) y other =
-    slice_get-set_other xs n k y (λ same. other (ap suc same))
 
 -- every capacity and every connection is kept
 record KeepsAll (parts : Parts) (trips : List (List Stop)) : Type 0 where
@@ -310,9 +300,3 @@ pub some_of : (Empty Found : Type 0) (least : Option ℤ) (none : Bool)
 some_of Empty Found None true is told no' = let no : ⊥ = cc in absurd no
 some_of Empty Found None false is told no' = let no : ⊥ = cc in absurd no
 some_of Empty Found (Some least) none is told no' = is
-
-pub flight_there : (flights : List Flight) (k : ℕ) → k < length flights
-    → (flight : Flight) × (slice_get flights k ≡ Some flight)
-flight_there [] k within = absurd (omega (arith, within))
-flight_there (f ∷ flights) zero within = (f, refl)
-flight_there (f ∷ flights) (suc k) within = flight_there flights k (omega (arith, within))

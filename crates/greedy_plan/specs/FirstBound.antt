@@ -5,9 +5,10 @@ use Rattle.flow_types.specs.declared.bound.Bound.{Bound}
 use Rattle.flow_types.specs.declared.bound.Bound.TheVariants.{AtLeast, NoPlan}
 use Rattle.flow_types.specs.declared.parts.Parts.{Parts}
 use Rattle.flow_types.specs.declared.plan.Stop.{Stop}
-use Rattle.flow_types.specs.Costs.{trip_cost_at}
+use Rattle.flow_types.specs.Costs.{plan_cost, trip_cost_at}
+use Rattle.flow_types.specs.Feasible.{AreTrips}
 use Rattle.flight_routes.specs.Inside.{IsTripIn}
-use Rattle.time_windows.specs.Boxes.{Box}
+use Rattle.time_windows.specs.Boxes.{Box, IsInBox}
 
 -- a flight of which no trip is in the box
 pub record HasNoTrip (parts : Parts) (box : Box) (number : ℕ) : Type 0 where
@@ -38,3 +39,11 @@ plus (Some sum) (Some cost) = Some (sum +ℤ cost)
 pub record IsNear (limit : ℕ) (value : ℤ) : Type 0 where
   pub low : neg_ℤ (pos limit) ≤ℤ value
   pub high : value ≤ℤ pos limit
+
+-- no plan in the box costs less, one trip for each flight; there is none below NoPlan
+abbrev pub IsBoundIn : Parts → Box → Bound → Type 0
+IsBoundIn parts box NoPlan = (plan : List (List Stop))
+    → AreTrips parts.day.periods parts.flights plan → IsInBox box plan → ⊥
+IsBoundIn parts box (AtLeast least) = (plan : List (List Stop))
+    → AreTrips parts.day.periods parts.flights plan → IsInBox box plan
+    → least ≤ℤ plan_cost parts.tables parts.flights plan

@@ -1,16 +1,13 @@
 //! The bound that goes with the greedy plan.
-ghost use Rattle.std.specs.Prelude.{◌≡◌, ◌^◌, IfOk, IfSome, List};
-ghost use Rattle.flow_types.specs.Feasible.{IsFeasible};
-ghost use Rattle.flow_types.specs.Bounds.{IsBound};
+ghost use Rattle.std.specs.Prelude.{◌≡◌, ◌^◌, IfOk, IfSome};
 ghost use Rattle.flow_types.specs.Scenario.{parts_of};
 ghost use Rattle.flow_types.specs.declared.bound.Bound.{Bound};
 ghost use Rattle.flow_types.specs.declared.parts.Parts.{Parts};
-ghost use Rattle.flow_types.specs.declared.plan.Stop.{Stop};
 ghost use Rattle.flight_routes.specs.Prices.{AreFree, ArePricesOf};
 ghost use Rattle.flight_routes.specs.Work.{IsWorkFor};
-ghost use Rattle.time_windows.specs.Boxes.{Box, IsInBox};
+ghost use Rattle.time_windows.specs.Boxes.{Box};
 ghost use Rattle.time_windows.specs.Held.{IsMadeFor, box_of};
-ghost use Rattle.greedy_plan.specs.FirstBound.{IsFirstBound, IsNear, plus};
+ghost use Rattle.greedy_plan.specs.FirstBound.{IsBoundIn, IsFirstBound, IsNear, plus};
 
 use flight_routes::{Prices, Work};
 use flow_types::{Bound, OutOfMemory, Scenario};
@@ -64,10 +61,9 @@ fn plus(sum: Option<i128>, cost: Option<i128>) -> Option<i128>
     }
 }
 
-/// No plan that keeps every rule and is in the box costs less than the bound, and none is there
-/// where the bound is that no plan exists.
+/// No plan in the box, with one trip for each flight, costs less than the bound, whether or not it
+/// keeps the rules of places and connections. None is there where the bound is that no plan exists.
 pub fn first_bounds_are_bounds()
     ensures { (parts : Parts) (box : Box) (bound : Bound) → IsFirstBound parts box bound
-        → ((plan : List (List Stop)) → IsFeasible parts plan → IsInBox box plan)
-        → IsBound parts bound }
+        → IsBoundIn parts box bound }
 {}

@@ -6,9 +6,8 @@ use Rattle.greedy_plan.proofs.bound.bound_of.Goals as goal
 
 pub plus-sum-requires-clause-cost : goal.plus-sum-requires-clause-cost
 plus-sum-requires-clause-cost c =
-    cost_small (parts_of c.args.s.now) (box_of c.args.boxes.now) c.loop-number.number
-    c.args.prices.now c.least_trip.result c.args.s.now.valid c.requires.free
-    c.least_trip.ensures.least
+    cost_small (parts_of c.args.s.now) (box_of c.args.boxes.now) _ c.args.prices.now
+    c.least_trip.result c.args.s.now.valid c.requires.free c.least_trip.ensures.least
 
 pub loop-number-preserved : goal.loop-number-preserved
 loop-number-preserved c = (

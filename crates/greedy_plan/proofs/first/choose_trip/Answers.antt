@@ -4,7 +4,8 @@ use Rattle.flow_types.specs.Scenario.{flight_at, parts_of}
 use Rattle.flight_routes.specs.Fits.{IsTripThatFits}
 use Rattle.time_windows.specs.Held.{box_of}
 use Rattle.greedy_plan.specs.Greedy.{IsChosen, with_rest}
-use Rattle.greedy_plan.proofs.FeasibleFacts.{none_of, one_more, some_of, flight_there}
+use Rattle.exact_sums.proofs.ItemFacts.{item_there}
+use Rattle.greedy_plan.proofs.FeasibleFacts.{none_of, one_more, some_of}
 use Rattle.greedy_plan.proofs.first.choose_trip.Goals as goal
 
 pub returns-then-is_none-clause-none : goal.returns-then-is_none-clause-none
@@ -21,7 +22,7 @@ returns-clause-added c = λ same.
     let parts = parts_of c.args.s.now in
     let box = box_of c.args.boxes.now in
     let trips = with_rest parts.flights c.args.plan.now in
-    let flight = flight_there parts.flights c.args.flight c.requires.flight in
+    let flight = item_there parts.flights c.args.flight c.requires.flight in
     let chosen : IsChosen parts box c.args.plan.now c.args.flight c.least_fit.new.self.trip =
     some_of (c.least_fit.new.self.trip ≡ [])
     (IsChosen parts box c.args.plan.now c.args.flight c.least_fit.new.self.trip)

@@ -11,7 +11,7 @@ pub loop-number-init : goal.loop-number-init
 loop-number-init c = (
   chosen_none (parts_of c.args.s.now) (box_of c.args.boxes.now) c.empty-plan.result
       c.empty-plan.ensures,
-  ap length c.empty-plan.ensures,
+  omega (arith, ap length c.empty-plan.ensures),
   loads_none (parts_of c.args.s.now) c.empty-plan.result c.args.loads.now c.empty-plan.ensures
       c.requires.loads,
   c.requires.work,
@@ -25,7 +25,7 @@ returns-then-not-branch-clause-greedy c =
     record {
       chosen = subst (AreChosen parts (box_of c.args.boxes.now)) (sym same)
           c.loop-number.invariant.0;
-      count = ap length same ∙ c.loop-number.invariant.1;
+      count = omega (arith, ap length same, c.loop-number.invariant.1);
       within = omega (
         arith,
         c.loop-number-test.true,
@@ -39,7 +39,8 @@ returns-then-not-branch-clause-greedy c =
 
 pub loop-number-preserved : goal.loop-number-preserved
 loop-number-preserved c =
-    let more = c.choose_trip.ensures.added (c.in_ok-choose_trip.was ∙ ap Ok c.if-not-branch.false) in (
+    let more =
+    c.choose_trip.ensures.added (c.in_ok-choose_trip.was ∙ ap Ok c.if-not-branch.false) in (
       more.chosen c.loop-number.invariant.0,
       omega (arith, more.count, c.loop-number.invariant.1),
       more.loads_are,
