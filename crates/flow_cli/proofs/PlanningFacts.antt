@@ -1,25 +1,18 @@
 -- A day that is planned in its tight root box.
-use Rattle.std.proofs.Common.{◌≡◌, ℕ, List, get_or, Option, None, Some, IfSome, option_map, refl, sym, ap, ◌∙◌, subst}
+use Rattle.std.proofs.Common.{List, ◌≡◌, ℕ, Option, None, Some, IfSome, option_map, refl, sym, ap, ◌∙◌, subst}
+use Rattle.flow_types.specs.declared.bound.Bound.{Bound}
+use Rattle.flow_types.specs.declared.bound.Bound.TheVariants.{AtLeast, NoPlan}
 use Rattle.flow_types.specs.declared.parts.Parts.{Parts}
 use Rattle.flow_types.specs.declared.plan.Stop.{Stop}
+use Rattle.flow_types.specs.Bounds.{IsBound}
 use Rattle.flow_types.specs.Costs.{plan_cost}
 use Rattle.flow_types.specs.Feasible.{IsFeasible}
 use Rattle.time_windows.specs.declared.access.Access.{Access}
-use Rattle.time_windows.specs.Boxes.{Box, IsInBox, IsInWindow, IsWindowWithin, IsWithin}
+use Rattle.time_windows.specs.Boxes.{Box, IsInBox, IsWindowWithin, IsWithin}
 use Rattle.time_windows.specs.Tight.{IsTightened}
+use Rattle.greedy_plan.specs.FirstBound.{IsBoundIn}
 use Rattle.flow_cli.specs.declared.outcome.Costed.{Costed}
 use Rattle.flow_cli.specs.Planning.{IsCosted, plan_in}
-
--- a box that says the same
-pub in_box_same : (box other : Box) (plan : List (List Stop))
-    → ((f n : ℕ) → other f n ≡ box f n) → IsInBox box plan → IsInBox other plan
-in_box_same box other plan same inside f trip here = record {
-  windows = λ k d within.
-      subst (λ (a : Access). IsInWindow a.window (get_or trip k d).time)
-      (sym (same f (get_or trip k d).node)) ((inside f trip here).windows k d within);
-  musts = λ n must. (inside f trip here).musts n
-      (sym (ap (λ (a : Access). a.must) (same f n)) ∙ must);
-}
 
 within_same : (inner box other : Box) → ((f n : ℕ) → other f n ≡ box f n) → IsWithin inner other
     → IsWithin inner box
@@ -51,3 +44,12 @@ pub kept_cost : (parts : Parts) (kept : Option Costed)
     ≡ option_map (plan_cost parts.tables parts.flights) (plan_in kept)
 kept_cost parts None is = refl
 kept_cost parts (Some kept) is = ap Some is.price
+
+-- what bounds the plans in a box bounds all of them, where every feasible plan is in it
+pub bound_of_all : (parts : Parts) (box : Box) (bound : Bound) → IsBoundIn parts box bound
+    → ((plan : List (List Stop)) → IsFeasible parts plan → IsInBox box plan)
+    → IsBound parts bound
+bound_of_all parts box NoPlan is inside =
+    λ plan feasible. is plan feasible.trips (inside plan feasible)
+bound_of_all parts box (AtLeast least) is inside =
+    λ plan feasible. is plan feasible.trips (inside plan feasible)

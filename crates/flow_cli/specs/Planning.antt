@@ -34,7 +34,8 @@ plan_kept outcome = plan_in outcome.kept
 
 -- the greedy plan in the box, or none where it is stuck
 abbrev pub IsFirstPlan : Parts → Box → Option (List (List Stop)) → Type 0
-IsFirstPlan parts box None = (kept : List (List Stop)) × (flight : ℕ) × IsStuck parts box kept flight
+IsFirstPlan parts box None =
+    (kept : List (List Stop)) × (flight : ℕ) × IsStuck parts box kept flight
 IsFirstPlan parts box (Some plan) = IsGreedy parts box plan
 
 -- What is printed of a day: a plan that keeps every rule, if there is a plan, at its cost, and a

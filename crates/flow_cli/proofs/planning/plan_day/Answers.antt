@@ -5,7 +5,8 @@ use Rattle.time_windows.specs.Held.{box_of}
 use Rattle.flow_cli.specs.Outside.{Printed}
 use Rattle.flow_cli.specs.Planning.{plan_kept}
 use Rattle.flow_cli.specs.Status.{status_of}
-use Rattle.flow_cli.proofs.PlanningFacts.{in_box_same, kept_cost, kept_feasible, tightened_same}
+use Rattle.time_windows.proofs.BoxFacts.{in_box_same}
+use Rattle.flow_cli.proofs.PlanningFacts.{bound_of_all, kept_cost, kept_feasible, tightened_same}
 use Rattle.flow_cli.proofs.planning.plan_day.Goals as goal
 
 pub returns : goal.returns
@@ -21,11 +22,13 @@ returns c =
           ∙ ap (λ cost. status_of cost outcome.bound)
           (c.cost_of.ensures ∙ kept_cost parts outcome.kept c.in_ok-outcome.ensures.kept);
       feasible = kept_feasible parts outcome.kept c.in_ok-outcome.ensures.kept;
-      below = c.first_bounds_are_bounds.ensures parts within outcome.bound
-          c.in_ok-outcome.ensures.first_bound
+      below = bound_of_all parts within outcome.bound
+          (c.first_bounds_are_bounds.ensures parts within outcome.bound
+          c.in_ok-outcome.ensures.first_bound)
           (λ plan feasible. c.tighten.ensures.kept plan feasible.trips feasible.turns
           (in_box_same (root_box parts) (box_of c.in_ok-boxes.boxes) plan c.in_ok-boxes.ensures.root
-          (c.trips_are_in_the_root_box.ensures.plans parts plan c.args.s.now.valid feasible.trips)));
+          (c.trips_are_in_the_root_box.ensures.plans parts plan c.args.s.now.valid
+          feasible.trips)));
       within = within;
       tight = tightened_same parts (root_box parts) (box_of c.in_ok-boxes.boxes) within
           c.in_ok-boxes.ensures.root c.tighten.ensures.tight;
