@@ -1,1 +1,2 @@
 mod BrokenCases
+mod WorkedChoice

@@ -2,9 +2,9 @@
 //! plan, over their public calls.
 //!
 //! It stands above them, so that none is proved a second time with its tests. `proofs/BrokenCases`
-//! has what the definitions say of which rule a plan breaks first. The tests show what no clause and
-//! no answer of the program does: that the calls succeed with ample memory, and least trips under
-//! prices.
+//! has what the definitions say of which rule a plan breaks first, and `proofs/WorkedChoice` which
+//! of two trips that cost the same is taken. The tests show what no clause and no answer of the
+//! program does: that the calls succeed with ample memory, and least trips under prices.
 #![tactic(auto)]
 
 #[cfg(test)]

@@ -1,36 +1,48 @@
 //! Each public call once, with ample memory.
-ghost use Rattle.std.specs.Prelude.{IfOk};
+ghost use Rattle.std.specs.Prelude.{◌≡◌, ◌<◌, IfOk, length};
+ghost use Rattle.flight_routes.specs.Prices.{ArePricesOf};
 ghost use Rattle.flow_types.specs.Scenario.{parts_of};
 ghost use Rattle.plan_rules.specs.Loads.{IsMadeFor};
+ghost use Rattle.time_windows.specs.Held as held;
+ghost use Rattle.worked_days.specs.Days as days;
 
 use flight_routes::{Prices, Work};
-use flow_types::{Bound, CapKind, OutOfMemory, PriceKey, Scenario, Stop};
+use flow_types::{Bound, CapKind, OutOfMemory, Plan, PriceKey, Scenario, Stop};
 use greedy_plan::{Greedy, first_bound, first_plan};
 use plan_rules::{
     Loads, Verdict, cost, first_broken_rules_are_first, judge,
     plans_that_break_nothing_are_feasible, trips_are_counted_once,
 };
 use std::alloc::Global;
+use std::process::Abort;
 use std::test::Fail;
 use time_windows::{Boxes, Tight, Window};
 use worked_days::{plan_with, there_and_back, trip_at, two_flights};
 
-// Loads of the day, after a plan was judged whose second flight departs a period late.
+// Adds the trip: of the loads no more is known then than what they are made for.
+fn add_trip(loads: &mut Loads, s: &Scenario, flight: u32, stops: &[Stop])
+    requires made { IsMadeFor (parts_of s.now) loads.old }
+    requires flight { flight < length (parts_of s.now).flights }
+    ensures { IsMadeFor (parts_of s.now) loads.new }
+{
+    loads.add(s, flight, stops);
+}
+
+// Loads of two trips, the second a period late.
 fn loads_of(alloc: Global, s: &Scenario) -> Result<Loads, OutOfMemory>
+    requires { 1 < length (parts_of s.now).flights }
     ensures { IfOk result (IsMadeFor (parts_of s.now)) }
 {
-    let plan = plan_with(alloc, &trip_at(1, 3))?;
     let mut loads = Loads::new(alloc, s)?;
-    match judge(&mut loads, s, &plan) {
-        Verdict::Keeps { .. } => Ok(loads),
-        Verdict::Breaks(_) => Ok(loads),
-    }
+    add_trip(&mut loads, s, 0, &trip_at(0, 2));
+    add_trip(&mut loads, s, 1, &trip_at(1, 3));
+    Ok(loads)
 }
 
 #[test]
-fn loads_count_the_trips_of_a_plan(rt: HostRuntime) -> Result<(), Fail> {
+fn loads_count_trips(rt: HostRuntime) -> Result<(), Fail> {
     let alloc = rt.alloc();
-    let s = two_flights(alloc, 9, 9, 9)?;
+    let s = two_flights(alloc, 1, 9, 9)?;
     let mut loads = loads_of(alloc, &s)?;
     assert_eq!(rt; loads.departure(1), Some(1));
     assert_eq!(rt; loads.arrival(1), Some(3));
@@ -46,64 +58,143 @@ fn loads_count_the_trips_of_a_plan(rt: HostRuntime) -> Result<(), Fail> {
         assert_eq!(rt; loads.load(CapKind::Sector, 2, period), inside, "{period}");
     }
     loads.clear();
-    loads.add(&s, 1, &trip_at(1, 3));
+    Ok(())
+}
+
+// The plan keeps every rule at a cost of 1.
+fn is_kept(rt: &impl Abort, alloc: Global, s: &Scenario, plan: &Plan) -> Result<(), OutOfMemory> {
+    let mut loads = Loads::new(alloc, s)?;
+    match judge(&mut loads, s, plan) {
+        Verdict::Keeps { cost: paid } => assert_eq!(rt; (paid, cost(s, plan)), (1, 1)),
+        Verdict::Breaks(_) => panic!(rt; "the plan keeps every rule"),
+    }
     Ok(())
 }
 
 #[test]
-fn a_day_is_judged(rt: HostRuntime) -> Result<(), Fail> {
+fn a_plan_is_judged(rt: HostRuntime) -> Result<(), Fail> {
     let alloc = rt.alloc();
-    let s = two_flights(alloc, 2, 9, 9)?;
-    let plan = plan_with(alloc, &trip_at(0, 2))?;
-    let mut loads = Loads::new(alloc, &s)?;
-    match judge(&mut loads, &s, &plan) {
-        Verdict::Keeps { cost: paid } => assert_eq!(rt; (paid, cost(&s, &plan)), (0, 0)),
-        Verdict::Breaks(_) => return Err("the plan keeps every rule".into()),
-    }
-    trips_are_counted_once();
-    plans_that_break_nothing_are_feasible();
-    first_broken_rules_are_first();
+    let s = two_flights(alloc, 1, 9, 9)?;
+    let plan = plan_with(alloc, &trip_at(1, 3))?;
+    is_kept(&rt, alloc, &s, &plan)?;
     Ok(())
 }
 
-// Where one may leave in a period: the windows of the first flight, its least trip at the price 1 of
-// leaving in the first period, and the greedy plan with its bound.
+#[test]
+fn laws_are_called() {
+    trips_are_counted_once();
+    plans_that_break_nothing_are_feasible();
+    first_broken_rules_are_first();
+}
+
+// The tight root box of a day that has plans.
+fn tight_root(rt: &impl Abort, alloc: Global, s: &Scenario) -> Result<Boxes, OutOfMemory>
+    ensures { IfOk result (held.IsMadeFor (parts_of s.now)) }
+{
+    let mut boxes = Boxes::root(alloc, s)?;
+    match boxes.tighten(s) {
+        Tight::Live => Ok(boxes),
+        Tight::Empty(..) => panic!(rt; "there are plans in the box"),
+    }
+}
+
+// The windows of the first flight.
+fn has_tight_windows(rt: &impl Abort, boxes: &Boxes) {
+    for (node, lo, hi) in [(0, 0, 4), (1, 0, 5), (2, 2, 7)] {
+        assert!(rt; boxes.window(0, node) == Some(Window { lo, hi }), "{node}");
+    }
+}
+
+#[test]
+fn a_box_is_tightened_and_copied(rt: HostRuntime) -> Result<(), Fail> {
+    let alloc = rt.alloc();
+    let s = two_flights(alloc, 1, 9, 9)?;
+    let boxes = tight_root(&rt, alloc, &s)?;
+    has_tight_windows(&rt, &boxes);
+    has_tight_windows(&rt, &boxes.copy(alloc)?);
+    Ok(())
+}
+
+// The price 1 of leaving in the first period.
+fn price_of_leaving(alloc: Global, s: &Scenario) -> Result<Prices, OutOfMemory>
+    requires { parts_of s.now ≡ days.two_flights 1 9 9 }
+    ensures { IfOk result (ArePricesOf (parts_of s.now)) }
+{
+    let mut prices = Prices::new(alloc, s)?;
+    let key = PriceKey::Dep {
+        place: 0,
+        period: 0,
+    };
+    prices.set(key, 1);
+    Ok(prices)
+}
+
+// On time costs 1 then, as leaving a period later does, and comes first.
+fn least_trip_is_on_time(
+    rt: &impl Abort,
+    alloc: Global,
+    s: &Scenario,
+    prices: &Prices,
+) -> Result<(), OutOfMemory>
+    requires flights { 0 < length (parts_of s.now).flights }
+    requires prices { ArePricesOf (parts_of s.now) prices.now }
+{
+    let boxes = tight_root(rt, alloc, s)?;
+    let mut work = Work::new(alloc, s)?;
+    assert_eq!(rt; work.least_trip(s, &boxes, 0, 1, prices), Some(1));
+    assert!(rt; work.trip() == &trip_at(0, 2)[..]);
+    Ok(())
+}
+
+#[test]
+fn the_least_trip_at_a_price_is_found(rt: HostRuntime) -> Result<(), Fail> {
+    let alloc = rt.alloc();
+    let s = two_flights(alloc, 1, 9, 9)?;
+    let prices = price_of_leaving(alloc, &s)?;
+    least_trip_is_on_time(&rt, alloc, &s, &prices)?;
+    Ok(())
+}
+
+// The greedy plan's trips and cost, nothing where it is stuck.
+fn greedy_cost(
+    rt: &impl Abort,
+    alloc: Global,
+    s: &Scenario,
+) -> Result<Option<(usize, i64)>, OutOfMemory> {
+    let boxes = tight_root(rt, alloc, s)?;
+    match first_plan(alloc, s, &boxes)? {
+        Greedy::Plan(plan) => Ok(Some((plan.items().len(), cost(s, &plan)))),
+        Greedy::Stuck { .. } => Ok(None),
+    }
+}
+
 #[test]
 fn a_day_is_planned(rt: HostRuntime) -> Result<(), Fail> {
     let alloc = rt.alloc();
     let s = two_flights(alloc, 1, 9, 9)?;
-    let mut boxes = Boxes::root(alloc, &s)?;
-    assert!(rt; boxes.tighten(&s) == Tight::Live);
-    let boxes = boxes.copy(alloc)?;
-    for (node, lo, hi) in [(0, 0, 4), (1, 0, 5), (2, 2, 7)] {
-        assert!(rt; boxes.window(0, node) == Some(Window { lo, hi }), "{node}");
-    }
-    let mut prices = Prices::new(alloc, &s)?;
-    prices.set(
-        PriceKey::Dep {
-            place: 0,
-            period: 0,
-        },
-        1,
-    );
-    let mut work = Work::new(alloc, &s)?;
-    assert_eq!(rt; work.least_trip(&s, &boxes, 0, 1, &prices), Some(1));
-    let stops = [(0, 0), (1, 0), (2, 2)].map(|(node, time)| Stop { node, time });
-    assert!(rt; work.trip() == &stops[..]);
-    let Greedy::Plan(plan) = first_plan(alloc, &s, &boxes)? else {
-        return Err("each flight has a trip that fits".into());
-    };
-    assert_eq!(rt; plan.items().len(), 2);
-    assert_eq!(rt; cost(&s, &plan), 1);
+    assert_eq!(rt; greedy_cost(&rt, alloc, &s)?, Some((2, 1)));
+    Ok(())
+}
+
+#[test]
+fn the_costs_of_a_day_are_bounded(rt: HostRuntime) -> Result<(), Fail> {
+    let alloc = rt.alloc();
+    let s = two_flights(alloc, 1, 9, 9)?;
+    let boxes = tight_root(&rt, alloc, &s)?;
     assert_eq!(rt; first_bound(alloc, &s, &boxes)?, Bound::AtLeast(0));
     Ok(())
 }
 
 #[test]
-fn days_are_made(rt: HostRuntime) -> Result<(), Fail> {
+fn a_day_is_made(rt: HostRuntime) -> Result<(), Fail> {
+    let s = there_and_back(rt.alloc(), 1, 2)?;
+    assert_eq!(rt; s.connections().len(), 1);
+    Ok(())
+}
+
+#[test]
+fn a_plan_is_copied(rt: HostRuntime) -> Result<(), Fail> {
     let alloc = rt.alloc();
-    assert_eq!(rt; two_flights(alloc, 1, 9, 9)?.flights().len(), 2);
-    assert_eq!(rt; there_and_back(alloc, 1, 2)?.connections().len(), 1);
     let plan = plan_with(alloc, &trip_at(1, 3))?;
     assert_eq!(rt; plan.copy(alloc)?.items().len(), 2);
     Ok(())
