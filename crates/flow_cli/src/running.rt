@@ -34,11 +34,11 @@ trial N
 /// The status says what the answer is. `Done`, `Infeasible` and `OpenGap` come for a day that is
 /// planned, `Done` and `Broken` for a plan that is judged. `Usage` comes for any other words,
 /// `ReadFault` where a name isn't there or a call fails, `TooLong` for a longer text, `BadScenario`
-/// for a text that is no scenario or a day that isn't planned yet, `BadPlan` for a text that is no
-/// plan, `WriteFault` where the answer isn't written to its end, and `OutOfMemory` where there is
-/// no memory; then nothing is written. What the files hold stays as it was, and so does their count
-/// of faults where the answer isn't that a read failed. It takes memory for a text, the scenario,
-/// the plan with its loads, and the answer.
+/// for a text that is no scenario, `BadPlan` for a text that is no plan, `WriteFault` where the
+/// answer isn't written to its end, and `OutOfMemory` where there is no memory; then nothing is
+/// written. What the files hold stays as it was, and so does their count of faults where the answer
+/// isn't that a read failed. It takes memory for a text, the scenario, the plan with its loads, and
+/// the answer.
 pub fn run<F: Files, S: Sink>(alloc: Global, words: &[String], files: &mut F, out: &mut S) -> Status
     ensures answered { Ends (change (F.seen files.old) (F.seen files.new))
         (change (S.seen out.old) (S.seen out.new)) (map string_bytes words.now) result }
