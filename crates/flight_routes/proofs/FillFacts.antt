@@ -7,8 +7,8 @@ use Rattle.plan_rules.specs.Cells.{Tally}
 use Rattle.time_windows.specs.declared.access.Access.{Access}
 use Rattle.time_windows.specs.declared.access.Window.{Window}
 use Rattle.time_windows.specs.Boxes.{IsInWindow, IsProper}
-use Rattle.flight_routes.specs.declared.ends.End.{End}
-use Rattle.flight_routes.specs.declared.ends.End.TheVariants.{Arrival, Departure}
+use Rattle.time_windows.specs.declared.ends.End.{End}
+use Rattle.time_windows.specs.declared.ends.End.TheVariants.{Arrival, Departure}
 use Rattle.flight_routes.specs.Filling.{IsFitTable, OnlyClear, OnlyEnd, OnlyPaid}
 use Rattle.flight_routes.specs.FitTimes.{IsClearAt, IsFirstFull}
 use Rattle.flight_routes.specs.RateLists.{RateLists, rates_of}

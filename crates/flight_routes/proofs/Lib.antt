@@ -7,7 +7,6 @@ pub mod FirstFacts
 pub mod FitFacts
 pub mod FreeFacts
 pub mod LaterFacts
-pub mod LinkFacts
 pub mod LoadRateFacts
 pub mod MoveFacts
 pub mod PassageFacts

@@ -19,16 +19,16 @@ use Rattle.plan_rules.specs.Loads.{AreLoads, arrival_at, departure_at}
 use Rattle.exact_sums.proofs.ItemFacts.{All-item}
 use Rattle.time_windows.specs.declared.access.Access.{Access}
 use Rattle.time_windows.specs.Boxes.{IsInWindow}
-use Rattle.flight_routes.specs.declared.ends.End.TheVariants.{Arrival, Departure}
+use Rattle.time_windows.specs.declared.ends.End.TheVariants.{Arrival, Departure}
 use Rattle.flight_routes.specs.FitRates.{AreFitRates, IsGiven, LeavesTimeFor, MayArrive, MayLeave, MayStay, WaitsFor}
 use Rattle.flight_routes.specs.FitTimes.{HasSpace, IsFirstFull, IsFreeAt}
 use Rattle.flight_routes.specs.Filling.{IsFitTable}
 use Rattle.flight_routes.specs.PriceRates.{airport_of}
 use Rattle.flight_routes.specs.RateLists.{RateLists, place_of, rates_of}
 use Rattle.flight_routes.specs.TimeCosts.{credit_then, total_then}
-use Rattle.flight_routes.specs.Turns.{turns_in}
+use Rattle.time_windows.specs.Turns.{turns_in}
 use Rattle.flight_routes.specs.TurnTimes.{IsAfter, IsInTime}
-use Rattle.flight_routes.proofs.TurnFacts.{all_turns, turns_all}
+use Rattle.time_windows.proofs.TurnFacts.{all_turns, turns_all}
 
 -- given under one condition, and so under one that is the same
 pub given_same : (given : Option ℤ) (A B : Type 0) (value other : ℤ) → IsGiven given A value

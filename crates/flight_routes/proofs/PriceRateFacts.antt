@@ -13,13 +13,13 @@ use Rattle.flight_routes.specs.RateLists.{RateLists, place_of, rates_of}
 use Rattle.flight_routes.specs.TripRates.{AreTripRates, arriving_cost, leaving_cost}
 use Rattle.flight_routes.proofs.LaterFacts.{summed_join}
 use Rattle.flow_types.specs.declared.parts.Parts.{Parts}
-use Rattle.flight_routes.specs.declared.ends.End.{End}
-use Rattle.flight_routes.specs.declared.ends.End.TheVariants.{Arrival, Departure}
-use Rattle.flight_routes.specs.declared.turns.Turn.{Turn}
+use Rattle.time_windows.specs.declared.ends.End.{End}
+use Rattle.time_windows.specs.declared.ends.End.TheVariants.{Arrival, Departure}
+use Rattle.time_windows.specs.declared.turns.Turn.{Turn}
 use Rattle.flight_routes.specs.Later.{shift_of}
 use Rattle.flight_routes.specs.PriceRates.{arrive_value, arriving_of, end_cost, end_value, leave_value, leaving_of}
 use Rattle.flight_routes.specs.Prices.{PriceTable, price_in, summed, turns_back, turns_paid}
-use Rattle.flight_routes.specs.Turns.{turns_in}
+use Rattle.time_windows.specs.Turns.{turns_in}
 use Rattle.flight_routes.proofs.TurnFacts.{back_by_turns, paid_by_turns}
 
 leave_same : (weight : ℕ) (table : PriceTable) (parts : Parts) (number : ℕ) (flight : Flight)

@@ -1,8 +1,8 @@
 -- What changes in a table of rates, and what stays.
 use Rattle.std.specs.Prelude.{◌≡◌, ◌≢◌, ◌<◌, ℕ, ◌*◌, ◌^◌, IfSome, length, pos, replicate}
 use Rattle.flow_types.specs.Limits.{most_nodes, most_periods}
-use Rattle.flight_routes.specs.declared.ends.End.{End}
-use Rattle.flight_routes.specs.declared.ends.End.TheVariants.{Arrival, Departure}
+use Rattle.time_windows.specs.declared.ends.End.{End}
+use Rattle.time_windows.specs.declared.ends.End.TheVariants.{Arrival, Departure}
 use Rattle.flight_routes.specs.FitTimes.{IsClearAt}
 use Rattle.flight_routes.specs.RateLists.{RateLists, rates_of}
 use Rattle.flight_routes.specs.Rates.{IsValueWithin, rate_at}

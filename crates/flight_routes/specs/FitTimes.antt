@@ -8,8 +8,8 @@ use Rattle.flow_types.specs.declared.place.CapKind.TheVariants as kind
 use Rattle.flow_types.specs.Capacities.{capacity_of}
 use Rattle.plan_rules.specs.Cells.{Tally}
 use Rattle.plan_rules.specs.Loads.{load_at}
-use Rattle.flight_routes.specs.declared.ends.End.{End}
-use Rattle.flight_routes.specs.declared.ends.End.TheVariants.{Arrival, Departure}
+use Rattle.time_windows.specs.declared.ends.End.{End}
+use Rattle.time_windows.specs.declared.ends.End.TheVariants.{Arrival, Departure}
 use Rattle.flight_routes.specs.Ends.{kind_at}
 use Rattle.flight_routes.specs.PriceRates.{airport_of}
 use Rattle.flight_routes.specs.Rates.{IsClear, Rates}

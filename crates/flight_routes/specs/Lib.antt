@@ -18,6 +18,5 @@ pub mod TimeCosts
 pub mod TripOrder
 pub mod TripRates
 pub mod TurnTimes
-pub mod Turns
 pub mod Ways
 pub mod Work

@@ -2,8 +2,8 @@
 use Rattle.std.specs.Prelude.{ℕ, ◌+◌, Option, None, Some, ℤ, pos, ◌-ℤ◌, ◌+ℤ◌, ◌*ℤ◌}
 use Rattle.flow_types.specs.declared.flight.Flight.{Flight}
 use Rattle.flow_types.specs.declared.parts.Parts.{Parts}
-use Rattle.flight_routes.specs.declared.ends.End.{End}
-use Rattle.flight_routes.specs.declared.ends.End.TheVariants.{Arrival, Departure}
+use Rattle.time_windows.specs.declared.ends.End.{End}
+use Rattle.time_windows.specs.declared.ends.End.TheVariants.{Arrival, Departure}
 use Rattle.flight_routes.specs.Ends.{airport_at}
 use Rattle.flight_routes.specs.Prices.{PriceTable, price_in}
 use Rattle.flight_routes.specs.TripRates.{arriving_cost, leaving_cost}

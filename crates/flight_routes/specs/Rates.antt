@@ -5,8 +5,8 @@ use Rattle.flow_types.specs.declared.plan.Stop.{Stop}
 use Rattle.flow_types.specs.Trips.{IsStep}
 use Rattle.time_windows.specs.declared.access.Access.{Access}
 use Rattle.time_windows.specs.Boxes.{IsInWindow}
-use Rattle.flight_routes.specs.declared.ends.End.{End}
-use Rattle.flight_routes.specs.declared.ends.End.TheVariants.{Arrival, Departure}
+use Rattle.time_windows.specs.declared.ends.End.{End}
+use Rattle.time_windows.specs.declared.ends.End.TheVariants.{Arrival, Departure}
 
 -- What leaving and arriving in a period cost, nothing where the flight may not; what being at a
 -- node has cost from period 0 up to a period; and, of a node and a period, the first period from

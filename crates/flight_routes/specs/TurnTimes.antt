@@ -2,7 +2,7 @@
 use Rattle.std.specs.Prelude.{◌≡◌, ℕ, ◌+◌, ◌≤◌, Some}
 use Rattle.plan_rules.specs.Cells.{Tally}
 use Rattle.plan_rules.specs.Loads.{arrival_at, departure_at}
-use Rattle.flight_routes.specs.declared.turns.Turn.{Turn}
+use Rattle.time_windows.specs.declared.turns.Turn.{Turn}
 
 -- there is time for the turnaround after the other flight's arrival
 abbrev pub IsAfter : Tally → ℕ → Turn → Type 0

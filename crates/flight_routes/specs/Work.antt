@@ -2,14 +2,11 @@
 use Rattle.std.specs.Prelude.{◌≡◌, ℕ, List}
 use Rattle.flow_types.specs.declared.parts.Parts.{Parts}
 use Rattle.flow_types.specs.declared.plan.Stop.{Stop}
-use Rattle.flight_routes.specs.Turns.{AreTurnsOf, TurnLists}
 
--- the stops of the last least trip, and what the work was made for
+-- the stops of the last least trip, and how many periods the work was made for
 pub record Worked : Type 0 where
   pub trip : List Stop
   pub periods : ℕ
-  pub turns : TurnLists
 
 pub record IsWorkFor (parts : Parts) (work : Worked) : Type 0 where
   pub periods : work.periods ≡ parts.day.periods
-  pub turns : AreTurnsOf parts work.turns

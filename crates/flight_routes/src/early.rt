@@ -12,11 +12,10 @@ ghost use Rattle.flight_routes.specs.TripOrder.{IsNoLater};
 
 use crate::accesses::window_at;
 use crate::cost::Cost;
-use crate::ends::End;
 use crate::rates::RateTable;
 use crate::table::Table;
 use flow_types::{Flight, MOST_NODES, Stop};
-use time_windows::{Access, Window};
+use time_windows::{Access, End, Window};
 
 // The part of a window from which the flight may still arrive by the period, so many periods on.
 fn cut_window(window: Option<Window>, cap: u16, ahead: u16) -> Option<Window>

@@ -15,17 +15,16 @@ ghost use Rattle.flight_routes.specs.FitTimes.{HasSpace, IsClearAt, IsFirstFull,
 ghost use Rattle.flight_routes.specs.RateLists.{rates_of};
 ghost use Rattle.flight_routes.specs.Rates.{IsValueWithin, rate_at};
 ghost use Rattle.flight_routes.specs.Ready.{AreWindows, row_of};
-ghost use Rattle.flight_routes.specs.Turns.{AreTurnsOf};
+ghost use Rattle.time_windows.specs.Turns.{AreTurnsOf};
 
 use crate::cost::Cost;
-use crate::ends::{End, airport_at, kind_at};
+use crate::ends::{airport_at, kind_at};
 use crate::rates::RateTable;
 use crate::time_costs::{credit_then, last_of, total_then};
 use crate::turn_times::{arrive_limit, first_leave};
-use crate::turns::Turns;
 use flow_types::{CapKind, Flight, MOST_PERIODS, Scenario, place_at};
 use plan_rules::Loads;
-use time_windows::{Access, Window};
+use time_windows::{Access, End, Turns, Window};
 
 // Whether there is room for one more flight.
 fn has_space(s: &Scenario, loads: &Loads, kind: CapKind, place: u32, time: u16) -> bool

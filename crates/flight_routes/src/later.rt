@@ -4,10 +4,9 @@ ghost use Rattle.flow_types.specs.Limits.{most_connections, most_periods};
 ghost use Rattle.flight_routes.specs.Later.{shift_of};
 ghost use Rattle.flight_routes.specs.Prices.{price_in, summed};
 
-use crate::ends::End;
 use crate::prices::Prices;
-use crate::turns::Turn;
 use flow_types::MOST_PERIODS;
+use time_windows::{End, Turn};
 
 /// Sets the sum of each period to what the connections cost from then on: with a departure from the
 /// period itself, with an arrival from the turnaround after it.

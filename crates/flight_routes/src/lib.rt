@@ -20,7 +20,7 @@
 //! serve the proof: `Rates` and `Ways` (what a flight pays on its way, and the least ways on from a
 //! stop), `TripRates` and `FitRates` (the rates at which ways are trips), `Entries` and `Firsts`
 //! (the next stop), `Early` (ways that end early), and `Costs`, `Ends`, `Filling`, `FitTimes`,
-//! `Later`, `PriceRates`, `RateLists`, `Ready`, `TimeCosts`, `Turns` and `TurnTimes`.
+//! `Later`, `PriceRates`, `RateLists`, `Ready`, `TimeCosts` and `TurnTimes`.
 //!
 //! Proved: `least_trip` and `least_fit` answer the least over all trips of the flight in the box,
 //! or over all of those that fit, and nothing exactly where there is none (`least`). `trip` is then
@@ -39,8 +39,7 @@
 //! leaving and arriving do, at the cheapest, as many periods apart as the legs take. While that may
 //! be as little, the table is filled again for twice as many periods, up to all of them.
 //!
-//! Memory: `Work` takes about 0.9 MB once, and 24 bytes a connection and 16 a flight, or up to
-//! twice that, since those lists grow. `Prices` take 24 bytes a place and period, and eight a
+//! Memory: `Work` takes about 0.9 MB once. `Prices` take 24 bytes a place and period, and eight a
 //! connection and period. The calls take none. Time: `least_trip` looks at each sector of the
 //! flight and each of its connections once a period, and at its legs once a node and once a period
 //! between the windows that they join, as far as these are cut, all fillings together at most some
@@ -65,7 +64,6 @@ mod table;
 mod time_costs;
 mod trace;
 mod turn_times;
-mod turns;
 mod work;
 
 pub use prices::Prices;

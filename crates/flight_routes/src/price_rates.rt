@@ -12,17 +12,15 @@ ghost use Rattle.flight_routes.specs.RateLists.{rates_of};
 ghost use Rattle.flight_routes.specs.Rates.{IsValueWithin, rate_at};
 ghost use Rattle.flight_routes.specs.Ready.{AreWindows, row_of};
 ghost use Rattle.flight_routes.specs.TripRates.{AreTripRates};
-ghost use Rattle.flight_routes.specs.Turns.{AreTurnsOf};
+ghost use Rattle.time_windows.specs.Turns.{AreTurnsOf};
 
 use crate::cost::Cost;
-use crate::ends::End;
 use crate::later::add_up_later;
 use crate::prices::Prices;
 use crate::rates::RateTable;
 use crate::time_costs::{credit_then, last_of, total_then};
-use crate::turns::Turns;
 use flow_types::{Flight, Scenario, place_at};
-use time_windows::{Access, Window};
+use time_windows::{Access, End, Turns, Window};
 
 // A weight times a cost.
 fn weighted(weight: u64, cost: Option<i64>) -> Option<i128>

@@ -6,10 +6,10 @@ ghost use Rattle.flight_routes.specs.RateLists.{part_of, place_of};
 ghost use Rattle.flight_routes.specs.Rates.{IsValueWithin};
 
 use crate::cost::Cost;
-use crate::ends::End;
 use flow_types::{MOST_PERIODS, OutOfMemory};
 use std::alloc::Global;
 use std::marker::Model;
+use time_windows::End;
 
 /// As many slots as a day may have periods.
 pub const PERIODS: usize = 512;

@@ -2,8 +2,8 @@
 ghost use Rattle.std.specs.Prelude.{◌≤◌, ◌<◌, ◌^◌, ◌↔◌, ℕ, All, length};
 ghost use Rattle.flight_routes.specs.TurnTimes.{IsAfter, IsInTime};
 
-use crate::turns::Turn;
 use plan_rules::Loads;
+use time_windows::Turn;
 
 /// The first period in which the flight may leave, after the flights that it waits for.
 pub fn first_leave(turns: &[Turn], loads: &Loads) -> u32

@@ -17,19 +17,17 @@ use crate::price_rates::set_price_rates;
 use crate::prices::Prices;
 use crate::rates::RateTable;
 use crate::table::Table;
-use crate::turns::Turns;
 use flow_types::{Flight, MOST_NODES, OutOfMemory, Scenario, Stop};
 use plan_rules::Loads;
 use std::alloc::Global;
 use std::marker::Model;
 use time_windows::{Access, Boxes};
 
-/// The room in which least trips are found, made once for a scenario: 0.9 MB and a few bytes a
-/// flight and connection. Contracts see it as the stops of the last least trip.
+/// The room in which least trips are found, made once for a scenario: 0.9 MB. Contracts see it as
+/// the stops of the last least trip and the periods of the scenario.
 #[derive(Debug, Drop)]
 pub struct Work {
     periods: u16,
-    turns: Turns,
     // The rates of one flight, under prices and beside loads.
     priced: RateTable,
     fitting: RateTable,
@@ -50,11 +48,7 @@ impl Model for Work {
 
     ghost Value = { Worked };
 
-    ghost view = { λ a. record {
-      trip = a.stops.items;
-      periods = a.periods;
-      turns = a.turns;
-    } };
+    ghost view = { λ a. record { trip = a.stops.items; periods = a.periods } };
 
     ghost invariant = { λ a. (a.priced.periods ≡ a.periods) × (a.fitting.periods ≡ a.periods)
         × IsPriceTable a.priced × IsFitTable a.fitting
@@ -85,7 +79,6 @@ impl Work {
         let periods = s.day().periods;
         Ok(Work {
             periods,
-            turns: Turns::new(alloc, s)?,
             priced: RateTable::new(alloc, periods)?,
             fitting: RateTable::new(alloc, periods)?,
             table: Table::new(alloc)?,
@@ -132,7 +125,7 @@ impl Work {
             flight,
             weight,
             prices,
-            &self.turns,
+            boxes.turns(),
         );
         least_way(
             &mut self.table,
@@ -177,7 +170,7 @@ impl Work {
             &self.accesses,
             flight,
             loads,
-            &self.turns,
+            boxes.turns(),
         );
         least_way(
             &mut self.table,

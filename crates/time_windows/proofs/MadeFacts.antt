@@ -9,6 +9,7 @@ use Rattle.time_windows.specs.Boxes.{Box, IsBoxOf, IsWindowWithin, IsWithin, clo
 use Rattle.time_windows.specs.Held.{AreWaysOf, Held, IsMadeFor, box_of}
 use Rattle.time_windows.specs.Splits.{IsBranching, after, early_branch, late_branch, until}
 use Rattle.time_windows.specs.Tight.{IsTightened}
+use Rattle.time_windows.specs.Turns.{AreTurnsOf}
 use Rattle.time_windows.proofs.LawFacts.{changed_cases}
 use Rattle.time_windows.proofs.WindowFacts.{if_lt, within_same, within_then}
 
@@ -117,28 +118,31 @@ same_inside parts box other is inside = record {
 }
 
 pub early_made : (parts : Parts) (old new : Held) (flight node time : ℕ)
-    → IsMadeFor parts old → IsBranching (box_of old flight node) time → new.ways ≡ old.ways
+    → IsMadeFor parts old → IsBranching (box_of old flight node) time → new.ways ≡ old.ways → new.turns ≡ old.turns
     → ((f n : ℕ) → box_of new f n ≡ early_branch flight node time (box_of old) f n)
     → IsMadeFor parts new
-early_made parts old new flight node time made branching ways is = record {
+early_made parts old new flight node time made branching ways turns is = record {
   ways = subst (AreWaysOf parts) (sym ways) made.ways;
+  turns = subst (AreTurnsOf parts) (sym turns) made.turns;
   inside = same_inside parts (early_branch flight node time (box_of old)) (box_of new) is
       (early_inside parts (box_of old) flight node time branching made.inside);
 }
 
 pub late_made : (parts : Parts) (old new : Held) (flight node time : ℕ)
-    → IsMadeFor parts old → IsBranching (box_of old flight node) time → new.ways ≡ old.ways
+    → IsMadeFor parts old → IsBranching (box_of old flight node) time → new.ways ≡ old.ways → new.turns ≡ old.turns
     → ((f n : ℕ) → box_of new f n ≡ late_branch flight node time (box_of old) f n)
     → IsMadeFor parts new
-late_made parts old new flight node time made branching ways is = record {
+late_made parts old new flight node time made branching ways turns is = record {
   ways = subst (AreWaysOf parts) (sym ways) made.ways;
+  turns = subst (AreTurnsOf parts) (sym turns) made.turns;
   inside = same_inside parts (late_branch flight node time (box_of old)) (box_of new) is
       (late_inside parts (box_of old) flight node time branching made.inside);
 }
 
 pub tight_made : (parts : Parts) (old new : Held) → IsMadeFor parts old → new.ways ≡ old.ways
-    → IsTightened parts (box_of old) (box_of new) → IsMadeFor parts new
-tight_made parts old new made ways tight = record {
+    → new.turns ≡ old.turns → IsTightened parts (box_of old) (box_of new) → IsMadeFor parts new
+tight_made parts old new made ways turns tight = record {
   ways = subst (AreWaysOf parts) (sym ways) made.ways;
+  turns = subst (AreTurnsOf parts) (sym turns) made.turns;
   inside = within_inside parts (box_of old) (box_of new) tight.within made.inside;
 }

@@ -8,11 +8,14 @@ use Rattle.flow_types.specs.Limits.{most_nodes}
 use Rattle.time_windows.specs.declared.access.Access.{Access}
 use Rattle.time_windows.specs.Boxes.{Box, IsBoxOf, closed}
 use Rattle.time_windows.specs.Groups.{Grouped}
+use Rattle.time_windows.specs.Turns.{AreTurnsOf, TurnLists}
 
--- the accesses, and the legs grouped by flight and start, both by flight and then by node
+-- the accesses, and the legs grouped by flight and start, both by flight and then by node; and the
+-- connections of each flight
 pub record Held : Type 0 where
   pub accesses : List Access
   pub ways : Grouped Leg
+  pub turns : TurnLists
 
 -- the box of a list with so many places a flight; where it has none, a node is closed
 abbrev pub access_at : List Access → Box
@@ -29,8 +32,9 @@ AreWaysOf parts ways = (f n : ℕ) (flight : Flight) → slice_get parts.flights
     → n < most_nodes
     → get_or ways.closed (f * most_nodes + n) [] ≡ filter (λ leg. leg.from == n) flight.legs
 
--- The boxes are of the scenario: the groups are those of its flights, and the box lies within its
--- root box.
+-- The boxes are of the scenario: the groups are those of its flights and connections, and the box
+-- lies within its root box.
 pub record IsMadeFor (parts : Parts) (held : Held) : Type 0 where
   pub ways : AreWaysOf parts held.ways
+  pub turns : AreTurnsOf parts held.turns
   pub inside : IsBoxOf parts (box_of held)

@@ -1,7 +1,10 @@
 pub mod Boxes
+pub mod Ends
 pub mod Groups
 pub mod Held
 pub mod Narrowing
 pub mod Splits
 pub mod Steps
 pub mod Tight
+pub mod Turns
+pub mod Waiting

@@ -1,5 +1,5 @@
 -- What each step of the tightening keeps. No public clause cites these.
-use Rattle.std.specs.Prelude.{◌≡◌, ◌≢◌, ℕ, ◌+◌, ◌*◌, ◌^◌, ◌<◌, ◌≤◌, Bool, true, false, List, [], get_or, length, Option, None, Some, slice_get, slice_index, All, sum_by}
+use Rattle.std.specs.Prelude.{◌≡◌, ◌≢◌, ◌⊎◌, ℕ, ◌+◌, ◌*◌, ◌^◌, ◌<◌, ◌≤◌, List, [], get_or, length, Option, None, Some, slice_get, slice_index, All, sum_by}
 use Rattle.std.specs.List.{Any}
 use Rattle.flow_types.specs.declared.flight.Connection.{Connection}
 use Rattle.flow_types.specs.declared.flight.Flight.{Flight}
@@ -13,7 +13,8 @@ use Rattle.time_windows.specs.Boxes.{Box, IsWindowWithin, IsWithin, width_of}
 use Rattle.time_windows.specs.Groups.{Grouped}
 use Rattle.time_windows.specs.Held.{access_at}
 use Rattle.time_windows.specs.Steps.{below_limit, entry_of, from_entry, legs_of, limit_of, never}
-use Rattle.time_windows.specs.Tight.{IsTight, IsTightRow, IsWayIn, IsWayOut, last_of}
+use Rattle.time_windows.specs.Tight.{IsTight, IsTightRow, IsTightTurn, IsWayIn, IsWayOut, last_of}
+use Rattle.time_windows.specs.Waiting.{Waits}
 
 -- proper, and within 16 bits
 abbrev pub IsSound : Option Window → Type 0
@@ -34,6 +35,10 @@ pub record IsSetAt (flight node : ℕ) (window : Option Window) (old new : List 
   pub others : (f n : ℕ) → (f ≡ flight → n ≡ node → ⊥) → access_at new f n ≡ access_at old f n
   pub total : total_width new + width_of (access_at old flight node).window
       ≡ total_width old + width_of window
+
+-- only flights of the scenario wait
+abbrev pub AreWaiting : Parts → List ℕ → Type 0
+AreWaiting parts words = (f : ℕ) → Waits words f → f < length parts.flights
 
 -- no wider, with every box kept that is good
 pub record Narrows (Good : Box → Type 0) (old new : List Access) : Type 0 where
@@ -92,12 +97,15 @@ abbrev pub AreTightRows : Parts → List Access → Type 0
 AreTightRows parts accesses = (f : ℕ) (flight : Flight) → slice_get parts.flights f ≡ Some flight
     → IsTightRow flight (access_at accesses f)
 
--- no wider, with every tight box kept, and less wide where something moved
-pub record IsStep (parts : Parts) (old new : List Access) (moved : Bool) : Type 0 where
+-- No wider, with every tight box kept. Each flight waits now or is as it was; those that wait wait
+-- on, and are flights; and where others do, the windows are less wide.
+pub record IsStep (parts : Parts) (old new : List Access) (before now : List ℕ) : Type 0 where
   pub narrows : Narrows (IsTight parts) old new
   pub rows : AreTightRows parts old → AreTightRows parts new
-  pub still : moved ≡ false → new ≡ old
-  pub less : moved ≡ true → total_width new < total_width old
+  pub moved : (f : ℕ) → Waits now f ⊎ ((n : ℕ) → access_at new f n ≡ access_at old f n)
+  pub grown : (f : ℕ) → Waits before f → Waits now f
+  pub there : AreWaiting parts before → AreWaiting parts now
+  pub less : (now ≡ before) ⊎ (total_width new < total_width old)
 
 -- the ends of a connection, and what it leaves of them
 abbrev pub arrives_at : Parts → Box → Connection → Option Window
@@ -120,6 +128,12 @@ IsLowered parts box connection =
     below_limit (arrives_at parts box connection)
     (limit_of (leaves_at box connection) connection.turnaround)
     ≡ arrives_at parts box connection
+
+-- the connection leaves time for the turnaround, or one of its flights waits
+abbrev pub IsDone : Parts → List Access → List ℕ → Connection → Type 0
+IsDone parts accesses words connection =
+    IsTightTurn parts (access_at accesses) connection
+    ⊎ (Waits words connection.first ⊎ Waits words connection.second)
 
 -- the windows of one flight have ways in and out now, and nothing else is changed
 pub record IsSettled (parts : Parts) (number : ℕ) (old new : List Access) : Type 0 where

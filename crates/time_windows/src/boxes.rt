@@ -3,11 +3,12 @@ ghost use Rattle.std.specs.Prelude.{◌≡◌};
 
 use crate::access::{Access, Window};
 use crate::cells::access_at;
+use crate::connections::tighten_all;
 use crate::groups::Groups;
 use crate::marks::{first_closed, has_closed_must, have_one_option, options_of};
 use crate::root::root_access;
 use crate::tightening::Tight;
-use crate::turns::tighten_all;
+use crate::turns::Turns;
 use crate::ways::{legs_from, ways_of};
 use crate::windows::{after, until};
 use flow_types::{Leg, MOST_NODES, OutOfMemory, Scenario};
@@ -15,12 +16,14 @@ use std::alloc::Global;
 use std::marker::Model;
 
 /// A box of plans of the scenario that it was made for. Contracts see it as a `Box`: what each node
-/// of each flight may do. It takes 16 bytes for each of 32 nodes a flight, and the flights' legs.
+/// of each flight may do. It takes 16 bytes for each of 32 nodes a flight, and a copy of the
+/// flights' legs and connections.
 #[derive(Debug, Drop)]
 pub struct Boxes {
     // 32 a flight, and as many groups.
     accesses: Vec<Access>,
     ways: Groups<Leg>,
+    turns: Turns,
 }
 
 impl Model for Boxes {
@@ -30,7 +33,11 @@ impl Model for Boxes {
 
     ghost use Rattle.time_windows.specs.Narrowing.{AreAccesses};
 
-    ghost view = { λ b. record { accesses = b.accesses.items; ways = b.ways } };
+    ghost view = { λ b. record {
+      accesses = b.accesses.items;
+      ways = b.ways;
+      turns = b.turns;
+    } };
 
     ghost invariant = { λ b. AreAccesses b.accesses.items };
 }
@@ -63,6 +70,7 @@ impl Boxes {
         Ok(Boxes {
             accesses,
             ways: ways_of(alloc, s)?,
+            turns: Turns::new(alloc, s)?,
         })
     }
 
@@ -73,6 +81,7 @@ impl Boxes {
         Ok(Boxes {
             accesses: Vec::from_slice(alloc, &self.accesses)?,
             ways: self.ways.copy(alloc)?,
+            turns: self.turns.copy(alloc)?,
         })
     }
 
@@ -130,6 +139,13 @@ impl Boxes {
         legs_from(&self.ways, flight, node)
     }
 
+    /// The connections of each flight of the scenario.
+    pub fn turns(&self) -> &Turns
+        ensures { result.now ≡ self.now.turns }
+    {
+        &self.turns
+    }
+
     /// Leaves the early side of a split: the flight enters the node, by the period.
     pub fn narrow_by(&mut self, flight: u32, node: u16, time: u16)
         requires { IsBranching (box_of self.old flight node) time }
@@ -162,7 +178,7 @@ impl Boxes {
     /// that must be entered is closed then.
     ///
     /// It goes over the legs of each flight once forward and once back, then over the connections
-    /// and the flights whose ends one of them has moved, until none moves any more.
+    /// of each flight, and again over those of the flights whose ends one of them has moved.
     #[tactic(auto, using(crate::proofs::MadeFacts::tight_made))]
     pub fn tighten(&mut self, s: &Scenario) -> Tight
         requires { IsMadeFor (parts_of s.now) self.old }
@@ -174,7 +190,7 @@ impl Boxes {
             → All (KeepsTurn plan) (parts_of s.now).connections
             → IsInBox (box_of self.old) plan → IsInBox (box_of self.new) plan }
     {
-        tighten_all(&mut self.accesses, &self.ways, s);
+        tighten_all(&mut self.accesses, &self.ways, &self.turns, s);
         first_closed(&self.accesses)
     }
 }

@@ -18,8 +18,8 @@
 //!
 //! The definitions stand in `specs/`: `Boxes` (a box, the root box, and what it is for a trip or a
 //! plan to be in one), `Tight` (what a tight box is), `Splits` (the sides of a split), `Groups`
-//! (lists of items in one block) and `Held` (what `Boxes` holds). `Steps` and `Narrowing` serve the
-//! proof of `tighten` alone.
+//! (lists of items in one block), `Turns` with `Ends` (the connections of each flight) and `Held`
+//! (what `Boxes` holds). `Steps`, `Narrowing` and `Waiting` serve the proof of `tighten` alone.
 //!
 //! Proved: `tighten` leaves the widest tight box within (`tight`), loses no plan that keeps the
 //! turnarounds (`kept`), and tells the first node that must be entered and is closed (`told`). The
@@ -27,16 +27,19 @@
 //! two sides of a split, and in one alone (`splits_share_out_plans`). What was made for a scenario
 //! stays so, within its root box, where it is narrowed or tightened (`made`).
 //!
-//! Memory: 16 bytes for each of 32 nodes a flight, and a copy of the legs. In a root box the legs
-//! and half of the rest may take up to twice that, since the lists of legs grow there. `tighten`,
-//! the splits and the look-ups take none. Time: `tighten` goes over the legs of each flight twice,
-//! and then over the connections, and over the legs of each flight whose end one of them has moved,
-//! until none moves any more.
+//! Memory: 16 bytes for each of 32 nodes a flight, a copy of the legs, and 24 bytes a connection
+//! and 16 a flight. In a root box what is of the legs and the connections may take up to twice
+//! that, since those lists grow there. `tighten`, the splits and the look-ups take none. Time:
+//! `tighten` goes over the legs of each flight twice, and over its connections; and again over both
+//! as often as a connection has moved one of its windows, which is at most once for each period of
+//! its ends.
 #![tactic(auto)]
 
 mod access;
 mod boxes;
 mod cells;
+mod connections;
+mod ends;
 mod groups;
 mod laws;
 mod marks;
@@ -44,11 +47,14 @@ mod root;
 mod rows;
 mod tightening;
 mod turns;
+mod waiting;
 mod ways;
 mod windows;
 
 pub use access::{Access, Window};
 pub use boxes::Boxes;
+pub use ends::End;
 pub use groups::Groups;
 pub use laws::{splits_share_out_plans, trips_are_in_the_root_box};
 pub use tightening::Tight;
+pub use turns::{Turn, Turns};

@@ -1,154 +1,153 @@
-//! Tightening the ends of connections.
-ghost use Rattle.std.specs.Prelude.{◌≡◌, ◌<◌, false, length, slice_get, All};
-ghost use Rattle.flow_types.specs.Limits.{most_nodes};
+//! The connections of each flight.
+ghost use Rattle.std.specs.Prelude.{◌≡◌, ◌++◌, ◌^◌, ◌<◌, ℕ, [], All, IfOk, OnOk, get_or, length, slice_index};
 ghost use Rattle.flow_types.specs.Scenario.{parts_of};
-ghost use Rattle.std.specs.List.{Contains};
-ghost use Rattle.time_windows.specs.Boxes.{IsWindowWithin};
-ghost use Rattle.time_windows.specs.Held.{AreWaysOf, access_at};
-ghost use Rattle.time_windows.specs.Narrowing.{AreSound, AreTightRows, IsLowered, IsRaised, IsSound, IsStep, KeepsAt, Narrows};
-ghost use Rattle.time_windows.specs.Tight.{IsTight, IsTightTurn, IsTightened, last_of};
+ghost use Rattle.time_windows.specs.Ends.{flight_at};
+ghost use Rattle.time_windows.specs.Turns.{AreLinks, AreTurnsAt, AreTurnsOf, turns_in, turns_of};
 
-use crate::access::{Access, Window};
-use crate::cells::{set_window, window_at};
+use crate::ends::{End, flight_at, other_at};
 use crate::groups::Groups;
-use crate::rows::{settle, settle_flights};
-use crate::windows::{below_limit, entry_of, from_entry, limit_of, width_of};
-use flow_types::{Connection, Leg, Scenario};
+use flow_types::{Connection, OutOfMemory, Scenario};
+use std::alloc::Global;
+use std::marker::Model;
 
-/// Narrows the windows to the widest ones that are tight: those of each flight once, and then the
-/// ends of connections until none moves any more.
-pub fn tighten_all(accesses: &mut [Access], ways: &Groups<Leg>, s: &Scenario)
-    requires ways { AreWaysOf (parts_of s.now) ways.now }
-    requires sound { AreSound accesses.old }
-    ensures sound { AreSound accesses.new }
-    ensures tight { IsTightened (parts_of s.now) (access_at accesses.old)
-        (access_at accesses.new) }
-{
-    settle_flights(accesses, ways, s);
-    settle_connections(accesses, ways, s);
+/// A connection as one of its flights sees it.
+#[derive(Clone, Copy, Debug, PartialEq, Eq)]
+pub struct Turn {
+    /// Its position in the list of connections.
+    pub connection: u32,
+    /// The other flight.
+    pub other: u32,
+    pub turnaround: u16,
 }
 
-// Goes over the connections until none moves a window.
-fn settle_connections(accesses: &mut [Access], ways: &Groups<Leg>, s: &Scenario)
-    requires ways { AreWaysOf (parts_of s.now) ways.now }
-    requires sound { AreSound accesses.old }
-    requires rows { AreTightRows (parts_of s.now) accesses.old }
-    ensures narrows { Narrows (IsTight (parts_of s.now)) accesses.old accesses.new }
-    ensures tight { IsTight (parts_of s.now) (access_at accesses.new) }
-{
-    while settle_turns(accesses, ways, s) {}
+/// The connections of all flights, by flight: 24 bytes a connection, and 16 a flight.
+#[derive(Debug, Drop)]
+pub struct Turns {
+    departures: Groups<Turn>,
+    arrivals: Groups<Turn>,
 }
 
-// Goes over the connections once forward, for the flights that leave, and once back, for those
-// that arrive. Tells whether a window moved.
-fn settle_turns(accesses: &mut [Access], ways: &Groups<Leg>, s: &Scenario) -> bool
-    requires ways { AreWaysOf (parts_of s.now) ways.now }
-    requires sound { AreSound accesses.old }
-    ensures step { IsStep (parts_of s.now) accesses.old accesses.new result }
-    ensures turns { result ≡ false
-        → All (IsTightTurn (parts_of s.now) (access_at accesses.new)) (parts_of s.now).connections }
-{
-    let raised = raise_turns(accesses, ways, s);
-    let lowered = lower_turns(accesses, ways, s);
-    raised | lowered
+impl Model for Turns {
+    ghost use Rattle.time_windows.specs.Turns.{TurnLists};
+
+    ghost Value = { TurnLists };
+
+    ghost view = { λ a. record { departures = a.departures; arrivals = a.arrivals } };
 }
 
-// Raises the windows in which the second flights leave.
-fn raise_turns(accesses: &mut [Access], ways: &Groups<Leg>, s: &Scenario) -> bool
-    requires ways { AreWaysOf (parts_of s.now) ways.now }
-    requires sound { AreSound accesses.old }
-    ensures step { IsStep (parts_of s.now) accesses.old accesses.new result }
-    ensures raised { result ≡ false
-        → All (IsRaised (parts_of s.now) (access_at accesses.new)) (parts_of s.now).connections }
-{
-    let mut moved = false;
-    for k in 0..s.connections().len() {
-        moved |= raise_turn(accesses, ways, s, s.connections()[k]);
+impl Turns {
+    /// The connections of the scenario's flights. While it runs it takes 8 bytes more a connection
+    /// and a flight.
+    pub fn new(alloc: Global, s: &Scenario) -> Result<Turns, OutOfMemory>
+        ensures { IfOk result (AreTurnsOf (parts_of s.now)) }
+    {
+        Ok(Turns {
+            departures: turns_at(alloc, s, End::Departure)?,
+            arrivals: turns_at(alloc, s, End::Arrival)?,
+        })
     }
-    moved
-}
 
-// Lowers the windows in which the first flights arrive.
-fn lower_turns(accesses: &mut [Access], ways: &Groups<Leg>, s: &Scenario) -> bool
-    requires ways { AreWaysOf (parts_of s.now) ways.now }
-    requires sound { AreSound accesses.old }
-    ensures step { IsStep (parts_of s.now) accesses.old accesses.new result }
-    ensures lowered { result ≡ false
-        → All (IsLowered (parts_of s.now) (access_at accesses.new)) (parts_of s.now).connections }
-{
-    let mut moved = false;
-    for k in (0..s.connections().len()).rev() {
-        moved |= lower_turn(accesses, ways, s, s.connections()[k]);
+    /// A second block with the same connections.
+    pub fn copy(&self, alloc: Global) -> Result<Turns, OutOfMemory>
+        ensures { IfOk result (λ turns. turns ≡ self.now) }
+    {
+        Ok(Turns {
+            departures: self.departures.copy(alloc)?,
+            arrivals: self.arrivals.copy(alloc)?,
+        })
     }
-    moved
-}
 
-// Raises the window in which the second flight leaves, and tells whether it moved.
-#[tactic(auto, using(crate::proofs::TurnFacts::raise_kept, crate::proofs::TurnFacts::step_none))]
-fn raise_turn(accesses: &mut [Access], ways: &Groups<Leg>, s: &Scenario, turn: Connection) -> bool
-    requires turn { Contains (parts_of s.now).connections turn }
-    requires ways { AreWaysOf (parts_of s.now) ways.now }
-    requires sound { AreSound accesses.old }
-    ensures step { IsStep (parts_of s.now) accesses.old accesses.new result }
-    ensures raised { result ≡ false
-        → IsRaised (parts_of s.now) (access_at accesses.new) turn }
-{
-    let arrives = window_at(accesses, turn.first, last_of(s, turn.first));
-    let leaves = window_at(accesses, turn.second, 0);
-    let window = from_entry(leaves, entry_of(arrives, turn.turnaround));
-    move_to(accesses, ways, s, turn.second, 0, window)
-}
-
-// Lowers the window in which the first flight arrives, and tells whether it moved.
-#[tactic(auto, using(crate::proofs::TurnFacts::lower_kept, crate::proofs::TurnFacts::step_none))]
-fn lower_turn(accesses: &mut [Access], ways: &Groups<Leg>, s: &Scenario, turn: Connection) -> bool
-    requires turn { Contains (parts_of s.now).connections turn }
-    requires ways { AreWaysOf (parts_of s.now) ways.now }
-    requires sound { AreSound accesses.old }
-    ensures step { IsStep (parts_of s.now) accesses.old accesses.new result }
-    ensures lowered { result ≡ false
-        → IsLowered (parts_of s.now) (access_at accesses.new) turn }
-{
-    let last = last_of(s, turn.first);
-    let arrives = window_at(accesses, turn.first, last);
-    let leaves = window_at(accesses, turn.second, 0);
-    let window = below_limit(arrives, limit_of(leaves, turn.turnaround));
-    move_to(accesses, ways, s, turn.first, last, window)
-}
-
-// The last node of the flight.
-fn last_of(s: &Scenario, flight: u32) -> u16
-    requires { flight < length (parts_of s.now).flights }
-    ensures last { result ≡ last_of (slice_get (parts_of s.now).flights flight) }
-    ensures node { result < most_nodes }
-{
-    (s.flights()[flight as usize].nodes.items().len() - 1) as u16
-}
-
-// Narrows the window of the flight's node, and settles the flight, where that is another window.
-// Tells whether it is.
-fn move_to(
-    accesses: &mut [Access],
-    ways: &Groups<Leg>,
-    s: &Scenario,
-    flight: u32,
-    node: u16,
-    window: Option<Window>,
-) -> bool
-    requires flight { flight < length (parts_of s.now).flights }
-    requires node { node < most_nodes }
-    requires ways { AreWaysOf (parts_of s.now) ways.now }
-    requires sound { AreSound accesses.old }
-    requires within { IsWindowWithin window (access_at accesses.old flight node).window }
-    requires proper { IsSound window }
-    requires kept { KeepsAt (parts_of s.now) flight node window accesses.old }
-    ensures step { IsStep (parts_of s.now) accesses.old accesses.new result }
-    ensures still { result ≡ false → window ≡ (access_at accesses.new flight node).window }
-{
-    if width_of(window) == width_of(window_at(accesses, flight, node)) {
-        return false;
+    /// Those that the flight has at this end of its trip.
+    pub fn of_flight(&self, flight: u32, end: End) -> &[Turn]
+        ensures { result.now ≡ get_or (turns_of end self.now).closed flight [] }
+    {
+        match end {
+            End::Departure => self.departures.group(flight as usize),
+            End::Arrival => self.arrivals.group(flight as usize),
+        }
     }
-    set_window(accesses, flight, node, window);
-    settle(accesses, ways, s, flight);
-    true
+}
+
+// The connections with each flight at this end.
+fn turns_at(alloc: Global, s: &Scenario, end: End) -> Result<Groups<Turn>, OutOfMemory>
+    ensures { IfOk result (AreTurnsAt end (parts_of s.now)) }
+{
+    let connections = s.connections();
+    let none = connections.len() as u32;
+    let mut firsts = vec![in alloc; none; s.flights().len()]?;
+    let mut nexts = vec![in alloc; none; connections.len()]?;
+    link(connections, end, &mut firsts, &mut nexts);
+    turns_by(alloc, connections, end, &firsts, &nexts)
+}
+
+// Sets for each flight its first connection, and for each connection the next one of its flight,
+// where there is one.
+fn link(connections: &[Connection], end: End, firsts: &mut [u32], nexts: &mut [u32])
+    requires few { length connections.now < 2 ^ 32 }
+    requires flights { All (λ connection. flight_at end connection < length firsts.old)
+        connections.now }
+    requires firsts { (number : ℕ) → number < length firsts.old
+        → slice_index firsts.old number ≡ length connections.now }
+    requires nexts { length nexts.old ≡ length connections.now }
+    ensures links { AreLinks end connections.now 0 firsts.new nexts.new }
+    ensures firsts { length firsts.new ≡ length firsts.old }
+    ensures nexts { length nexts.new ≡ length nexts.old }
+{
+    for k in (0..connections.len()).rev() {
+        let flight = flight_at(end, connections[k]) as usize;
+        nexts[k] = firsts[flight];
+        firsts[flight] = k as u32;
+    }
+}
+
+// The connections of each flight, one after the other.
+fn turns_by(
+    alloc: Global,
+    connections: &[Connection],
+    end: End,
+    firsts: &[u32],
+    nexts: &[u32],
+) -> Result<Groups<Turn>, OutOfMemory>
+    requires few { length connections.now < 2 ^ 32 }
+    requires nexts { length nexts.now ≡ length connections.now }
+    requires links { AreLinks end connections.now 0 firsts.now nexts.now }
+    ensures { IfOk result (λ turns. (number : ℕ) → number < length firsts.now
+        → get_or turns.closed number [] ≡ turns_in end number 0 connections.now) }
+{
+    let mut groups = Groups::new(alloc);
+    for flight in 0..firsts.len() {
+        add_turns(&mut groups, connections, end, flight, firsts, nexts)?;
+        groups.close()?;
+    }
+    Ok(groups)
+}
+
+// Adds the connections of a flight, from its first one on.
+fn add_turns(
+    groups: &mut Groups<Turn>,
+    connections: &[Connection],
+    end: End,
+    flight: usize,
+    firsts: &[u32],
+    nexts: &[u32],
+) -> Result<(), OutOfMemory>
+    requires few { length connections.now < 2 ^ 32 }
+    requires nexts { length nexts.now ≡ length connections.now }
+    requires links { AreLinks end connections.now 0 firsts.now nexts.now }
+    requires flight { flight < length firsts.now }
+    ensures closed { groups.new.closed ≡ groups.old.closed }
+    ensures added { OnOk result
+        (groups.new.pending ≡ groups.old.pending ++ turns_in end flight 0 connections.now) }
+{
+    let mut at = firsts[flight];
+    while (at as usize) < connections.len() {
+        let connection = connections[at as usize];
+        groups.add(Turn {
+            connection: at,
+            other: other_at(end, connection),
+            turnaround: connection.turnaround,
+        })?;
+        at = nexts[at as usize];
+    }
+    Ok(())
 }

@@ -3,8 +3,8 @@ use Rattle.std.proofs.lemmas.Option.{get_or_from_slice_get}
 use Rattle.flow_types.specs.declared.flight.Flight.{Flight}
 use Rattle.flow_types.specs.Scenario.{flight_at, parts_of}
 use Rattle.flow_types.specs.Trips.{place_at}
-use Rattle.flight_routes.specs.declared.ends.End.TheVariants.{Arrival, Departure}
-use Rattle.flight_routes.specs.declared.turns.Turn.{Turn}
+use Rattle.time_windows.specs.declared.ends.End.TheVariants.{Arrival, Departure}
+use Rattle.time_windows.specs.declared.turns.Turn.{Turn}
 use Rattle.flight_routes.specs.FitRates.{IsGiven}
 use Rattle.flight_routes.specs.FitTimes.{IsFirstFull, IsFreeAt}
 use Rattle.flight_routes.specs.RateLists.{rates_of}
@@ -12,7 +12,7 @@ use Rattle.flight_routes.specs.Ready.{row_of}
 use Rattle.flight_routes.specs.TimeCosts.{credit_then, total_then}
 use Rattle.flight_routes.specs.TurnTimes.{IsAfter, IsInTime}
 use Rattle.flight_routes.proofs.LoadRateFacts.{fit_rates}
-use Rattle.flight_routes.proofs.TurnFacts.{others_there}
+use Rattle.time_windows.proofs.TurnFacts.{others_there}
 use Rattle.flight_routes.proofs.fit_rates.set_fit_rates.Goals as goal
 
 pub first_leave-first-requires : goal.first_leave-first-requires

@@ -1,9 +1,9 @@
 use Rattle.std.proofs.Common.{◌<◌, ◌∙◌, Some, All, length, ap, subst, sym, arith}
 use Rattle.flow_types.specs.declared.day.Day.{Day}
 use Rattle.flow_types.specs.Scenario.{parts_of}
-use Rattle.flight_routes.specs.declared.turns.Turn.{Turn}
+use Rattle.time_windows.specs.declared.turns.Turn.{Turn}
 use Rattle.flight_routes.proofs.PriceRateFacts.{end_told}
-use Rattle.flight_routes.proofs.TurnFacts.{turns_at_end, turns_few, turns_there}
+use Rattle.time_windows.proofs.TurnFacts.{turns_at_end, turns_few, turns_there}
 use Rattle.flight_routes.proofs.price_rates.set_end_rates.Goals as goal
 
 pub add_up_later-requires-clause-turns : goal.add_up_later-requires-clause-turns

@@ -1,7 +1,7 @@
 use Rattle.std.proofs.Common.{length, ap, arith}
 use Rattle.std.proofs.lemmas.Option.{slice_get_within}
 use Rattle.flow_types.specs.Scenario.{parts_of}
-use Rattle.time_windows.proofs.TurnFacts.{rows_more}
+use Rattle.time_windows.proofs.ConnectionFacts.{rows_more}
 use Rattle.time_windows.proofs.rows.settle_flights.Goals as goal
 
 pub loop-number-preserved : goal.loop-number-preserved

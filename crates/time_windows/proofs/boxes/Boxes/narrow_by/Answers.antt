@@ -9,4 +9,4 @@ returns-clause-branch c = λ f n. grind (arith, common_steps)
 pub returns-clause-made : goal.returns-clause-made
 returns-clause-made c = λ parts made.
     early_made parts c.args.self.now _ c.args.flight c.args.node c.args.time made c.requires
-    (search rules) (returns-clause-branch c)
+    (search rules) (search rules) (returns-clause-branch c)

@@ -43,6 +43,7 @@ returns-clause-root c =
 pub returns-clause-made : goal.returns-clause-made
 returns-clause-made c = record {
   ways = c.in_ok-ways_of.ensures;
+  turns = c.in_ok-new.ensures;
   inside = root_inside (parts_of c.args.s.now) (access_at c.loop-cell.accesses.items)
       (root_all (parts_of c.args.s.now) c.loop-cell.accesses.items c.loop-cell.cell
       c.args.s.now.valid

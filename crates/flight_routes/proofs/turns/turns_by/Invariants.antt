@@ -1,9 +1,0 @@
-use Rattle.std.proofs.Common.{◌≡◌, ℕ, ◌<◌, [], get_or, length}
-use Rattle.flight_routes.specs.Turns.{turns_in}
-use Rattle.flight_routes.proofs.turns.turns_by.Given as goal
-
-abbrev pub invariant-loop-flight : goal.invariant-loop-flight
-invariant-loop-flight l =
-    (l.groups.pending ≡ []) × (length l.groups.closed ≡ l.flight)
-    × ((number : ℕ) → number < l.flight
-    → get_or l.groups.closed number [] ≡ turns_in l.end number 0 l.connections)
