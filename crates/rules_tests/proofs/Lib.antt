@@ -1,2 +1,3 @@
 mod BrokenCases
 mod WorkedChoice
+mod WorkedPrices
