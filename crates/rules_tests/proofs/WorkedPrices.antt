@@ -115,7 +115,7 @@ departs_at_it = refl
 departs_after : second_pays on_turns (trip_at 5 7) ≡ pos 2
 departs_after = refl
 
--- And the first one is paid it back where it arrives so early that a period of turnaround is over.
+-- The first one gets it back where it arrives a period of turnaround before then, or earlier.
 arrives_early : first_pays on_turns (trip_at 0 2) ≡ neg_ℤ (pos 4)
 arrives_early = refl
 
