@@ -1,2 +1,4 @@
 mod BrokenCases
+mod WorkedBoxes
 mod WorkedChoice
+mod WorkedPrices

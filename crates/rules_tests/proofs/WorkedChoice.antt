@@ -6,7 +6,6 @@ use Rattle.std.specs.List.{Any}
 use Rattle.std.proofs.lemmas.Int.{ints}
 use Rattle.exact_sums.specs.Leasts.{IsFirstLeast}
 use Rattle.exact_sums.proofs.ShortLists.{all_three}
-use Rattle.flow_types.specs.declared.flight.Cost.TheVariants.{Linear}
 use Rattle.flow_types.specs.declared.flight.Flight.{Flight}
 use Rattle.flow_types.specs.declared.flight.Leg.{Leg}
 use Rattle.flow_types.specs.declared.parts.Parts.{Parts}
@@ -19,24 +18,18 @@ use Rattle.time_windows.specs.Boxes.{IsInWindow, closed, root_box}
 use Rattle.time_windows.specs.declared.access.Access.{Access}
 use Rattle.time_windows.proofs.WindowFacts.{if_lt}
 use Rattle.time_windows.proofs.AnyFacts.{any_cases, any_none}
-use Rattle.worked_days.specs.Days.{airport_with, day, sector_with, stop_at}
+use Rattle.worked_days.specs.Days.{airport_with, day, sector_with, stop_at, there}
 
 abbrev leg_with : ℕ → ℕ → ℕ → Leg
 leg_with from to least = record { from = from; to = to; least = least }
 
 -- It departs in period 0 and arrives in period 2, by way of either sector, with no time to lose.
 abbrev flight : Flight
-flight = record {
-  name = codes "F1";
-  from = 0;
-  to = 1;
-  sd = 0;
-  sa = 2;
+flight = record there {
   mg = 0;
   md = 0;
   nodes = 0 ∷ 2 ∷ 3 ∷ 1 ∷ [];
   legs = leg_with 0 1 0 ∷ leg_with 1 3 2 ∷ leg_with 0 2 0 ∷ leg_with 2 3 2 ∷ [];
-  cost = Linear 1 2;
 }
 
 abbrev parts : Parts

@@ -18,4 +18,3 @@ pub mod TripFacts
 pub mod PlanFacts
 pub mod LawFacts
 pub mod MadeFacts
-pub mod WorkedBoxes

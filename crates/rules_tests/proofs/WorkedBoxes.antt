@@ -1,8 +1,6 @@
 -- Boxes of a flight through one sector, worked out.
 use Rattle.std.proofs.Common.{◌≡◌, ℕ, zero, suc, ◌+◌, ◌<◌, Bool, true, false, [], ◌∷◌, Option, None, Some, inl, inr, refl, subst, arith}
-use Rattle.std.specs.Prelude.{codes}
 use Rattle.std.specs.List.{Any}
-use Rattle.flow_types.specs.declared.flight.Cost.TheVariants.{Linear}
 use Rattle.flow_types.specs.declared.flight.Flight.{Flight}
 use Rattle.flow_types.specs.declared.flight.Leg.{Leg}
 use Rattle.time_windows.specs.declared.access.Access.{Access}
@@ -12,6 +10,7 @@ use Rattle.time_windows.specs.Splits.{IsBranching, early_branch, late_branch}
 use Rattle.time_windows.specs.Steps.{below_limit, entry_of, from_entry, limit_of}
 use Rattle.time_windows.specs.Tight.{IsTightRow, IsWayIn, IsWayOut, KeepsEnds}
 use Rattle.time_windows.proofs.AnyFacts.{any_cases, any_here, any_none, any_there}
+use Rattle.worked_days.specs.Days.{there}
 
 -- It departs in 0 to 2 and arrives in 5 to 7; its legs take 1 and 3 periods.
 abbrev leg_in : Leg
@@ -21,18 +20,7 @@ abbrev leg_out : Leg
 leg_out = record { from = 1; to = 2; least = 3 }
 
 abbrev flight : Flight
-flight = record {
-  name = codes "F1";
-  from = 0;
-  to = 1;
-  sd = 0;
-  sa = 5;
-  mg = 2;
-  md = 4;
-  nodes = 0 ∷ 2 ∷ 1 ∷ [];
-  legs = leg_in ∷ leg_out ∷ [];
-  cost = Linear 1 2;
-}
+flight = record there { sa = 5; mg = 2; md = 4; legs = leg_in ∷ leg_out ∷ [] }
 
 abbrev open_at : ℕ → ℕ → Bool → Access
 open_at lo hi must = record { window = Some (record { lo = lo; hi = hi }); must = must }
