@@ -3,6 +3,7 @@ use Rattle.std.proofs.Common.{◌≡◌, ◌⊎◌, ℕ, ◌+◌, ◌-◌, ◌^�
 use Rattle.std.specs.Int.{int_min}
 use Rattle.std.proofs.lemmas.Bool.{cases_lt, le-leb, lt-leb}
 use Rattle.std.proofs.lemmas.Int.{ints}
+use Rattle.std.proofs.Math.Path.{fun_ext}
 use Rattle.flow_types.specs.declared.flight.Flight.{Flight}
 use Rattle.flow_types.specs.declared.plan.Stop.{Stop}
 use Rattle.flow_types.specs.Trips.{arrival_from}
@@ -11,7 +12,7 @@ use Rattle.time_windows.specs.declared.access.Window.{Window}
 use Rattle.time_windows.specs.Boxes.{IsInWindow, IsProper}
 use Rattle.exact_sums.specs.Leasts.{IsFirstLeast, IsLeast, IsLeastAt, lesser}
 use Rattle.exact_sums.proofs.LeastFacts.{least_of_two, value_of}
-use Rattle.flight_routes.specs.Early.{AreAhead, IsLaterPair, IsLess, IsNoMore, cut_row, cut_window}
+use Rattle.flight_routes.specs.Early.{AreAhead, IsLaterPair, IsLess, IsNoMore, cut_at, cut_row, cut_window}
 use Rattle.flight_routes.specs.Rates.{IsPassage, IsValueWithin, IsWay, IsWayOn, Rates, value_or_zero, way_cost, whole_cost}
 use Rattle.flight_routes.specs.Ready.{AreRising, IsReady}
 use Rattle.flight_routes.specs.TripOrder.{IsNoLater}
@@ -375,35 +376,46 @@ pub less_some : (least other : Option ℤ) → IsLess least other → IsSome lea
 less_some None other less = absurd less
 less_some (Some v) other less = refl
 
--- the least of the early ways is that of all, where the later ones cost more
+-- the least of the ways through a row that is cut is that of all, where the later ones cost more
 module _ (cap : ℕ) (flight : Flight) (row : ℕ → Access) (periods : ℕ) (rates : Rates)
     (ready : IsReady flight row periods rates) (ahead : ℕ → ℕ)
-    (are : AreAhead flight ahead) where
-  more_of : (v : ℤ) (least : Option ℤ) → least ≡ Some v → ((stop : Stop) (rest : List Stop)
-      → IsWay flight row rates (stop ∷ rest) → cap < arrival_from stop rest
-      → IsLess least (Some (whole_cost rates (stop ∷ rest))))
-      → (stop : Stop) (rest : List Stop) → IsWay flight row rates (stop ∷ rest)
-      → cap < arrival_from stop rest → v <ℤ whole_cost rates (stop ∷ rest)
-  more_of v least is more stop rest way late =
-      subst (λ (o : Option ℤ). IsLess o (Some (whole_cost rates (stop ∷ rest)))) is
-      (more stop rest way late)
+    (are : AreAhead flight ahead) (cut : ℕ → Access)
+    (each : (n : ℕ) → cut n ≡ cut_at cap (ahead n) (row n)) where
+  same_row : cut ≡ cut_row cap ahead row
+  same_row = fun_ext each
+
+  pub cut_is_ready : IsReady flight cut periods rates
+  cut_is_ready =
+      subst (λ (r : ℕ → Access). IsReady flight r periods rates) (sym same_row)
+      (cut_ready cap flight row periods rates ready ahead are)
+
+  into : (way : List Stop) → IsWay flight cut rates way → IsWay flight row rates way
+  into = subst (λ (r : ℕ → Access). (way : List Stop) → IsWay flight r rates way
+      → IsWay flight row rates way) (sym same_row)
+      (way_cut cap flight row periods rates ready ahead are)
+
+  apart : (v : ℤ) → ((stop : Stop) (rest : List Stop) → IsWay flight row rates (stop ∷ rest)
+      → cap < arrival_from stop rest → v <ℤ whole_cost rates (stop ∷ rest))
+      → (way : List Stop) → IsWay flight row rates way
+      → IsWay flight cut rates way ⊎ (v <ℤ whole_cost rates way)
+  apart v more =
+      subst (λ (r : ℕ → Access). (way : List Stop) → IsWay flight row rates way
+      → IsWay flight r rates way ⊎ (v <ℤ whole_cost rates way)) (sym same_row)
+      (ways_apart cap flight row periods rates ready ahead are v more)
 
   pub early_least : (least : Option ℤ) → IsSome least → ((stop : Stop) (rest : List Stop)
       → IsWay flight row rates (stop ∷ rest) → cap < arrival_from stop rest
       → IsLess least (Some (whole_cost rates (stop ∷ rest))))
-      → IsLeast (IsWay flight (cut_row cap ahead row) rates) (whole_cost rates) least
+      → IsLeast (IsWay flight cut rates) (whole_cost rates) least
       → IsLeast (IsWay flight row rates) (whole_cost rates) least
   early_least None some more is = absurd (no_none None refl some)
   early_least (Some v) some more is =
-      least_wider (IsWay flight (cut_row cap ahead row) rates) (IsWay flight row rates)
-      (whole_cost rates) (way_cut cap flight row periods rates ready ahead are) v
-      (ways_apart cap flight row periods rates ready ahead are v (more_of v (Some v) refl more))
-      is
+      least_wider (IsWay flight cut rates) (IsWay flight row rates) (whole_cost rates) into v
+      (apart v more) is
 
   chosen_is : (v : ℤ) (chosen : List Stop)
-      → IsLeastAt (IsWay flight (cut_row cap ahead row) rates) (whole_cost rates) v
-      → IsFirstLeast (IsWay flight (cut_row cap ahead row) rates) (whole_cost rates) IsNoLater
-      chosen
+      → IsLeastAt (IsWay flight cut rates) (whole_cost rates) v
+      → IsFirstLeast (IsWay flight cut rates) (whole_cost rates) IsNoLater chosen
       → v ≡ whole_cost rates chosen
   chosen_is v chosen at is =
       let less = is.least at.reached.0 at.reached.1 in
@@ -413,16 +425,14 @@ module _ (cap : ℕ) (flight : Flight) (row : ℕ → Access) (periods : ℕ) (r
   pub early_first : (least : Option ℤ) → IsSome least → ((stop : Stop) (rest : List Stop)
       → IsWay flight row rates (stop ∷ rest) → cap < arrival_from stop rest
       → IsLess least (Some (whole_cost rates (stop ∷ rest))))
-      → IsLeast (IsWay flight (cut_row cap ahead row) rates) (whole_cost rates) least
+      → IsLeast (IsWay flight cut rates) (whole_cost rates) least
       → (chosen : List Stop)
-      → IsFirstLeast (IsWay flight (cut_row cap ahead row) rates) (whole_cost rates) IsNoLater
-      chosen
+      → IsFirstLeast (IsWay flight cut rates) (whole_cost rates) IsNoLater chosen
       → IsFirstLeast (IsWay flight row rates) (whole_cost rates) IsNoLater chosen
   early_first None some more least chosen is = absurd (no_none None refl some)
   early_first (Some v) some more least chosen is =
-      first_wider (IsWay flight (cut_row cap ahead row) rates) (IsWay flight row rates)
-      (whole_cost rates) (way_cut cap flight row periods rates ready ahead are) IsNoLater chosen
+      first_wider (IsWay flight cut rates) (IsWay flight row rates) (whole_cost rates) into
+      IsNoLater chosen
       (subst (λ (u : ℤ). (way : List Stop) → IsWay flight row rates way
-      → IsWay flight (cut_row cap ahead row) rates way ⊎ (u <ℤ whole_cost rates way))
-      (chosen_is v chosen least is)
-      (ways_apart cap flight row periods rates ready ahead are v (more_of v (Some v) refl more))) is
+      → IsWay flight cut rates way ⊎ (u <ℤ whole_cost rates way))
+      (chosen_is v chosen least is) (apart v more)) is
