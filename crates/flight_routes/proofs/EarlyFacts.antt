@@ -1,8 +1,9 @@
 -- Ways that end early, and what those that end later cost at least.
-use Rattle.std.proofs.Common.{◌≡◌, ◌⊎◌, ℕ, ◌+◌, ◌-◌, ◌^◌, ◌<◌, ◌≤◌, min, List, [], ◌∷◌, length, Option, None, Some, IfSome, IsSome, ℤ, ◌+ℤ◌, ◌≤ℤ◌, ◌<ℤ◌, refl, sym, ap, ◌∙◌, subst, inl, inr, arith}
+use Rattle.std.proofs.Common.{◌≡◌, ◌⊎◌, ℕ, ◌+◌, ◌-◌, ◌^◌, ◌<◌, ◌≤◌, max, min, List, [], ◌∷◌, length, Option, None, Some, IfSome, IsSome, ℤ, ◌+ℤ◌, ◌≤ℤ◌, ◌<ℤ◌, refl, sym, ap, ◌∙◌, subst, inl, inr, arith}
 use Rattle.std.specs.Int.{int_min}
 use Rattle.std.proofs.lemmas.Bool.{cases_lt, le-leb, lt-leb}
 use Rattle.std.proofs.lemmas.Int.{ints}
+use Rattle.std.proofs.Math.Path.{fun_ext}
 use Rattle.flow_types.specs.declared.flight.Flight.{Flight}
 use Rattle.flow_types.specs.declared.plan.Stop.{Stop}
 use Rattle.flow_types.specs.Trips.{arrival_from}
@@ -11,7 +12,7 @@ use Rattle.time_windows.specs.declared.access.Window.{Window}
 use Rattle.time_windows.specs.Boxes.{IsInWindow, IsProper}
 use Rattle.exact_sums.specs.Leasts.{IsFirstLeast, IsLeast, IsLeastAt, lesser}
 use Rattle.exact_sums.proofs.LeastFacts.{least_of_two, value_of}
-use Rattle.flight_routes.specs.Early.{AreAhead, IsLaterPair, IsLess, IsNoMore, cut_row, cut_window}
+use Rattle.flight_routes.specs.Early.{AreAhead, AreEnds, IsLess, IsNoMore, cut_at, cut_row, cut_window}
 use Rattle.flight_routes.specs.Rates.{IsPassage, IsValueWithin, IsWay, IsWayOn, Rates, value_or_zero, way_cost, whole_cost}
 use Rattle.flight_routes.specs.Ready.{AreRising, IsReady}
 use Rattle.flight_routes.specs.TripOrder.{IsNoLater}
@@ -146,7 +147,7 @@ small_wider (Some a) within =
     record { low = omega (arith, ints, within.low); high = omega (arith, ints, within.high) }
 
 -- leaving and arriving, period by period
-module _ (leave arrive : Window) (rates : Rates) (ahead cap : ℕ) where
+module _ (leave arrive : Window) (rates : Rates) (ahead : ℕ) where
   leaves_by : (time t : ℕ) (from rate : Option ℤ)
       → ((t : ℕ) → leave.lo ≤ t → t ≤ leave.hi → IsSome (rates.leaves t)
       → t + ahead < time → IsNoMore from (value_or_zero (rates.leaves t)))
@@ -175,10 +176,10 @@ module _ (leave arrive : Window) (rates : Rates) (ahead cap : ℕ) where
   pairs_by : (time from to : ℕ) (leaves rate least : Option ℤ)
       → ((t : ℕ) → leave.lo ≤ t → t ≤ leave.hi → IsSome (rates.leaves t)
       → t + ahead < time + 1 → IsNoMore leaves (value_or_zero (rates.leaves t)))
-      → (arrive.lo ≤ time → cap < time → rate ≡ rates.arrives time)
-      → ((t u : ℕ) → IsLaterPair leave arrive rates ahead cap t u → u < time
+      → (arrive.lo ≤ time → rate ≡ rates.arrives time)
+      → ((t u : ℕ) → AreEnds leave arrive rates ahead t u → u < time
       → IsNoMore least (value_or_zero (rates.leaves t) +ℤ value_or_zero (rates.arrives u)))
-      → IsLaterPair leave arrive rates ahead cap from to → to < time + 1
+      → AreEnds leave arrive rates ahead from to → to < time + 1
       → (to < time) ⊎ (time ≤ to)
       → IsNoMore (lesser least (both_of leaves rate))
       (value_or_zero (rates.leaves from) +ℤ value_or_zero (rates.arrives to))
@@ -189,8 +190,8 @@ module _ (leave arrive : Window) (rates : Rates) (ahead cap : ℕ) where
   pairs_by time from to leaves rate least first here so_far pair upto (inr now) =
       let same : time ≡ to = omega (arith, upto, now) in
       let v = value_of (rates.arrives to) pair.arrives in
-      let is = here (omega (arith, same, pair.to_lo)) (omega (arith, same, pair.late))
-      ∙ ap rates.arrives same ∙ v.1 ∙ ap Some (sym (value_is (rates.arrives to) v.0 v.1)) in
+      let is = here (omega (arith, same, pair.to_lo)) ∙ ap rates.arrives same ∙ v.1
+      ∙ ap Some (sym (value_is (rates.arrives to) v.0 v.1)) in
       no_more_second least (both_of leaves rate)
       (value_or_zero (rates.leaves from) +ℤ value_or_zero (rates.arrives to))
       (no_more_both leaves rate (value_or_zero (rates.leaves from))
@@ -200,54 +201,35 @@ module _ (leave arrive : Window) (rates : Rates) (ahead cap : ℕ) where
   pub pairs_next : (time : ℕ) (leaves rate least : Option ℤ)
       → ((t : ℕ) → leave.lo ≤ t → t ≤ leave.hi → IsSome (rates.leaves t)
       → t + ahead < time + 1 → IsNoMore leaves (value_or_zero (rates.leaves t)))
-      → (arrive.lo ≤ time → cap < time → rate ≡ rates.arrives time)
-      → ((t u : ℕ) → IsLaterPair leave arrive rates ahead cap t u → u < time
+      → (arrive.lo ≤ time → rate ≡ rates.arrives time)
+      → ((t u : ℕ) → AreEnds leave arrive rates ahead t u → u < time
       → IsNoMore least (value_or_zero (rates.leaves t) +ℤ value_or_zero (rates.arrives u)))
-      → (from to : ℕ) → IsLaterPair leave arrive rates ahead cap from to → to < time + 1
+      → (from to : ℕ) → AreEnds leave arrive rates ahead from to → to < time + 1
       → IsNoMore (lesser least (both_of leaves rate))
       (value_or_zero (rates.leaves from) +ℤ value_or_zero (rates.arrives to))
   pairs_next time leaves rate least first here so_far from to pair upto =
       pairs_by time from to leaves rate least first here so_far pair upto (cases_lt to time)
 
--- ways through a row that is cut
-module _ (cap : ℕ) (flight : Flight) (row : ℕ → Access) (periods : ℕ) (rates : Rates)
+-- what is less is there
+pub less_some : (least other : Option ℤ) → IsLess least other → IsSome least
+less_some None other less = absurd less
+less_some (Some v) other less = refl
+
+-- what is less than a bound is less than what the bound is of
+pub less_more : (least bound : Option ℤ) (whole : ℤ) → IsLess least bound → IsNoMore bound whole
+    → IsLess least (Some whole)
+less_more None bound whole less more = absurd less
+less_more (Some v) None whole less more = absurd more
+less_more (Some v) (Some b) whole less more = omega (arith, ints, less, more)
+
+no_more_by : (bound : Option ℤ) (pair whole : ℤ) → IsNoMore bound pair → pair ≤ℤ whole
+    → IsNoMore bound whole
+no_more_by None pair whole more under = absurd more
+no_more_by (Some b) pair whole more under = omega (arith, ints, more, under)
+
+module _ (flight : Flight) (row : ℕ → Access) (periods : ℕ) (rates : Rates)
     (ready : IsReady flight row periods rates) (ahead : ℕ → ℕ)
     (are : AreAhead flight ahead) where
-  pub cut_ready : IsReady flight (cut_row cap ahead row) periods rates
-  cut_ready = record {
-    day = ready.day;
-    windows = record {
-      proper = λ n. cut_proper cap (ahead n) (row n).window (ready.windows.proper n);
-      within = λ n t window.
-          ready.windows.within n t (cut_in cap (ahead n) (row n).window t window);
-    };
-    network = ready.network;
-  }
-
-  way_on_cut : (stop : Stop) (rest : List Stop)
-      → IsWayOn flight (cut_row cap ahead row) rates stop rest
-      → IsWayOn flight row rates stop rest
-  way_on_cut stop [] way = way
-  way_on_cut stop (next ∷ rest) way = (
-    record {
-      step = way.0.step;
-      musts = way.0.musts;
-      stay = way.0.stay;
-      window = cut_in cap (ahead next.node) (row next.node).window next.time way.0.window;
-    },
-    way_on_cut next rest way.1,
-  )
-
-  way_cut : (way : List Stop) → IsWay flight (cut_row cap ahead row) rates way
-      → IsWay flight row rates way
-  way_cut [] way = way
-  way_cut (stop ∷ rest) way = (
-    way.0,
-    cut_in cap (ahead 0) (row 0).window stop.time way.1,
-    way.2,
-    way_on_cut stop rest way.3,
-  )
-
   -- a step takes its time
   step_later : (stop next : Stop) → IsPassage flight row rates stop next
       → (stop.time ≤ next.time) × (stop.time + ahead stop.node ≤ next.time + ahead next.node)
@@ -265,47 +247,6 @@ module _ (cap : ℕ) (flight : Flight) (row : ℕ → Access) (periods : ℕ) (r
   ends_later stop [] way = omega (arith, are.last stop.node way.0)
   ends_later stop (next ∷ rest) way =
       omega (arith, (step_later stop next way.0).1, ends_later next rest way.1)
-
-  cut_way_on : (stop : Stop) (rest : List Stop) → IsWayOn flight row rates stop rest
-      → arrival_from stop rest ≤ cap → IsWayOn flight (cut_row cap ahead row) rates stop rest
-  cut_way_on stop [] way upto = way
-  cut_way_on stop (next ∷ rest) way upto = (
-    record {
-      step = way.0.step;
-      musts = way.0.musts;
-      stay = way.0.stay;
-      window = in_cut cap (ahead next.node) (row next.node).window next.time way.0.window
-          (omega (arith, ends_later next rest way.1, upto));
-    },
-    cut_way_on next rest way.1 upto,
-  )
-
-  -- a way of the row is one of the cut row, or ends after the period
-  apart_by : (least : ℤ) (stop : Stop) (rest : List Stop)
-      → IsWay flight row rates (stop ∷ rest)
-      → (cap < arrival_from stop rest → least <ℤ whole_cost rates (stop ∷ rest))
-      → (cap < arrival_from stop rest) ⊎ (arrival_from stop rest ≤ cap)
-      → IsWay flight (cut_row cap ahead row) rates (stop ∷ rest)
-      ⊎ (least <ℤ whole_cost rates (stop ∷ rest))
-  apart_by least stop rest way more (inl late) = inr (more late)
-  apart_by least stop rest way more (inr early) =
-      let same = ap ahead way.0 in
-      inl (
-        way.0,
-        in_cut cap (ahead 0) (row 0).window stop.time way.1
-            (omega (arith, ends_later stop rest way.3, early, same)),
-        way.2,
-        cut_way_on stop rest way.3 early,
-      )
-
-  ways_apart : (least : ℤ) → ((stop : Stop) (rest : List Stop)
-      → IsWay flight row rates (stop ∷ rest) → cap < arrival_from stop rest
-      → least <ℤ whole_cost rates (stop ∷ rest))
-      → (way : List Stop) → IsWay flight row rates way
-      → IsWay flight (cut_row cap ahead row) rates way ⊎ (least <ℤ whole_cost rates way)
-  ways_apart least more [] way = absurd way
-  ways_apart least more (stop ∷ rest) way =
-      apart_by least stop rest way (more stop rest way) (cases_lt cap (arrival_from stop rest))
 
   module _ (last : ℕ) (end : last + 1 ≡ length flight.nodes)
       (rising : AreRising flight periods rates) where
@@ -333,96 +274,185 @@ module _ (cap : ℕ) (flight : Flight) (row : ℕ → Access) (periods : ℕ) (r
         (step_later stop next way.0).0 day in
         record { window = on.window; some = on.some; below = omega (arith, ints, on.below, more) }
 
-    less_by : (least bound : Option ℤ) (pair whole : ℤ) → IsLess least bound
-        → IsNoMore bound pair → pair ≤ℤ whole → IsLess least (Some whole)
-    less_by None bound pair whole less more under = absurd less
-    less_by (Some v) None pair whole less more under = absurd more
-    less_by (Some v) (Some b) pair whole less more under =
-        omega (arith, ints, less, more, under)
+    way_ends : (stop : Stop) (rest : List Stop) → IsWay flight row rates (stop ∷ rest)
+        → EndsAt stop rest
+    way_ends stop rest way =
+        ends_at stop rest
+        (subst (λ (n : ℕ). IsInWindow (row n).window stop.time) (sym way.0) way.1)
+        (omega (arith, way.0, end)) way.3
 
-    -- so a way that ends after the period costs more than what is less than every later pair
-    pub later_more : (leave arrive : Window) → (row 0).window ≡ Some leave
-        → (row last).window ≡ Some arrive → (bound least : Option ℤ)
-        → ((from to : ℕ) → IsLaterPair leave arrive rates (ahead 0) cap from to
+    -- a way that ends in these periods costs at least what leaving and arriving do
+    pub ways_bounded : (leave arrive ends : Window) → (row 0).window ≡ Some leave
+        → (row last).window ≡ Some arrive → (lo hi : ℕ) → ends.lo ≤ max arrive.lo lo
+        → min arrive.hi hi ≤ ends.hi → (bound : Option ℤ)
+        → ((from to : ℕ) → AreEnds leave ends rates (ahead 0) from to
         → IsNoMore bound (value_or_zero (rates.leaves from) +ℤ value_or_zero (rates.arrives to)))
-        → IsLess least bound → (stop : Stop) (rest : List Stop)
-        → IsWay flight row rates (stop ∷ rest) → cap < arrival_from stop rest
-        → IsLess least (Some (whole_cost rates (stop ∷ rest)))
-    later_more leave arrive first final bound least pairs less stop rest way late =
-        let inside = subst (λ (n : ℕ). IsInWindow (row n).window stop.time) (sym way.0) way.1 in
-        let ends = ends_at stop rest inside (omega (arith, way.0, end)) way.3 in
+        → (stop : Stop) (rest : List Stop) → IsWay flight row rates (stop ∷ rest)
+        → lo ≤ arrival_from stop rest → arrival_from stop rest ≤ hi
+        → IsNoMore bound (whole_cost rates (stop ∷ rest))
+    ways_bounded leave arrive ends first final lo hi low high bound pairs stop rest way from_lo
+        to_hi =
+        let at = way_ends stop rest way in
         let from = subst (λ (w : Option Window). IsInWindow w stop.time) first way.1 in
         let to = subst (λ (w : Option Window). IsInWindow w (arrival_from stop rest)) final
-        ends.window in
+        at.window in
         let same = ap ahead way.0 in
-        less_by least bound (value_or_zero (rates.leaves stop.time)
+        no_more_by bound (value_or_zero (rates.leaves stop.time)
         +ℤ value_or_zero (rates.arrives (arrival_from stop rest)))
-        (whole_cost rates (stop ∷ rest)) less
+        (whole_cost rates (stop ∷ rest))
         (pairs stop.time (arrival_from stop rest) (record {
           from_lo = from.0;
           from_hi = from.1;
           leaves = way.2;
-          to_lo = to.0;
-          to_hi = to.1;
-          arrives = ends.some;
+          to_lo = omega (arith, to.0, from_lo, low);
+          to_hi = omega (arith, to.1, to_hi, high);
+          arrives = at.some;
           apart = omega (arith, ends_later stop rest way.3, same);
-          late = late;
         }))
-        (omega (arith, ints, ends.below))
+        (omega (arith, ints, at.below))
 
--- what is less is there
-pub less_some : (least other : Option ℤ) → IsLess least other → IsSome least
-less_some None other less = absurd less
-less_some (Some v) other less = refl
+    -- a way ends within the day, and there is none where the last node is closed
+    pub ends_within : (stop : Stop) (rest : List Stop) → IsWay flight row rates (stop ∷ rest)
+        → arrival_from stop rest < periods
+    ends_within stop rest way =
+        ready.windows.within last (arrival_from stop rest) (way_ends stop rest way).window
 
--- the least of the early ways is that of all, where the later ones cost more
-module _ (cap : ℕ) (flight : Flight) (row : ℕ → Access) (periods : ℕ) (rates : Rates)
-    (ready : IsReady flight row periods rates) (ahead : ℕ → ℕ)
-    (are : AreAhead flight ahead) where
-  more_of : (v : ℤ) (least : Option ℤ) → least ≡ Some v → ((stop : Stop) (rest : List Stop)
-      → IsWay flight row rates (stop ∷ rest) → cap < arrival_from stop rest
-      → IsLess least (Some (whole_cost rates (stop ∷ rest))))
-      → (stop : Stop) (rest : List Stop) → IsWay flight row rates (stop ∷ rest)
-      → cap < arrival_from stop rest → v <ℤ whole_cost rates (stop ∷ rest)
-  more_of v least is more stop rest way late =
-      subst (λ (o : Option ℤ). IsLess o (Some (whole_cost rates (stop ∷ rest)))) is
-      (more stop rest way late)
+    pub closed_last : (row last).window ≡ None → (stop : Stop) (rest : List Stop)
+        → IsWay flight row rates (stop ∷ rest) → ⊥
+    closed_last is stop rest way =
+        subst (λ (w : Option Window). IsInWindow w (arrival_from stop rest)) is
+        (way_ends stop rest way).window
 
-  pub early_least : (least : Option ℤ) → IsSome least → ((stop : Stop) (rest : List Stop)
-      → IsWay flight row rates (stop ∷ rest) → cap < arrival_from stop rest
-      → IsLess least (Some (whole_cost rates (stop ∷ rest))))
-      → IsLeast (IsWay flight (cut_row cap ahead row) rates) (whole_cost rates) least
-      → IsLeast (IsWay flight row rates) (whole_cost rates) least
-  early_least None some more is = absurd (no_none None refl some)
-  early_least (Some v) some more is =
-      least_wider (IsWay flight (cut_row cap ahead row) rates) (IsWay flight row rates)
-      (whole_cost rates) (way_cut cap flight row periods rates ready ahead are) v
-      (ways_apart cap flight row periods rates ready ahead are v (more_of v (Some v) refl more))
-      is
+  -- ways through a row that is cut
+  module _ (cap : ℕ) where
+    cut_ready : IsReady flight (cut_row cap ahead row) periods rates
+    cut_ready = record {
+      day = ready.day;
+      windows = record {
+        proper = λ n. cut_proper cap (ahead n) (row n).window (ready.windows.proper n);
+        within = λ n t window.
+            ready.windows.within n t (cut_in cap (ahead n) (row n).window t window);
+      };
+      network = ready.network;
+    }
 
-  chosen_is : (v : ℤ) (chosen : List Stop)
-      → IsLeastAt (IsWay flight (cut_row cap ahead row) rates) (whole_cost rates) v
-      → IsFirstLeast (IsWay flight (cut_row cap ahead row) rates) (whole_cost rates) IsNoLater
-      chosen
-      → v ≡ whole_cost rates chosen
-  chosen_is v chosen at is =
-      let less = is.least at.reached.0 at.reached.1 in
-      let more = at.below chosen is.inside in
-      omega (arith, ints, less, more, at.reached.2)
+    way_on_cut : (stop : Stop) (rest : List Stop)
+        → IsWayOn flight (cut_row cap ahead row) rates stop rest
+        → IsWayOn flight row rates stop rest
+    way_on_cut stop [] way = way
+    way_on_cut stop (next ∷ rest) way = (
+      record {
+        step = way.0.step;
+        musts = way.0.musts;
+        stay = way.0.stay;
+        window = cut_in cap (ahead next.node) (row next.node).window next.time way.0.window;
+      },
+      way_on_cut next rest way.1,
+    )
 
-  pub early_first : (least : Option ℤ) → IsSome least → ((stop : Stop) (rest : List Stop)
-      → IsWay flight row rates (stop ∷ rest) → cap < arrival_from stop rest
-      → IsLess least (Some (whole_cost rates (stop ∷ rest))))
-      → IsLeast (IsWay flight (cut_row cap ahead row) rates) (whole_cost rates) least
-      → (chosen : List Stop)
-      → IsFirstLeast (IsWay flight (cut_row cap ahead row) rates) (whole_cost rates) IsNoLater
-      chosen
-      → IsFirstLeast (IsWay flight row rates) (whole_cost rates) IsNoLater chosen
-  early_first None some more least chosen is = absurd (no_none None refl some)
-  early_first (Some v) some more least chosen is =
-      first_wider (IsWay flight (cut_row cap ahead row) rates) (IsWay flight row rates)
-      (whole_cost rates) (way_cut cap flight row periods rates ready ahead are) IsNoLater chosen
-      (subst (λ (u : ℤ). (way : List Stop) → IsWay flight row rates way
-      → IsWay flight (cut_row cap ahead row) rates way ⊎ (u <ℤ whole_cost rates way))
-      (chosen_is v chosen least is)
-      (ways_apart cap flight row periods rates ready ahead are v (more_of v (Some v) refl more))) is
+    way_cut : (way : List Stop) → IsWay flight (cut_row cap ahead row) rates way
+        → IsWay flight row rates way
+    way_cut [] way = way
+    way_cut (stop ∷ rest) way = (
+      way.0,
+      cut_in cap (ahead 0) (row 0).window stop.time way.1,
+      way.2,
+      way_on_cut stop rest way.3,
+    )
+
+    cut_way_on : (stop : Stop) (rest : List Stop) → IsWayOn flight row rates stop rest
+        → arrival_from stop rest ≤ cap → IsWayOn flight (cut_row cap ahead row) rates stop rest
+    cut_way_on stop [] way upto = way
+    cut_way_on stop (next ∷ rest) way upto = (
+      record {
+        step = way.0.step;
+        musts = way.0.musts;
+        stay = way.0.stay;
+        window = in_cut cap (ahead next.node) (row next.node).window next.time way.0.window
+            (omega (arith, ends_later next rest way.1, upto));
+      },
+      cut_way_on next rest way.1 upto,
+    )
+
+    -- a way of the row is one of the cut row, or ends after the period
+    apart_by : (least : ℤ) (stop : Stop) (rest : List Stop)
+        → IsWay flight row rates (stop ∷ rest)
+        → (cap < arrival_from stop rest → least <ℤ whole_cost rates (stop ∷ rest))
+        → (cap < arrival_from stop rest) ⊎ (arrival_from stop rest ≤ cap)
+        → IsWay flight (cut_row cap ahead row) rates (stop ∷ rest)
+        ⊎ (least <ℤ whole_cost rates (stop ∷ rest))
+    apart_by least stop rest way more (inl late) = inr (more late)
+    apart_by least stop rest way more (inr early) =
+        let same = ap ahead way.0 in
+        inl (
+          way.0,
+          in_cut cap (ahead 0) (row 0).window stop.time way.1
+              (omega (arith, ends_later stop rest way.3, early, same)),
+          way.2,
+          cut_way_on stop rest way.3 early,
+        )
+
+    ways_apart : (least : ℤ) → ((stop : Stop) (rest : List Stop)
+        → IsWay flight row rates (stop ∷ rest) → cap < arrival_from stop rest
+        → least <ℤ whole_cost rates (stop ∷ rest))
+        → (way : List Stop) → IsWay flight row rates way
+        → IsWay flight (cut_row cap ahead row) rates way ⊎ (least <ℤ whole_cost rates way)
+    ways_apart least more [] way = absurd way
+    ways_apart least more (stop ∷ rest) way =
+        apart_by least stop rest way (more stop rest way) (cases_lt cap (arrival_from stop rest))
+
+    -- the least of them is that of all, where the later ones cost more
+    module _ (cut : ℕ → Access) (each : (n : ℕ) → cut n ≡ cut_at cap (ahead n) (row n)) where
+      same_row : cut ≡ cut_row cap ahead row
+      same_row = fun_ext each
+
+      pub cut_is_ready : IsReady flight cut periods rates
+      cut_is_ready =
+          subst (λ (r : ℕ → Access). IsReady flight r periods rates) (sym same_row) cut_ready
+
+      into : (way : List Stop) → IsWay flight cut rates way → IsWay flight row rates way
+      into = subst (λ (r : ℕ → Access). (way : List Stop) → IsWay flight r rates way
+          → IsWay flight row rates way) (sym same_row) way_cut
+
+      apart : (v : ℤ) → ((stop : Stop) (rest : List Stop) → IsWay flight row rates (stop ∷ rest)
+          → cap < arrival_from stop rest → v <ℤ whole_cost rates (stop ∷ rest))
+          → (way : List Stop) → IsWay flight row rates way
+          → IsWay flight cut rates way ⊎ (v <ℤ whole_cost rates way)
+      apart v more =
+          subst (λ (r : ℕ → Access). (way : List Stop) → IsWay flight row rates way
+          → IsWay flight r rates way ⊎ (v <ℤ whole_cost rates way)) (sym same_row)
+          (ways_apart v more)
+
+      pub early_least : (least : Option ℤ) → IsSome least → ((stop : Stop) (rest : List Stop)
+          → IsWay flight row rates (stop ∷ rest) → cap < arrival_from stop rest
+          → IsLess least (Some (whole_cost rates (stop ∷ rest))))
+          → IsLeast (IsWay flight cut rates) (whole_cost rates) least
+          → IsLeast (IsWay flight row rates) (whole_cost rates) least
+      early_least None some more is = absurd (no_none None refl some)
+      early_least (Some v) some more is =
+          least_wider (IsWay flight cut rates) (IsWay flight row rates) (whole_cost rates) into v
+          (apart v more) is
+
+      chosen_is : (v : ℤ) (chosen : List Stop)
+          → IsLeastAt (IsWay flight cut rates) (whole_cost rates) v
+          → IsFirstLeast (IsWay flight cut rates) (whole_cost rates) IsNoLater chosen
+          → v ≡ whole_cost rates chosen
+      chosen_is v chosen at is =
+          let less = is.least at.reached.0 at.reached.1 in
+          let more = at.below chosen is.inside in
+          omega (arith, ints, less, more, at.reached.2)
+
+      pub early_first : (least : Option ℤ) → IsSome least → ((stop : Stop) (rest : List Stop)
+          → IsWay flight row rates (stop ∷ rest) → cap < arrival_from stop rest
+          → IsLess least (Some (whole_cost rates (stop ∷ rest))))
+          → IsLeast (IsWay flight cut rates) (whole_cost rates) least
+          → (chosen : List Stop)
+          → IsFirstLeast (IsWay flight cut rates) (whole_cost rates) IsNoLater chosen
+          → IsFirstLeast (IsWay flight row rates) (whole_cost rates) IsNoLater chosen
+      early_first None some more least chosen is = absurd (no_none None refl some)
+      early_first (Some v) some more least chosen is =
+          first_wider (IsWay flight cut rates) (IsWay flight row rates) (whole_cost rates) into
+          IsNoLater chosen
+          (subst (λ (u : ℤ). (way : List Stop) → IsWay flight row rates way
+          → IsWay flight cut rates way ⊎ (u <ℤ whole_cost rates way))
+          (chosen_is v chosen least is) (apart v more)) is

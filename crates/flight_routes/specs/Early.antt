@@ -1,5 +1,5 @@
 -- Ways that end early: those through windows that are cut.
-use Rattle.std.specs.Prelude.{◌≡◌, ℕ, ◌+◌, ◌-◌, ◌<◌, ◌≤◌, nat_le, min, List, length, Option, None, Some, IsSome, slice_index_or, ℤ, ◌≤ℤ◌, ◌<ℤ◌, if◌then◌else◌}
+use Rattle.std.specs.Prelude.{◌≡◌, ℕ, ◌+◌, ◌-◌, ◌≤◌, nat_le, min, List, length, Option, None, Some, IsSome, slice_index_or, ℤ, ◌≤ℤ◌, ◌<ℤ◌, if◌then◌else◌}
 use Rattle.std.specs.List.{Contains}
 use Rattle.flow_types.specs.declared.flight.Flight.{Flight}
 use Rattle.flow_types.specs.declared.flight.Leg.{Leg}
@@ -30,9 +30,8 @@ cut_at cap ahead access =
 abbrev pub cut_row : ℕ → (ℕ → ℕ) → (ℕ → Access) → ℕ → Access
 cut_row cap ahead row node = cut_at cap (ahead node) (row node)
 
--- a first and a last period that a way may have which ends after the cap
-pub record IsLaterPair (leave arrive : Window) (rates : Rates) (ahead cap from to : ℕ)
-    : Type 0 where
+-- a first and a last period that a way may have
+pub record AreEnds (leave arrive : Window) (rates : Rates) (ahead from to : ℕ) : Type 0 where
   pub from_lo : leave.lo ≤ from
   pub from_hi : from ≤ leave.hi
   pub leaves : IsSome (rates.leaves from)
@@ -40,7 +39,6 @@ pub record IsLaterPair (leave arrive : Window) (rates : Rates) (ahead cap from t
   pub to_hi : to ≤ arrive.hi
   pub arrives : IsSome (rates.arrives to)
   pub apart : from + ahead ≤ to
-  pub late : cap < to
 
 -- it is there, and no more than the value
 abbrev pub IsNoMore : Option ℤ → ℤ → Type 0

@@ -4,7 +4,7 @@ ghost use Rattle.exact_sums.specs.Leasts.{IsFirstLeast, IsLeast};
 ghost use Rattle.flow_types.specs.declared.plan.Stop.{Stop};
 ghost use Rattle.flow_types.specs.Limits.{most_nodes, most_periods};
 ghost use Rattle.flow_types.specs.Trips.{arrival_from};
-ghost use Rattle.flight_routes.specs.Early.{AreAhead, IsLaterPair, IsLess, IsNoMore, ahead_in, cut_at, cut_window};
+ghost use Rattle.flight_routes.specs.Early.{AreAhead, AreEnds, IsLess, IsNoMore, ahead_in, cut_at, cut_window};
 ghost use Rattle.flight_routes.specs.RateLists.{rates_of};
 ghost use Rattle.flight_routes.specs.Rates.{IsValueWithin, IsWay, value_or_zero, whole_cost};
 ghost use Rattle.flight_routes.specs.Ready.{AreRising, AreSmall, AreWindows, IsReady, row_of};
@@ -70,29 +70,29 @@ fn leave_in(rates: &RateTable, window: Window, time: u16) -> Cost
     }
 }
 
-// What arriving in the period costs, if that is in the window and after the cap.
-fn arrive_in(rates: &RateTable, window: Window, cap: u16, time: u16) -> Cost
+// What arriving in the period costs, if that isn't before the window.
+fn arrive_in(rates: &RateTable, window: Window, time: u16) -> Cost
     requires time { time < most_periods }
     requires small { AreSmall (rates_of rates.now) }
-    ensures rate { window.lo ≤ time → cap < time → result ≡ (rates_of rates.now).arrives time }
+    ensures rate { window.lo ≤ time → result ≡ (rates_of rates.now).arrives time }
     ensures small { IfSome result (IsValueWithin (2 ^ 110)) }
 {
-    if window.lo <= time && cap < time {
+    if window.lo <= time {
         rates.arrives_at(time)
     } else {
         Cost::none()
     }
 }
 
-// No more than leaving and arriving cost, wherever the flight may leave and arrive so many periods
-// later or more, after the cap; none where it may not.
-fn later_least(rates: &RateTable, leave: Window, arrive: Window, ahead: u16, cap: u16) -> Cost
+// No more than leaving and arriving cost, wherever the flight may leave in the one window and
+// arrive in the other, so many periods later or more; none only where it may not.
+fn ends_bound(rates: &RateTable, leave: Window, arrive: Window, ahead: u16) -> Cost
     requires leave { leave.hi < most_periods }
     requires arrive { arrive.hi < most_periods }
     requires proper { leave.lo ≤ leave.hi }
     requires ahead { ahead ≤ most_periods }
     requires small { AreSmall (rates_of rates.now) }
-    ensures { (from to : ℕ) → IsLaterPair leave arrive (rates_of rates.now) ahead cap from to
+    ensures { (from to : ℕ) → AreEnds leave arrive (rates_of rates.now) ahead from to
         → IsNoMore result (value_or_zero ((rates_of rates.now).leaves from)
         +ℤ value_or_zero ((rates_of rates.now).arrives to)) }
 {
@@ -100,7 +100,7 @@ fn later_least(rates: &RateTable, leave: Window, arrive: Window, ahead: u16, cap
     let mut least = Cost::none();
     for time in leave.lo + ahead..arrive.hi + 1 {
         from = from.lesser(leave_in(rates, leave, time - ahead));
-        least = least.lesser(from.and(arrive_in(rates, arrive, cap, time)));
+        least = least.lesser(from.and(arrive_in(rates, arrive, time)));
     }
     least
 }
@@ -137,17 +137,18 @@ pub fn about_first_end(accesses: &[Access], rates: &RateTable, last: u16) -> u32
     first_rated(rates, End::Arrival, arrives).max(u32::from(arrives.lo) + waits)
 }
 
-// Whether every way that ends after the period costs more: it leaves and arrives at some cost,
-// takes its time, and what it pays in between isn't below 0.
-fn later_cost_more(
+// No more than any way costs that ends in the periods from `lo` to `hi`: it leaves and arrives at
+// some cost, takes its time, and what it pays in between isn't below 0. None only where there is no
+// such way.
+fn ways_bound(
     flight: &Flight,
     accesses: &[Access],
     rates: &RateTable,
     distances: &[u16],
     last: u16,
-    cap: u16,
-    least: Cost,
-) -> bool
+    lo: u16,
+    hi: u16,
+) -> Cost
     requires accesses { length accesses.now ≡ most_nodes }
     requires distances { length distances.now ≡ most_nodes }
     requires ready { IsReady flight.now (row_of accesses.now) rates.now.periods
@@ -156,19 +157,46 @@ fn later_cost_more(
     requires ahead { AreAhead flight.now (ahead_in distances.now) }
     requires far { ahead_in distances.now 0 ≤ most_periods }
     requires last { last + 1 ≡ length flight.now.nodes }
+    ensures { (stop : Stop) (rest : List Stop)
+        → IsWay flight.now (row_of accesses.now) (rates_of rates.now) (stop ∷ rest)
+        → lo ≤ arrival_from stop rest → arrival_from stop rest ≤ hi
+        → IsNoMore result (whole_cost (rates_of rates.now) (stop ∷ rest)) }
+{
+    let Some(leave) = window_at(accesses, 0) else {
+        return Cost::none();
+    };
+    let Some(arrive) = window_at(accesses, last) else {
+        return Cost::none();
+    };
+    let ends = Window {
+        lo: arrive.lo.max(lo),
+        hi: arrive.hi.min(hi),
+    };
+    ends_bound(rates, leave, ends, distances[0])
+}
+
+// Whether every way that ends after the period costs more than the least, where none of them costs
+// less than `later`.
+#[tactic(auto, using(crate::proofs::EarlyFacts::less_more))]
+fn later_cost_more(
+    flight: &Flight,
+    accesses: &[Access],
+    rates: &RateTable,
+    cap: u16,
+    later: Cost,
+    least: Cost,
+) -> bool
+    requires later { (stop : Stop) (rest : List Stop)
+        → IsWay flight.now (row_of accesses.now) (rates_of rates.now) (stop ∷ rest)
+        → cap < arrival_from stop rest
+        → IsNoMore later (whole_cost (rates_of rates.now) (stop ∷ rest)) }
     ensures some { IsTrue result → IsSome least }
     ensures more { IsTrue result → (stop : Stop) (rest : List Stop)
         → IsWay flight.now (row_of accesses.now) (rates_of rates.now) (stop ∷ rest)
         → cap < arrival_from stop rest
         → IsLess least (Some (whole_cost (rates_of rates.now) (stop ∷ rest))) }
 {
-    let Some(leave) = window_at(accesses, 0) else {
-        return false;
-    };
-    let Some(arrive) = window_at(accesses, last) else {
-        return false;
-    };
-    least.is_less(later_least(rates, leave, arrive, distances[0], cap))
+    least.is_less(later)
 }
 
 /// The least cost of the flight's ways, if no way that ends after the period may cost as little,
@@ -204,9 +232,15 @@ pub fn early_way(
     ensures room { most_nodes ≤ vec_capacity stops.new }
     ensures length { length cut.new ≡ most_nodes }
 {
+    let early = ways_bound(flight, accesses, rates, distances, last, 0, cap);
+    let later = ways_bound(flight, accesses, rates, distances, last, cap + 1, u16::MAX);
+    // the least of the early ways is no less than `early`, and would have to be less than `later`
+    if !early.is_less(later) {
+        return Cost::none();
+    }
     cut_row(accesses, cap, distances, cut);
     let least = table.least_way(flight, cut, rates);
-    if !later_cost_more(flight, accesses, rates, distances, last, cap, least) {
+    if !later_cost_more(flight, accesses, rates, cap, later, least) {
         return Cost::none();
     }
     table.trace(flight, cut, rates, least, stops);

@@ -1,8 +1,8 @@
 use Rattle.std.proofs.Common.{◌+◌, ◌^◌, ◌<◌, ◌≤◌, ◌+ℤ◌, ℕ, IfSome, IsSome}
-use Rattle.flight_routes.specs.Early.{IsLaterPair, IsNoMore}
+use Rattle.flight_routes.specs.Early.{AreEnds, IsNoMore}
 use Rattle.flight_routes.specs.RateLists.{rates_of}
 use Rattle.flight_routes.specs.Rates.{IsValueWithin, value_or_zero}
-use Rattle.flight_routes.proofs.early.later_least.Given as goal
+use Rattle.flight_routes.proofs.early.ends_bound.Given as goal
 
 -- the least of leaving so far, and of both
 abbrev pub invariant-loop-time : goal.invariant-loop-time
@@ -13,7 +13,7 @@ invariant-loop-time l =
           → IsSome ((rates_of l.rates).leaves t) → t + l.fn.ahead < l.time
           → IsNoMore l.from (value_or_zero ((rates_of l.rates).leaves t));
       pairs : (t u : ℕ)
-          → IsLaterPair l.fn.leave l.fn.arrive (rates_of l.rates) l.fn.ahead l.fn.cap t u
+          → AreEnds l.fn.leave l.fn.arrive (rates_of l.rates) l.fn.ahead t u
           → u < l.time
           → IsNoMore l.least (value_or_zero ((rates_of l.rates).leaves t)
           +ℤ value_or_zero ((rates_of l.rates).arrives u));

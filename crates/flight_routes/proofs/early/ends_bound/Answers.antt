@@ -3,7 +3,7 @@ use Rattle.flight_routes.specs.Early.{IsNoMore}
 use Rattle.flight_routes.specs.RateLists.{rates_of}
 use Rattle.flight_routes.specs.Rates.{IsValueWithin, value_or_zero}
 use Rattle.flight_routes.proofs.EarlyFacts.{leaves_next, lesser_within, pairs_next, small_wider}
-use Rattle.flight_routes.proofs.early.later_least.Goals as goal
+use Rattle.flight_routes.proofs.early.ends_bound.Goals as goal
 
 pub and-requires-clause-cost : goal.and-requires-clause-cost
 and-requires-clause-cost c =
@@ -19,7 +19,7 @@ loop-time-preserved c =
     → t + c.args.ahead < c.loop-time.time + 1
     → IsNoMore c.lesser-from.result (value_or_zero (rates.leaves t)) =
     rw c.lesser-from.ensures (leaves_next c.args.leave c.args.arrive rates c.args.ahead
-    c.args.cap c.loop-time.time c.loop-time.from c.leave_in.result
+    c.loop-time.time c.loop-time.from c.leave_in.result
     c.loop-time.invariant.leaves c.leave_in.ensures.rate) in
     record {
       small = rw c.lesser-from.ensures
@@ -27,7 +27,7 @@ loop-time-preserved c =
           c.leave_in.ensures.small);
       leaves = leaves;
       pairs = rw (c.lesser-least.ensures, c.and.ensures)
-          (pairs_next c.args.leave c.args.arrive rates c.args.ahead c.args.cap c.loop-time.time
+          (pairs_next c.args.leave c.args.arrive rates c.args.ahead c.loop-time.time
           c.lesser-from.result c.arrive_in.result c.loop-time.least leaves
           c.arrive_in.ensures.rate c.loop-time.invariant.pairs);
     }
