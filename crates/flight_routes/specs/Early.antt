@@ -7,7 +7,7 @@ use Rattle.time_windows.specs.declared.access.Access.{Access}
 use Rattle.time_windows.specs.declared.access.Window.{Window}
 use Rattle.flight_routes.specs.Rates.{Rates}
 
--- how many periods the flight takes at least from each node to the last one
+-- no more periods than the flight takes from each node to the last one
 pub record AreAhead (flight : Flight) (ahead : ℕ → ℕ) : Type 0 where
   pub legs : (leg : Leg) → Contains flight.legs leg
       → ahead leg.from ≤ leg.least + ahead leg.to

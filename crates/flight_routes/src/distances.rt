@@ -28,7 +28,7 @@ fn distance_from(legs: &[Leg], node: u16, distances: &[u16]) -> u16
     least
 }
 
-/// How many periods the flight takes at least from each node to the last one.
+/// No more than the flight takes from each node to the last one: the least sum along its legs.
 pub fn distances_of(flight: &Flight) -> [u16; 32]
     requires { IsUpward flight.now }
     ensures ahead { AreAhead flight.now (ahead_in result) }

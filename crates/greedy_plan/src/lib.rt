@@ -19,8 +19,9 @@
 //! it (`greedy`), and it keeps every rule (`feasible`); the bound is exactly that sum, or a flight
 //! has no trip, and it bounds every plan in the box (`first_bounds_are_bounds`).
 //!
-//! Memory: the plan, loads, and the room for least trips, which is made once. Time: a least trip for
-//! each flight, once for the plan and once for the bound.
+//! Memory: the plan, loads, and the room for least trips, which each call makes once; and for the
+//! bound prices of 0, 24 bytes a place and period and eight a connection and period. Time: a least
+//! trip for each flight, once for the plan and once for the bound.
 #![tactic(auto)]
 
 mod bound;

@@ -19,7 +19,7 @@
 //! The definitions stand in `specs/`: `Boxes` (a box, the root box, and what it is for a trip or a
 //! plan to be in one), `Tight` (what a tight box is), `Splits` (the sides of a split), `Groups`
 //! (lists of items in one block), `Turns` with `Ends` (the connections of each flight) and `Held`
-//! (what `Boxes` holds). `Steps`, `Narrowing` and `Waiting` serve the proof of `tighten` alone.
+//! (what `Boxes` holds). `Steps`, `Narrowing` and `Waiting` serve the proof of `tighten`.
 //!
 //! Proved: `tighten` leaves the widest tight box within (`tight`), loses no plan that keeps the
 //! turnarounds (`kept`), and tells the first node that must be entered and is closed (`told`). The

@@ -36,7 +36,7 @@ impl Model for Turns {
 }
 
 impl Turns {
-    /// The connections of the scenario's flights. While it runs it takes 8 bytes more a connection
+    /// The connections of the scenario's flights. While it runs it takes 4 bytes more a connection
     /// and a flight.
     pub fn new(alloc: Global, s: &Scenario) -> Result<Turns, OutOfMemory>
         ensures { IfOk result (AreTurnsOf (parts_of s.now)) }

@@ -34,7 +34,7 @@ impl Waiting {
         self.words[word] = with_bit(self.words[word], flight % 64);
     }
 
-    /// Takes the first one away; nothing where there is none.
+    /// Takes one of them away, the first; nothing where there is none.
     #[tactic(auto, using(crate::proofs::WaitingFacts::none_in, crate::proofs::WaitingFacts::bit_taken))]
     pub fn pop_first(&mut self) -> Option<u32>
         ensures { MatchOption result ((f : ℕ) → bit_in self.old.words f ≡ 0)

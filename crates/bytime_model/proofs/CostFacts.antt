@@ -1,0 +1,304 @@
+-- The cost row's value at a plan is the plan's cost.
+use Rattle.std.proofs.Common.{◌≡◌, ℕ, zero, suc, ◌+◌, ◌-◌, ◌<◌, ◌≤◌, ◌==◌, Bool, true, false, min, max, List, [], ◌∷◌, ◌++◌, length, slice_get, Option, Some, get_or, take, take_all, if◌then◌else◌, ℤ, pos, neg_ℤ, ◌+ℤ◌, ◌-ℤ◌, ◌*ℤ◌, refl, sym, ◌∙◌, ap, ap₂, subst, arith, inl, inr}
+use Rattle.std.proofs.lemmas.Bool.{cases_lt, eq-eqb, ne_eqb}
+use Rattle.std.proofs.lemmas.Bool.Decides.{Decides-int_eq}
+use Rattle.std.proofs.lemmas.Int.{ints}
+use Rattle.std.proofs.lemmas.List.{append-nil, append_assoc}
+use Rattle.std.specs.List.{flat_map, range_with_len}
+use Rattle.std.specs.Ordering.{int_eq}
+use Rattle.flow_types.specs.declared.flight.CostTable.{CostTable}
+use Rattle.flow_types.specs.declared.flight.Flight.{Flight}
+use Rattle.flow_types.specs.declared.parts.Parts.{Parts}
+use Rattle.flow_types.specs.declared.plan.Stop.{Stop}
+use Rattle.flow_types.specs.Costs.{credit_of, plan_cost, times_cost, total_of, trip_cost}
+use Rattle.flow_types.specs.Feasible.{AreTrips}
+use Rattle.flow_types.specs.Trips.{IsOnward, IsTrip, IsWithinHours, arrival_from}
+use Rattle.flow_types.specs.Valid.{IsScenario}
+use Rattle.bytime_model.specs.declared.variables.Term.{Term}
+use Rattle.bytime_model.specs.declared.variables.Var.{Var}
+use Rattle.bytime_model.specs.declared.variables.Var.TheVariants.{By}
+use Rattle.bytime_model.specs.CostRow.{constants, cost_row, flight_constant, flight_terms, most_late, most_wait, priced_value, steps, unless_zero}
+use Rattle.bytime_model.specs.Rows.{over_flights, term_of}
+use Rattle.bytime_model.specs.Values.{form_value, value_at}
+use Rattle.bytime_model.proofs.FillFacts.{over_more}
+use Rattle.bytime_model.proofs.FormFacts.{form-append}
+use Rattle.bytime_model.proofs.EntryFacts.{by_few}
+use Rattle.bytime_model.proofs.ValidFacts.{flown}
+use Rattle.bytime_model.proofs.UseFacts.{IsFlown, arrived_by, by_value, departed, departed_by, not_arrived_by}
+
+module _ (value : Var → ℕ) where
+  -- a term of 0 is worth nothing
+  unless-zero : (factor : ℤ) (variable : Var)
+      → form_value value (unless_zero factor variable) ≡ factor *ℤ pos (value variable)
+  unless-zero factor variable = by (int_eq factor (pos 0)) refl
+    where
+      by : (b : Bool) → int_eq factor (pos 0) ≡ b
+          → form_value value (if b then [] else term_of factor variable ∷ [])
+          ≡ factor *ℤ pos (value variable)
+      by true is =
+          let none : factor ≡ pos 0 = (Decides-int_eq factor (pos 0)).0 is in
+          let nothing : pos 0 *ℤ pos (value variable) ≡ pos 0 = omega (arith, ints) in
+          sym nothing ∙ ap (λ f. f *ℤ pos (value variable)) (sym none)
+      by false not = omega (arith, ints)
+
+  not_yet : (factor : ℤ) (variable : Var) → value variable ≡ 0
+      → form_value value (unless_zero factor variable) ≡ pos 0
+  not_yet factor variable none =
+      let nothing : factor *ℤ pos 0 ≡ pos 0 = omega (arith, ints) in
+      unless-zero factor variable ∙ ap (λ n. factor *ℤ pos n) none ∙ nothing
+
+  by_then : (factor : ℤ) (variable : Var) → value variable ≡ 1
+      → form_value value (unless_zero factor variable) ≡ factor
+  by_then factor variable one =
+      let same : factor *ℤ pos 1 ≡ factor = omega (arith, ints) in
+      unless-zero factor variable ∙ ap (λ n. factor *ℤ pos n) one ∙ same
+
+  -- Of what is done from so many periods on, all that is worth less later falls away.
+  steps-from : (worth : ℕ → ℤ) (variable : ℕ → Var) (from count done : ℕ) → done ≤ from + count
+      → ((d : ℕ) → d < from + count → d < done → value (variable d) ≡ 0)
+      → ((d : ℕ) → d < from + count → done ≤ d → value (variable d) ≡ 1)
+      → form_value value (flat_map (λ d. unless_zero (worth d -ℤ worth (d + 1)) (variable d))
+      (range_with_len from count)) ≡ worth (max from done) -ℤ worth (from + count)
+  steps-from worth variable from zero done within before after =
+      let same : worth (max from done) ≡ worth (from + 0) = ap worth (omega (arith, within)) in
+      omega (arith, ints, same)
+  steps-from worth variable from (suc count) done within before after =
+      let factor = worth from -ℤ worth (from + 1) in
+      let rest = steps-from worth variable (from + 1) count done (omega (arith, within))
+      (λ d below early. before d (omega (arith, below)) early)
+      (λ d below late. after d (omega (arith, below)) late) in
+      let end : worth (from + 1 + count) ≡ worth (from + suc count) = ap worth (omega arith) in
+      let both = form-append value (unless_zero factor (variable from))
+      (flat_map (λ d. unless_zero (worth d -ℤ worth (d + 1)) (variable d))
+      (range_with_len (from + 1) count)) in
+      elim (cases_lt from done)
+      as (λ _. form_value value (unless_zero factor (variable from)
+      ++ flat_map (λ d. unless_zero (worth d -ℤ worth (d + 1)) (variable d))
+      (range_with_len (from + 1) count)) ≡ worth (max from done) -ℤ worth (from + suc count)) [
+        | inl early ↦
+            let here = not_yet factor (variable from) (before from (omega arith) early) in
+            let start : worth (max (from + 1) done) ≡ worth (max from done) =
+            ap worth (omega (arith, early)) in
+            omega (arith, ints, both, here, rest, end, start)
+        | inr late ↦
+            let here = by_then factor (variable from) (after from (omega arith) late) in
+            let start : worth (max (from + 1) done) ≡ worth (from + 1) =
+            ap worth (omega (arith, late)) in
+            let now : worth (max from done) ≡ worth from = ap worth (omega (arith, late)) in
+            omega (arith, ints, both, here, rest, end, start, now)
+      ]
+
+  pub steps-value : (worth : ℕ → ℤ) (variable : ℕ → Var) (count done : ℕ) → done ≤ count
+      → ((d : ℕ) → d < count → d < done → value (variable d) ≡ 0)
+      → ((d : ℕ) → d < count → done ≤ d → value (variable d) ≡ 1)
+      → form_value value (steps worth variable count) ≡ worth done -ℤ worth count
+  steps-value worth variable count done within before after =
+      let start : worth (max 0 done) ≡ worth done = ap worth (omega arith) in
+      let end : worth (0 + count) ≡ worth count = ap worth (omega arith) in
+      let all = steps-from worth variable 0 count done (omega (arith, within))
+      (λ d below. before d (omega (arith, below))) (λ d below. after d (omega (arith, below))) in
+      all ∙ ap₂ (λ a b. a -ℤ b) start end
+
+-- The flight's terms and constant are worth what its trip costs.
+module _ (tables : List CostTable) (flights : List Flight) (plan : List (List Stop))
+    (periods f : ℕ) (flight : Flight) (trip : List Stop)
+    (is : IsFlown flights plan periods f flight trip) where
+  abbrev value_in : Var → ℕ
+  value_in = value_at flights plan
+
+  -- the hours of its departure and its arrival
+  departs_within : (stop : Stop) (rest : List Stop) → IsTrip periods flight (stop ∷ rest)
+      → (flight.sd ≤ stop.time) × (stop.time ≤ min (flight.sd + flight.mg) (periods - 1))
+  departs_within stop rest valid =
+      let early = valid.1.early in
+      let late = valid.1.late in
+      let at = valid.0 in
+      (rw at at early, rw at at late)
+
+  -- what its departure and arrival are worth
+  departure_value : (stop : Stop) (rest : List Stop) → stop ∷ rest ≡ trip
+      → form_value value_in (steps (λ d. neg_ℤ (credit_of tables flight.cost d))
+      (λ d. By f 0 (flight.sd + d)) (most_wait periods flight))
+      ≡ credit_of tables flight.cost (most_wait periods flight)
+      -ℤ credit_of tables flight.cost (stop.time - flight.sd)
+  departure_value stop rest same =
+      let valid : IsTrip periods flight (stop ∷ rest) =
+      subst (IsTrip periods flight) (sym same) is.valid in
+      let hours = departs_within stop rest valid in
+      let steps-worth = steps-value value_in (λ d. neg_ℤ (credit_of tables flight.cost d))
+      (λ d. By f 0 (flight.sd + d)) (most_wait periods flight) (stop.time - flight.sd)
+      (omega (arith, hours.0, hours.1))
+      (λ d below early. by_value flights plan periods f flight trip is 0 (flight.sd + d)
+      ∙ departed flights plan periods f flight trip is (flight.sd + d) stop rest same
+      (omega (arith, early)))
+      (λ d below late. by_value flights plan periods f flight trip is 0 (flight.sd + d)
+      ∙ departed_by flights plan periods f flight trip is (flight.sd + d) stop rest same
+      (omega (arith, late, hours.0))) in
+      omega (arith, ints, steps-worth)
+
+  arrives_within : (stop : Stop) (rest : List Stop) → IsWithinHours periods flight stop
+      → IsOnward periods flight stop rest
+      → (flight.sa ≤ arrival_from stop rest)
+      × (arrival_from stop rest ≤ min (flight.sa + flight.md) (periods - 1))
+  arrives_within stop [] hours onward =
+      let some = is.some in
+      let other : (stop.node == 0) ≡ false =
+      ne_eqb stop.node 0 (λ zero. omega (arith, zero, onward, some)) in
+      let last : (stop.node + 1 == length flight.nodes) ≡ true =
+      eq-eqb (stop.node + 1) (length flight.nodes) onward in
+      let early = hours.early in
+      let late = hours.late in
+      (rw (other, last) at early, rw (other, last) at late)
+  arrives_within stop (next ∷ rest) hours onward =
+      arrives_within next rest onward.1 onward.2
+
+  arrival_value : (stop : Stop) (rest : List Stop) → stop ∷ rest ≡ trip
+      → form_value value_in (steps (total_of tables flight.cost)
+      (λ d. By f (length flight.nodes - 1) (flight.sa + d)) (most_late periods flight))
+      ≡ total_of tables flight.cost (arrival_from stop rest - flight.sa)
+      -ℤ total_of tables flight.cost (most_late periods flight)
+  arrival_value stop rest same =
+      let valid : IsTrip periods flight (stop ∷ rest) =
+      subst (IsTrip periods flight) (sym same) is.valid in
+      let hours = arrives_within stop rest valid.1 valid.2 in
+      let last = length flight.nodes - 1 in
+      steps-value value_in (total_of tables flight.cost)
+      (λ d. By f last (flight.sa + d)) (most_late periods flight)
+      (arrival_from stop rest - flight.sa)
+      (omega (arith, hours.0, hours.1))
+      (λ d below early. by_value flights plan periods f flight trip is last (flight.sa + d)
+      ∙ not_arrived_by flights plan periods f flight trip is (flight.sa + d) stop rest same
+      (omega (arith, early)))
+      (λ d below late. by_value flights plan periods f flight trip is last (flight.sa + d)
+      ∙ omega (
+        arith,
+        by_few last (flight.sa + d) trip,
+        arrived_by flights plan periods f flight trip is (flight.sa + d) stop rest same
+            (omega (arith, late, hours.0)),
+      ))
+
+  flight_cost : (stops : List Stop) → stops ≡ trip
+      → flight_constant tables periods flight
+      +ℤ form_value value_in (flight_terms tables periods f flight)
+      ≡ trip_cost tables flight trip
+  flight_cost [] same = absurd (subst (IsTrip periods flight) (sym same) is.valid)
+  flight_cost (stop ∷ rest) same =
+      let last = length flight.nodes - 1 in
+      let both = form-append value_in (steps (total_of tables flight.cost)
+      (λ d. By f last (flight.sa + d)) (most_late periods flight))
+      (steps (λ d. neg_ℤ (credit_of tables flight.cost d)) (λ d. By f 0 (flight.sd + d))
+      (most_wait periods flight)) in
+      let worth : flight_constant tables periods flight
+      +ℤ form_value value_in (flight_terms tables periods f flight)
+      ≡ times_cost tables flight stop.time (arrival_from stop rest) =
+      omega (arith, ints, both, arrival_value stop rest same, departure_value stop rest same) in
+      worth ∙ ap (trip_cost tables flight) same
+
+  pub flight_priced : flight_constant tables periods flight
+      +ℤ form_value value_in (flight_terms tables periods f flight)
+      ≡ trip_cost tables flight trip
+  flight_priced = flight_cost trip refl
+
+-- and those of all flights what the plan costs
+pub all_priced : (value : Var → ℕ) (tables : List CostTable) (periods k : ℕ)
+    (flights : List Flight) (plan : List (List Stop)) → AreTrips periods flights plan
+    → ((i : ℕ) (flight : Flight) (trip : List Stop) → slice_get flights i ≡ Some flight
+    → slice_get plan i ≡ Some trip
+    → flight_constant tables periods flight
+    +ℤ form_value value (flight_terms tables periods (k + i) flight)
+    ≡ trip_cost tables flight trip)
+    → constants tables periods flights
+    +ℤ form_value value (over_flights (flight_terms tables periods) k flights)
+    ≡ plan_cost tables flights plan
+all_priced value tables periods k [] plan trips each = omega (arith, ints)
+all_priced value tables periods k (flight ∷ flights) [] trips each = absurd trips
+all_priced value tables periods k (flight ∷ flights) (trip ∷ plan) trips each =
+    let part = flight_terms tables periods in
+    let here = each 0 flight trip refl refl in
+    let same : form_value value (part (k + 0) flight) ≡ form_value value (part k flight) =
+    ap (λ n. form_value value (part n flight)) (omega arith) in
+    let rest = all_priced value tables periods (k + 1) flights plan trips.1
+    (λ i fl tr is too. subst (λ n. flight_constant tables periods fl
+    +ℤ form_value value (part n fl) ≡ trip_cost tables fl tr) (omega arith)
+    (each (suc i) fl tr is too)) in
+    omega (
+      arith,
+      ints,
+      form-append value (part k flight) (over_flights part (k + 1) flights),
+      same,
+      here,
+      rest,
+    )
+
+pub plan_priced : (parts : Parts) (plan : List (List Stop)) → IsScenario parts
+    → AreTrips parts.day.periods parts.flights plan
+    → priced_value (value_at parts.flights plan) (cost_row parts)
+    ≡ plan_cost parts.tables parts.flights plan
+plan_priced parts plan scenario trips =
+    all_priced (value_at parts.flights plan) parts.tables parts.day.periods 0 parts.flights plan
+    trips (λ i flight trip found is.
+    let own = flown parts plan scenario trips i flight found in
+    let same : own.0 ≡ trip = some_same own.1.flown is in
+    let number : i ≡ 0 + i = omega arith in
+    subst (λ n. flight_constant parts.tables parts.day.periods flight
+    +ℤ form_value (value_at parts.flights plan)
+    (flight_terms parts.tables parts.day.periods n flight)
+    ≡ trip_cost parts.tables flight trip) number
+    (flight_priced parts.tables parts.flights plan parts.day.periods i flight own.0 own.1
+    ∙ ap (trip_cost parts.tables flight) same))
+  where
+    some_same : {A : Type 0} {o : Option A} {a b : A} → o ≡ Some a → o ≡ Some b → a ≡ b
+    some_same p q = cc
+
+-- one step more
+range_more : (part : ℕ → List Term) (from count : ℕ)
+    → flat_map part (range_with_len from (suc count))
+    ≡ flat_map part (range_with_len from count) ++ part (from + count)
+range_more part from zero = append-nil (part from) ∙ ap part (omega arith)
+range_more part from (suc count) =
+    let same : from + 1 + count ≡ from + suc count = omega arith in
+    ap (λ terms. part from ++ terms) (range_more part (from + 1) count)
+    ∙ ap (λ n. part from ++ (flat_map part (range_with_len (from + 1) count) ++ part n)) same
+    ∙ sym (append_assoc (part from) (flat_map part (range_with_len (from + 1) count))
+    (part (from + suc count)))
+
+pub steps_more : (worth : ℕ → ℤ) (variable : ℕ → Var) (count : ℕ) (factor : ℤ)
+    (start old new : List Term) → old ≡ start ++ steps worth variable count
+    → factor ≡ worth count -ℤ worth (count + 1)
+    → new ≡ old ++ unless_zero factor (variable count)
+    → new ≡ start ++ steps worth variable (count + 1)
+steps_more worth variable count factor start old new was is more =
+    let part = λ (d : ℕ). unless_zero (worth d -ℤ worth (d + 1)) (variable d) in
+    let next : count + 1 ≡ suc count = omega arith in
+    let at : 0 + count ≡ count = omega arith in
+    more ∙ ap (λ terms. terms ++ unless_zero factor (variable count)) was
+    ∙ append_assoc start (steps worth variable count) (unless_zero factor (variable count))
+    ∙ ap (λ f. start ++ (steps worth variable count ++ unless_zero f (variable count))) is
+    ∙ ap (λ n. start ++ (steps worth variable count ++ part n)) (sym at)
+    ∙ ap (λ terms. start ++ terms) (sym (range_more part 0 count)
+    ∙ ap (λ n. flat_map part (range_with_len 0 n)) (sym next))
+
+-- the terms of all flights, one after the other
+pub terms_none : (parts : Parts) (flights : List Flight)
+    → [] ≡ over_flights (flight_terms parts.tables parts.day.periods) 0 (take 0 flights)
+terms_none parts flights = refl
+
+pub terms_more : (parts : Parts) (flights : List Flight) (number : ℕ) (flight : Flight)
+    (old new : List Term) → number < length flights → flight ≡ get_or flights number flight
+    → old ≡ over_flights (flight_terms parts.tables parts.day.periods) 0 (take number flights)
+    → new ≡ old ++ flight_terms parts.tables parts.day.periods number flight
+    → new ≡ over_flights (flight_terms parts.tables parts.day.periods) 0
+    (take (number + 1) flights)
+terms_more parts flights number flight old new within is was more =
+    let part = flight_terms parts.tables parts.day.periods in
+    more ∙ ap (λ terms. terms ++ part number flight) was
+    ∙ ap (λ f. over_flights part 0 (take number flights) ++ part number f) is
+    ∙ sym (over_more part flights number flight within)
+
+pub terms_all : (parts : Parts) (flights : List Flight) (number : ℕ) (terms : List Term)
+    → length flights ≤ number
+    → terms ≡ over_flights (flight_terms parts.tables parts.day.periods) 0 (take number flights)
+    → terms ≡ over_flights (flight_terms parts.tables parts.day.periods) 0 flights
+terms_all parts flights number terms past are =
+    are ∙ ap (over_flights (flight_terms parts.tables parts.day.periods) 0)
+    (take_all number flights past)

@@ -1,0 +1,11 @@
+pub mod CostFacts
+pub mod EntryFacts
+pub mod FillFacts
+pub mod FormFacts
+pub mod LeftFacts
+pub mod NodeFacts
+pub mod RowFacts
+pub mod TripFacts
+pub mod UseFacts
+pub mod ValidFacts
+pub mod WorkedRows

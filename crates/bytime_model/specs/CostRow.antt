@@ -1,0 +1,78 @@
+-- The cost row: what a plan costs, as a constant and a sum of terms. A flight that hasn't arrived
+-- by a period pays for it, and one that hasn't departed by a period is paid back.
+use Rattle.std.specs.Prelude.{ℕ, ◌+◌, ◌-◌, min, List, [], ◌∷◌, ◌++◌, length, ℤ, pos, neg_ℤ, ◌+ℤ◌, ◌-ℤ◌, ◌≤ℤ◌, if◌then◌else◌}
+use Rattle.std.specs.Ordering.{int_eq}
+use Rattle.std.specs.List.{flat_map, range_with_len}
+use Rattle.flow_types.specs.declared.flight.CostTable.{CostTable}
+use Rattle.flow_types.specs.declared.flight.Flight.{Flight}
+use Rattle.flow_types.specs.declared.parts.Parts.{Parts}
+use Rattle.flow_types.specs.Costs.{credit_of, total_of}
+use Rattle.bytime_model.specs.declared.variables.Term.{Term}
+use Rattle.bytime_model.specs.declared.variables.Var.{Var}
+use Rattle.bytime_model.specs.declared.variables.Var.TheVariants.{By}
+use Rattle.bytime_model.specs.Rows.{over_flights, term_of}
+use Rattle.bytime_model.specs.Values.{form_value}
+
+-- a sum of terms and a constant
+pub record Priced : Type 0 where
+  pub constant : ℤ
+  pub terms : List Term
+
+-- no further from 0 than any total or credit
+pub record IsNearZero (v : ℤ) : Type 0 where
+  pub low : neg_ℤ (pos 100000000000) ≤ℤ v
+  pub high : v ≤ℤ pos 100000000000
+
+-- the term, where its factor isn't 0
+abbrev pub unless_zero : ℤ → Var → List Term
+unless_zero factor variable = if int_eq factor (pos 0) then [] else term_of factor variable ∷ []
+
+-- Of what is worth so much after each number of periods: what it falls by in each period, for what
+-- is done by then.
+abbrev pub steps : (ℕ → ℤ) → (ℕ → Var) → ℕ → List Term
+steps worth variable count =
+    flat_map (λ d. unless_zero (worth d -ℤ worth (d + 1)) (variable d)) (range_with_len 0 count)
+
+-- how much later than scheduled a flight may arrive, and depart
+abbrev pub most_late : ℕ → Flight → ℕ
+most_late periods flight = min (flight.sa + flight.md) (periods - 1) - flight.sa
+
+abbrev pub most_wait : ℕ → Flight → ℕ
+most_wait periods flight = min (flight.sd + flight.mg) (periods - 1) - flight.sd
+
+-- what a flight puts into the constant: its cost, if it were as late as it may
+abbrev pub flight_constant : List CostTable → ℕ → Flight → ℤ
+flight_constant tables periods flight =
+    total_of tables flight.cost (most_late periods flight)
+    -ℤ credit_of tables flight.cost (most_wait periods flight)
+
+-- what it pays for each period that it hasn't arrived by, and is paid back for each that it hasn't
+-- departed by
+abbrev pub late_terms : List CostTable → ℕ → ℕ → Flight → List Term
+late_terms tables periods number flight =
+    steps (total_of tables flight.cost)
+    (λ d. By number (length flight.nodes - 1) (flight.sa + d)) (most_late periods flight)
+
+abbrev pub wait_terms : List CostTable → ℕ → ℕ → Flight → List Term
+wait_terms tables periods number flight =
+    steps (λ d. neg_ℤ (credit_of tables flight.cost d)) (λ d. By number 0 (flight.sd + d))
+    (most_wait periods flight)
+
+abbrev pub flight_terms : List CostTable → ℕ → ℕ → Flight → List Term
+flight_terms tables periods number flight =
+    late_terms tables periods number flight ++ wait_terms tables periods number flight
+
+abbrev pub constants : List CostTable → ℕ → List Flight → ℤ
+constants tables periods [] = pos 0
+constants tables periods (flight ∷ flights) =
+    flight_constant tables periods flight +ℤ constants tables periods flights
+
+abbrev pub cost_row : Parts → Priced
+cost_row parts = record {
+  constant = constants parts.tables parts.day.periods parts.flights;
+  terms = over_flights (flight_terms parts.tables parts.day.periods) 0 parts.flights;
+}
+
+-- its value where variables have these values
+abbrev pub priced_value : (Var → ℕ) → Priced → ℤ
+priced_value value row = row.constant +ℤ form_value value row.terms
