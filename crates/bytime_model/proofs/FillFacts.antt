@@ -67,7 +67,7 @@ pub before_few : (flight node time wait : ℕ)
     → length (by_before minus_one flight node time wait) ≤ 1
 before_few flight node time wait =
     if_few (nat_le wait time) (term_of minus_one (By flight node (time - wait)) ∷ []) 1 (omega
-        arith)
+    arith)
 
 pub on_few : (flight node time : ℕ) (leg : Leg) → length (on_term flight node time leg) ≤ 1
 on_few flight node time leg =

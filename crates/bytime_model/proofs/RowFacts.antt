@@ -30,7 +30,7 @@ pub enter_fills : (parts : Parts) (f n t : ℕ) (flight : Flight) (held : AtMost
 enter_fills parts f n t flight held is row terms limit =
     fills parts (Enter f n t) held row
     (same_row held (of_flight (λ flight. enter_terms f flight n t) (slice_get parts.flights f))
-        (pos 0)
+    (pos 0)
     (terms ∙ ap (of_flight (λ flight. enter_terms f flight n t)) (sym is)) limit)
 
 pub occupy_fills : (parts : Parts) (f n t : ℕ) (flight : Flight) (held : AtMost)

@@ -50,8 +50,12 @@ pub on_le : (v w : ℕ → ℕ) (node : ℕ) (legs : List Leg) → ((m : ℕ) �
     → on_sum v node legs ≤ on_sum w node legs
 on_le v w node [] le = omega arith
 on_le v w node (leg ∷ legs) le =
-    omega (arith, if_le (leg.from == node) (v leg.to) (w leg.to) (le leg.to), on_le v w node legs
-        le)
+    omega (
+      arith,
+      if_le (leg.from == node) (v leg.to) (w leg.to) (le leg.to),
+      on_le v w node legs
+          le,
+    )
 
 pub back_le : (v w : ℕ → ℕ → ℕ) (node time : ℕ) (legs : List Leg) → ((m t : ℕ) → v m t ≤ w m t)
     → back_sum v node time legs ≤ back_sum w node time legs
@@ -169,8 +173,11 @@ was_before stop next rest node time leg is between =
       omega (
         arith,
         by_here leg.from (time - leg.least) stop (next ∷ rest)
-            (is_by_at stop leg.from (time - leg.least) (sym between.from) (omega (arith, early,
-                least))),
+            (is_by_at stop leg.from (time - leg.least) (sym between.from) (omega (
+              arith,
+              early,
+              least,
+            ))),
       ),
     )
 
@@ -354,7 +361,7 @@ arrives periods flight place time last stop [] legs end at onward =
                 eq-eqb (place_at flight stop.node) place (ap (place_at flight) is.there ∙ at) in
                 let now_is : (stop.time == time) ≡ true = eq-eqb stop.time time now in
                 let both : one_if ((place_at flight stop.node == place) && (stop.time == time)) ≡ 1
-                    =
+                =
                 rw (here, now_is) refl in
                 omega (arith, by_few last time (stop ∷ []), both)
             | inr earlier ↦

@@ -165,7 +165,7 @@ module _ (flights : List Flight) (plan : List (List Stop)) (periods f : ℕ) (fl
           (and_parts (nat_lt 0 node) (nat_lt (node + 1) (length flight.nodes)
           && ((count_by (λ leg. leg.from == node) flight.legs == 1)
           && (count_by (λ leg. leg.to == next_of flight.legs node) flight.legs == 1))) plain).1).0
-              in
+          in
           omega (
             arith,
             ints,

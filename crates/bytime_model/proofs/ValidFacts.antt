@@ -122,8 +122,12 @@ module _ (parts : Parts) (plan : List (List Stop)) (scenario : IsScenario parts)
     entered_by n t (stop ∷ rest) same from =
         let valid : IsTrip parts.day.periods flight (stop ∷ rest) =
         subst (IsTrip parts.day.periods flight) (sym same) is.valid in
-        let skip = by_skip n t stop rest (not_by n t stop (λ at _. omega (arith, at, valid.0,
-            from))) in
+        let skip = by_skip n t stop rest (not_by n t stop (λ at _. omega (
+          arith,
+          at,
+          valid.0,
+          from,
+        ))) in
         let inside = entered parts.day.periods flight n t stop rest valid.2 in
         let whole : by_of n t trip ≤ back_sum (λ m u. by_of m u trip) n t flight.legs =
         subst (λ s. by_of n t s ≤ back_sum (λ m u. by_of m u s) n t flight.legs) same
@@ -273,12 +277,12 @@ module _ (parts : Parts) (plan : List (List Stop)) (scenario : IsScenario parts)
   row_kept (Top f n) is = top_kept parts plan scenario feasible.trips f n (parts.day.periods - 1)
   row_kept (Dep p t) is =
       let both = and_parts (is_airport (slice_get parts.places p)) (nat_lt t parts.day.periods) is
-          in
+      in
       within_capacity kind.Dep p t _ (feasible.departures p t both.0
       (ltb-true t parts.day.periods both.1))
   row_kept (Arr p t) is =
       let both = and_parts (is_airport (slice_get parts.places p)) (nat_lt t parts.day.periods) is
-          in
+      in
       within_capacity kind.Arr p t _ (feasible.arrivals p t both.0
       (ltb-true t parts.day.periods both.1))
   row_kept (Sector p t) is =

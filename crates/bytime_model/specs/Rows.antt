@@ -62,7 +62,7 @@ back_terms number flight node time = flat_map (back_term number node time) fligh
 abbrev pub stay_terms : ℕ → Flight → ℕ → ℕ → List Term
 stay_terms number flight time node =
     if is_plain flight node then term_of one (By number node time) ∷ on_terms number flight node
-        time
+    time
     else term_of one (Inside number node time) ∷ []
 
 -- the node at the place: there is one at most, since all are at different places

@@ -119,7 +119,7 @@ same_inside parts box other is inside = record {
 
 pub early_made : (parts : Parts) (old new : Held) (flight node time : ℕ)
     → IsMadeFor parts old → IsBranching (box_of old flight node) time → new.ways ≡ old.ways →
-        new.turns ≡ old.turns
+    new.turns ≡ old.turns
     → ((f n : ℕ) → box_of new f n ≡ early_branch flight node time (box_of old) f n)
     → IsMadeFor parts new
 early_made parts old new flight node time made branching ways turns is = record {
@@ -131,7 +131,7 @@ early_made parts old new flight node time made branching ways turns is = record 
 
 pub late_made : (parts : Parts) (old new : Held) (flight node time : ℕ)
     → IsMadeFor parts old → IsBranching (box_of old flight node) time → new.ways ≡ old.ways →
-        new.turns ≡ old.turns
+    new.turns ≡ old.turns
     → ((f n : ℕ) → box_of new f n ≡ late_branch flight node time (box_of old) f n)
     → IsMadeFor parts new
 late_made parts old new flight node time made branching ways turns is = record {

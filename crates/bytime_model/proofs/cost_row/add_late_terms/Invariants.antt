@@ -8,4 +8,4 @@ use Rattle.bytime_model.proofs.cost_row.add_late_terms.Given as goal
 abbrev pub invariant-loop-delay : goal.invariant-loop-delay
 invariant-loop-delay l =
     l.terms ≡ l.initial.terms ++ steps (total_of (parts_of l.s).tables l.flight.cost) (λ d. By
-        l.number l.last (l.flight.sa + d)) l.delay
+    l.number l.last (l.flight.sa + d)) l.delay

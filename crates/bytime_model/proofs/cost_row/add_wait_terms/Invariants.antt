@@ -8,4 +8,4 @@ use Rattle.bytime_model.proofs.cost_row.add_wait_terms.Given as goal
 abbrev pub invariant-loop-delay : goal.invariant-loop-delay
 invariant-loop-delay l =
     l.terms ≡ l.initial.terms ++ steps (λ d. neg_ℤ (credit_of (parts_of l.s).tables l.flight.cost
-        d)) (λ d. By l.number 0 (l.flight.sd + d)) l.delay
+    d)) (λ d. By l.number 0 (l.flight.sd + d)) l.delay

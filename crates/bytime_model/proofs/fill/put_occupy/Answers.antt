@@ -12,8 +12,11 @@ put-requires-2 c =
       c.requires.room,
       c.requires.legs,
       adds_length (term_of one (By c.args.number c.args.node c.args.time) ∷ [])
-          c.args.buffer.now c.put.new.self (record { terms = c.put.ensures.terms; limit =
-              c.put.ensures.limit }),
+          c.args.buffer.now c.put.new.self (record {
+            terms = c.put.ensures.terms;
+            limit =
+                c.put.ensures.limit;
+          }),
       adds_length (on_terms c.args.number flight c.args.node c.args.time) c.put.new.self
           c.put_all_on.new.buffer c.put_all_on.ensures,
       on_all_few c.args.number c.args.node c.args.time flight.legs,

@@ -11,5 +11,5 @@ returns-clause-agrees c = λ plan trips inside.
     let parts = parts_of c.args.s.now in
     subst (Agrees (value_at parts.flights plan) c.args.variable) (sym c.left_at.ensures)
     (agrees parts plan c.args.s.now.valid trips (box_of c.args.boxes.now) c.requires.made.inside
-        inside
+    inside
     c.args.variable)
