@@ -1,5 +1,5 @@
 -- The cost row's value at a plan is the plan's cost.
-use Rattle.std.proofs.Common.{◌≡◌, ℕ, zero, suc, ◌+◌, ◌-◌, ◌<◌, ◌≤◌, ◌==◌, Bool, true, false, min, max, List, [], ◌∷◌, ◌++◌, length, slice_get, Option, Some, get_or, take, take_all, if◌then◌else◌, ℤ, pos, neg_ℤ, ◌+ℤ◌, ◌-ℤ◌, ◌*ℤ◌, refl, sym, ◌∙◌, ap, ap₂, subst, arith, inl, inr}
+use Rattle.std.proofs.Common.{◌≡◌, ℕ, zero, suc, ◌+◌, ◌-◌, ◌<◌, ◌≤◌, ◌==◌, Bool, true, false, min, max, List, [], ◌∷◌, ◌++◌, length, slice_get, Option, Some, IfSome, ◌*◌, ◌^◌, get_or, take, take_all, if◌then◌else◌, ℤ, pos, neg_ℤ, ◌+ℤ◌, ◌-ℤ◌, ◌*ℤ◌, refl, sym, ◌∙◌, ap, ap₂, subst, arith, inl, inr}
 use Rattle.std.proofs.lemmas.Bool.{cases_lt, eq-eqb, ne_eqb}
 use Rattle.std.proofs.lemmas.Bool.Decides.{Decides-int_eq}
 use Rattle.std.proofs.lemmas.Int.{ints}
@@ -17,7 +17,7 @@ use Rattle.flow_types.specs.Valid.{IsScenario}
 use Rattle.bytime_model.specs.declared.variables.Term.{Term}
 use Rattle.bytime_model.specs.declared.variables.Var.{Var}
 use Rattle.bytime_model.specs.declared.variables.Var.TheVariants.{By}
-use Rattle.bytime_model.specs.CostRow.{constants, cost_row, flight_constant, flight_terms, most_late, most_wait, priced_value, steps, unless_zero}
+use Rattle.bytime_model.specs.CostRow.{IsWithin, constants, cost_row, flight_constant, flight_terms, most_late, most_wait, plus, priced_value, steps, unless_zero}
 use Rattle.bytime_model.specs.Rows.{over_flights, term_of}
 use Rattle.bytime_model.specs.Values.{form_value, value_at}
 use Rattle.bytime_model.proofs.FillFacts.{over_more}
@@ -302,3 +302,62 @@ pub terms_all : (parts : Parts) (flights : List Flight) (number : ℕ) (terms : 
 terms_all parts flights number terms past are =
     are ∙ ap (over_flights (flight_terms parts.tables parts.day.periods) 0)
     (take_all number flights past)
+
+-- the constants of the flights so far, and how far from 0 their sum may be
+pub record IsConstant (parts : Parts) (number : ℕ) (sum : Option ℤ) : Type 0 where
+  pub is : sum ≡ Some (constants parts.tables parts.day.periods (take number parts.flights))
+  pub within : IsWithin (200000000000 * number)
+      (constants parts.tables parts.day.periods (take number parts.flights))
+
+constants_suc : (tables : List CostTable) (periods : ℕ) (flights : List Flight) (i : ℕ) (d : Flight)
+    → i < length flights
+    → constants tables periods (take (suc i) flights)
+    ≡ constants tables periods (take i flights)
+    +ℤ flight_constant tables periods (get_or flights i d)
+constants_suc tables periods [] i d within = absurd (omega (arith, within))
+constants_suc tables periods (flight ∷ flights) zero d within = omega (arith, ints)
+constants_suc tables periods (flight ∷ flights) (suc i) d within =
+    omega (arith, ints, constants_suc tables periods flights i d (omega (arith, within)))
+
+pub constant_none : (parts : Parts) → IsConstant parts 0 (Some (pos 0))
+constant_none parts = record {
+  is = refl;
+  within = record { down = omega (arith, ints); up = omega (arith, ints) };
+}
+
+pub constant_more : (parts : Parts) (number : ℕ) (flight : Flight) (sum more next : Option ℤ)
+    → number < length parts.flights → flight ≡ get_or parts.flights number flight
+    → IsConstant parts number sum
+    → more ≡ Some (flight_constant parts.tables parts.day.periods flight)
+    → IfSome more (IsWithin 200000000000) → next ≡ plus sum more
+    → IsConstant parts (number + 1) next
+constant_more parts number flight sum more next below is so is_more near sums =
+    let value = constants parts.tables parts.day.periods (take number parts.flights) in
+    let one = flight_constant parts.tables parts.day.periods flight in
+    let step : number + 1 ≡ suc number = omega arith in
+    let all : constants parts.tables parts.day.periods (take (number + 1) parts.flights)
+    ≡ value +ℤ one =
+    ap (λ n. constants parts.tables parts.day.periods (take n parts.flights)) step
+    ∙ constants_suc parts.tables parts.day.periods parts.flights number flight below
+    ∙ ap (λ f. value +ℤ flight_constant parts.tables parts.day.periods f) (sym is) in
+    let bound : IsWithin 200000000000 one = subst (λ o. IfSome o (IsWithin 200000000000)) is_more
+    near in
+    let was = so.within in
+    record {
+      is = sums ∙ ap₂ plus so.is is_more ∙ ap Some (sym all);
+      within = record {
+        down = omega (arith, ints, all, was.down, bound.down);
+        up = omega (arith, ints, all, was.up, bound.up);
+      };
+    }
+
+pub constant_near : (parts : Parts) (number : ℕ) (sum : Option ℤ) → IsScenario parts
+    → number ≤ length parts.flights → IsConstant parts number sum
+    → IfSome sum (IsWithin (2 ^ 60))
+constant_near parts number sum scenario below so =
+    let few = scenario.flights_few in
+    let was = so.within in
+    subst (λ o. IfSome o (IsWithin (2 ^ 60))) (sym so.is) (record {
+      down = omega (arith, ints, was.down, few, below);
+      up = omega (arith, ints, was.up, few, below);
+    })

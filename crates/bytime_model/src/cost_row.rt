@@ -1,18 +1,49 @@
 //! The cost row.
-ghost use Rattle.std.specs.Prelude.{◌≡◌, ◌+◌, ◌-◌, ◌≤◌, ◌<◌, ◌^◌, ◌++◌, ℕ, Some, IfOk, OnOk, List, length, pos, neg_ℤ, ◌-ℤ◌, ◌+ℤ◌, ◌≤ℤ◌};
+ghost use Rattle.std.specs.Prelude.{◌≡◌, ◌+◌, ◌-◌, ◌≤◌, ◌<◌, ◌^◌, ◌++◌, ℕ, Some, IfOk, IfSome, OnOk, List, length, pos, neg_ℤ, ◌-ℤ◌, ◌+ℤ◌, ◌≤ℤ◌};
 ghost use Rattle.flow_types.specs.declared.plan.Stop.{Stop};
 ghost use Rattle.flow_types.specs.declared.parts.Parts.{Parts};
 ghost use Rattle.flow_types.specs.Costs.{credit_at, plan_cost, total_at};
 ghost use Rattle.flow_types.specs.Feasible.{AreTrips};
 ghost use Rattle.flow_types.specs.Scenario.{flight_at, parts_of};
 ghost use Rattle.flow_types.specs.Valid.{IsScenario};
-ghost use Rattle.bytime_model.specs.CostRow.{IsNearZero, cost_row, flight_terms, late_terms, most_late, most_wait, priced_value, unless_zero, wait_terms};
+ghost use Rattle.bytime_model.specs.CostRow.{IsNearZero, IsWithin, cost_row, flight_constant, flight_terms, late_terms, most_late, most_wait, plus, priced_value, unless_zero, wait_terms};
 ghost use Rattle.bytime_model.specs.declared.variables.Var.TheVariants.{By};
 ghost use Rattle.bytime_model.specs.Values.{value_at};
 
 use crate::variables::{Term, Terms, Var};
 use flow_types::{Flight, OutOfMemory, Scenario};
 use std::alloc::Global;
+use std::marker::Model;
+
+/// What a plan costs: a constant and a sum of terms.
+#[derive(Debug, Drop)]
+pub struct CostRow {
+    pub constant: i64,
+    pub terms: Terms,
+}
+
+impl Model for CostRow {
+    ghost use Rattle.bytime_model.specs.CostRow.{Priced};
+
+    ghost Value = { Priced };
+
+    ghost view = { λ r. record { constant = r.constant; terms = r.terms } };
+}
+
+/// The cost row. Its value at a plan, with one trip for each flight, is the plan's cost. It takes
+/// memory for each period that a flight may be late or wait.
+pub fn linear_cost(alloc: Global, s: &Scenario) -> Result<CostRow, OutOfMemory>
+    ensures row { IfOk result (λ row. row ≡ cost_row (parts_of s.now)) }
+    ensures cost { IfOk result (λ row. (plan : List (List Stop))
+        → AreTrips (parts_of s.now).day.periods (parts_of s.now).flights plan
+        → priced_value (value_at (parts_of s.now).flights plan) row
+        ≡ plan_cost (parts_of s.now).tables (parts_of s.now).flights plan) }
+{
+    Ok(CostRow {
+        constant: constant_of(s),
+        terms: cost_terms(alloc, s)?,
+    })
+}
 
 // How much later than scheduled the flight may arrive.
 fn most_late(periods: u16, flight: &Flight) -> u16
@@ -172,10 +203,9 @@ fn add_flight_terms(
     add_wait_terms(terms, s, number, flight)
 }
 
-/// The terms of the cost row: with its constant they are worth at a plan what the plan costs. They
-/// take memory for each period that a flight may be late.
+// The terms of all flights.
 #[tactic(auto, using(crate::proofs::CostFacts::terms_none, crate::proofs::CostFacts::terms_more, crate::proofs::CostFacts::terms_all))]
-pub fn cost_terms(alloc: Global, s: &Scenario) -> Result<Terms, OutOfMemory>
+fn cost_terms(alloc: Global, s: &Scenario) -> Result<Terms, OutOfMemory>
     ensures { IfOk result (λ terms. terms ≡ (cost_row (parts_of s.now)).terms) }
 {
     let flights = s.flights();
@@ -186,10 +216,43 @@ pub fn cost_terms(alloc: Global, s: &Scenario) -> Result<Terms, OutOfMemory>
     Ok(terms)
 }
 
-/// The value of the cost row at a plan, with one trip for each flight, is the plan's cost.
-pub fn cost_rows_are_costs()
-    ensures { (parts : Parts) (plan : List (List Stop)) → IsScenario parts
-        → AreTrips parts.day.periods parts.flights plan
-        → priced_value (value_at parts.flights plan) (cost_row parts)
-        ≡ plan_cost parts.tables parts.flights plan }
-{}
+// The cost of the flight, if it were as late as it may.
+fn flight_constant(s: &Scenario, number: u32, flight: &Flight) -> Option<i64>
+    requires { flight_at s.now number ≡ Some flight.now }
+    ensures constant { result ≡ Some (flight_constant (parts_of s.now).tables
+        (parts_of s.now).day.periods flight.now) }
+    ensures within { IfSome result (IsWithin 200000000000) }
+{
+    let periods = s.day().periods;
+    Some(difference(
+        s.total(number, most_late(periods, flight)),
+        s.credit(number, most_wait(periods, flight)),
+    ))
+}
+
+// The sum of both, where both are there.
+fn plus(sum: Option<i64>, more: Option<i64>) -> Option<i64>
+    requires sum { IfSome sum (IsWithin (2 ^ 60)) }
+    requires more { IfSome more (IsWithin 200000000000) }
+    ensures { result ≡ plus sum more }
+{
+    match sum {
+        None => None,
+        Some(sum) => match more {
+            None => None,
+            Some(more) => Some(sum + more),
+        },
+    }
+}
+
+// What all flights cost, if they were as late as they may.
+fn constant_of(s: &Scenario) -> i64
+    ensures { result ≡ (cost_row (parts_of s.now)).constant }
+{
+    let flights = s.flights();
+    let mut sum = Some(0);
+    for number in 0..flights.len() {
+        sum = plus(sum, flight_constant(s, number as u32, &flights[number]));
+    }
+    sum.unwrap_or(0)
+}

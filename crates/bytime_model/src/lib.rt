@@ -19,12 +19,11 @@
 //! leaves of a variable). `Filling` serves the proof of `fill` alone.
 //!
 //! Proved: `fill` tells whether there is a row of that name (`told`) and holds exactly it (`row`),
-//! which no plan that keeps every rule breaks (`valid`), or no terms (`none`). `cost_terms` gives
-//! the terms of the cost row, whose value at a plan is the plan's cost (`cost_rows_are_costs`).
-//! `left_of` tells what the box leaves of a variable (`left`), and it is so at every plan in the
-//! box (`agrees`).
+//! which no plan that keeps every rule breaks (`valid`), or no terms (`none`). `linear_cost` gives
+//! the cost row (`row`), whose value at a plan is the plan's cost (`cost`). `left_of` tells what
+//! the box leaves of a variable (`left`), and it is so at every plan in the box (`agrees`).
 //!
-//! Memory: `RowBuffer` takes 0.2 MB once, and `cost_terms` 24 bytes for each period that a flight
+//! Memory: `RowBuffer` takes 0.2 MB once, and `linear_cost` 24 bytes for each period that a flight
 //! may be late or wait, or up to twice that, since the list grows; the others take none. Time: a
 //! row of a capacity goes over the flights of the day, and any other over the legs of its flight.
 #![tactic(auto)]
@@ -38,7 +37,7 @@ mod rows;
 mod variables;
 
 pub use buffer::{MOST_TERMS, RowBuffer};
-pub use cost_row::{cost_rows_are_costs, cost_terms};
+pub use cost_row::{CostRow, linear_cost};
 pub use left::{Left, left_of};
 pub use names::RowName;
 pub use variables::{Term, Terms, Var};
