@@ -1,11 +1,13 @@
 -- Rows of the day of two flights, of the flight there and back, and of a flight with two ways.
-use Rattle.std.proofs.Common.{◌≡◌, false, [], ◌∷◌, pos, refl}
+use Rattle.std.proofs.Common.{◌≡◌, ℕ, true, false, [], ◌∷◌, pos, refl}
+use Rattle.flow_types.specs.declared.flight.Leg.{Leg}
 use Rattle.flow_types.specs.declared.parts.Parts.{Parts}
 use Rattle.bytime_model.specs.declared.names.RowName.TheVariants.{Arr, Connect, Dep, Enter, Leave, Mono, Occupy, Sector, Top}
-use Rattle.bytime_model.specs.declared.variables.Var.TheVariants.{By}
+use Rattle.bytime_model.specs.declared.variables.Var.TheVariants.{By, Inside}
+use Rattle.bytime_model.specs.CostRow.{cost_row, priced_value}
 use Rattle.bytime_model.specs.Rows.{is_row, minus_one, one, row_of, term_of}
 use Rattle.bytime_model.specs.Values.{form_value, value_at}
-use Rattle.worked_days.specs.Days.{plan_with, there_and_back, trip_at, two_flights}
+use Rattle.worked_days.specs.Days.{plan_with, there, there_and_back, trip_at, two_flights}
 
 -- one departure a period, nine arrivals, nine flights in the sector
 abbrev two : Parts
@@ -92,3 +94,52 @@ both_leave = refl
 one_leaves : form_value (value_at two.flights (plan_with (trip_at 1 3)))
     (row_of two (Dep 0 0)).terms ≡ pos 1
 one_leaves = refl
+
+-- A flight with two ways, by either sector: whoever has entered one may still be inside, as the
+-- last node has two ways in.
+abbrev leg_with : ℕ → ℕ → ℕ → Leg
+leg_with from to least = record { from = from; to = to; least = least }
+
+abbrev forked : Parts
+forked = record two {
+  flights = record there {
+    nodes = 0 ∷ 2 ∷ 3 ∷ 1 ∷ [];
+    legs = leg_with 0 1 0 ∷ leg_with 0 2 1 ∷ leg_with 1 3 2 ∷ leg_with 2 3 1 ∷ [];
+  } ∷ [];
+}
+
+inside_one : row_of forked (Sector 2 3) ≡ record {
+  terms = term_of one (Inside 0 1 3) ∷ [];
+  limit = pos 9;
+}
+inside_one = refl
+
+occupies : is_row forked (Occupy 0 1 3) ≡ true
+occupies = refl
+
+inside_or_on : row_of forked (Occupy 0 1 3) ≡ record {
+  terms = term_of one (By 0 1 3) ∷ term_of minus_one (By 0 3 3)
+      ∷ term_of minus_one (Inside 0 1 3) ∷ [];
+  limit = pos 0;
+}
+inside_or_on = refl
+
+-- the last node is entered from either, as long ago as the leg from there takes
+from_either : row_of forked (Enter 0 3 1) ≡ record {
+  terms = term_of one (By 0 3 1) ∷ term_of minus_one (By 0 2 0) ∷ [];
+  limit = pos 0;
+}
+from_either = refl
+
+from_both : row_of forked (Enter 0 3 2) ≡ record {
+  terms = term_of one (By 0 3 2) ∷ term_of minus_one (By 0 1 0) ∷ term_of minus_one (By 0 2 1) ∷ [];
+  limit = pos 0;
+}
+from_both = refl
+
+-- the first flight's cost: 2 a period late, and 1 less for each that it waited on the ground
+costs_late : priced_value (value_at two.flights (plan_with (trip_at 1 4))) (cost_row two) ≡ pos 3
+costs_late = refl
+
+costs_nothing : priced_value (value_at two.flights (plan_with (trip_at 0 2))) (cost_row two) ≡ pos 0
+costs_nothing = refl
