@@ -19,9 +19,10 @@
 //! leaves of a variable). `Filling` serves the proof of `fill` alone.
 //!
 //! Proved: `fill` tells whether there is a row of that name (`told`) and holds exactly it (`row`),
-//! which no plan that keeps every rule breaks (`valid`), or no terms (`none`). `linear_cost` gives
-//! the cost row (`row`), whose value at a plan is the plan's cost (`cost`). `left_of` tells what
-//! the box leaves of a variable (`left`), and it is so at every plan in the box (`agrees`).
+//! which no plan that keeps every rule breaks (`valid`), or no terms (`none`); `row_of` gives the
+//! same row in a list of its own (`some`, `row`). `linear_cost` gives the cost row (`row`), whose
+//! value at a plan is the plan's cost (`cost`). `left_of` tells what the box leaves of a variable
+//! (`left`), and it is so at every plan in the box (`agrees`).
 //!
 //! Memory: `RowBuffer` takes 0.2 MB once, and `linear_cost` 24 bytes for each period that a flight
 //! may be late or wait, or up to twice that, since the list grows; the others take none. Time: a
@@ -33,6 +34,7 @@ mod cost_row;
 mod fill;
 mod left;
 mod names;
+mod row;
 mod rows;
 mod variables;
 
@@ -40,4 +42,5 @@ pub use buffer::{MOST_TERMS, RowBuffer};
 pub use cost_row::{CostRow, linear_cost};
 pub use left::{Left, left_of};
 pub use names::RowName;
+pub use row::{Row, row_of};
 pub use variables::{Term, Terms, Var};
