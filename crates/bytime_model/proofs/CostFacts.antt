@@ -17,7 +17,8 @@ use Rattle.flow_types.specs.Valid.{IsScenario}
 use Rattle.bytime_model.specs.declared.variables.Term.{Term}
 use Rattle.bytime_model.specs.declared.variables.Var.{Var}
 use Rattle.bytime_model.specs.declared.variables.Var.TheVariants.{By}
-use Rattle.bytime_model.specs.CostRow.{IsWithin, constants, cost_row, flight_constant, flight_terms, most_late, most_wait, plus, priced_value, steps, unless_zero}
+use Rattle.bytime_model.specs.CostRow.{constants, cost_row, flight_constant, flight_terms, most_late, most_wait, priced_value, steps, unless_zero}
+use Rattle.bytime_model.specs.Filling.{IsWithin, plus}
 use Rattle.bytime_model.specs.Rows.{over_flights, term_of}
 use Rattle.bytime_model.specs.Values.{form_value, value_at}
 use Rattle.bytime_model.proofs.FillFacts.{over_more}

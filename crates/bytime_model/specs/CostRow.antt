@@ -1,6 +1,6 @@
 -- The cost row: what a plan costs, as a constant and a sum of terms. A flight that hasn't arrived
 -- by a period pays for it, and one that hasn't departed by a period is paid back.
-use Rattle.std.specs.Prelude.{ℕ, ◌+◌, ◌-◌, min, List, [], ◌∷◌, ◌++◌, length, Option, None, Some, ℤ, pos, neg_ℤ, ◌+ℤ◌, ◌-ℤ◌, ◌≤ℤ◌, if◌then◌else◌}
+use Rattle.std.specs.Prelude.{ℕ, ◌+◌, ◌-◌, min, List, [], ◌∷◌, ◌++◌, length, ℤ, pos, neg_ℤ, ◌+ℤ◌, ◌-ℤ◌, if◌then◌else◌}
 use Rattle.std.specs.Ordering.{int_eq}
 use Rattle.std.specs.List.{flat_map, range_with_len}
 use Rattle.flow_types.specs.declared.flight.CostTable.{CostTable}
@@ -17,22 +17,6 @@ use Rattle.bytime_model.specs.Values.{form_value}
 pub record Priced : Type 0 where
   pub constant : ℤ
   pub terms : List Term
-
--- no further from 0 than a limit
-pub record IsWithin (limit : ℕ) (v : ℤ) : Type 0 where
-  pub down : neg_ℤ (pos limit) ≤ℤ v
-  pub up : v ≤ℤ pos limit
-
--- the sum of both, where both are there
-abbrev pub plus : Option ℤ → Option ℤ → Option ℤ
-plus None more = None
-plus (Some sum) None = None
-plus (Some sum) (Some more) = Some (sum +ℤ more)
-
--- no further from 0 than any total or credit
-pub record IsNearZero (v : ℤ) : Type 0 where
-  pub low : neg_ℤ (pos 100000000000) ≤ℤ v
-  pub high : v ≤ℤ pos 100000000000
 
 -- the term, where its factor isn't 0
 abbrev pub unless_zero : ℤ → Var → List Term
@@ -57,8 +41,8 @@ flight_constant tables periods flight =
     total_of tables flight.cost (most_late periods flight)
     -ℤ credit_of tables flight.cost (most_wait periods flight)
 
--- what it pays for each period that it hasn't arrived by, and is paid back for each that it hasn't
--- departed by
+-- what it is spared for each period by which it has arrived, and what it isn't credited for each by
+-- which it has departed
 abbrev pub late_terms : List CostTable → ℕ → ℕ → Flight → List Term
 late_terms tables periods number flight =
     steps (total_of tables flight.cost)

@@ -1,5 +1,6 @@
--- What each step of filling a row adds to it. No public clause cites these.
-use Rattle.std.specs.Prelude.{◌≡◌, Bool, false, true, ℕ, List, ◌++◌, pos}
+-- What each step of filling a row, or of adding up what flights cost, does. No public clause cites
+-- these.
+use Rattle.std.specs.Prelude.{◌≡◌, Bool, false, true, ℕ, List, ◌++◌, Option, None, Some, ℤ, pos, neg_ℤ, ◌+ℤ◌, ◌≤ℤ◌}
 use Rattle.flow_types.specs.declared.parts.Parts.{Parts}
 use Rattle.flow_types.specs.declared.place.CapKind.{CapKind}
 use Rattle.flow_types.specs.Capacities.{capacity_of}
@@ -27,3 +28,19 @@ pub record FillsCapacity (parts : Parts) (kind : CapKind) (place period : ℕ) (
     limit = pos (capacity_of parts.places kind place period);
   }
   pub none : answer ≡ false → held ≡ no_row
+
+-- no further from 0 than a limit
+pub record IsWithin (limit : ℕ) (v : ℤ) : Type 0 where
+  pub down : neg_ℤ (pos limit) ≤ℤ v
+  pub up : v ≤ℤ pos limit
+
+-- the sum of both, where both are there
+abbrev pub plus : Option ℤ → Option ℤ → Option ℤ
+plus None more = None
+plus (Some sum) None = None
+plus (Some sum) (Some more) = Some (sum +ℤ more)
+
+-- no further from 0 than any total or credit
+pub record IsNearZero (v : ℤ) : Type 0 where
+  pub low : neg_ℤ (pos 100000000000) ≤ℤ v
+  pub high : v ≤ℤ pos 100000000000

@@ -6,7 +6,8 @@ ghost use Rattle.flow_types.specs.Costs.{credit_at, plan_cost, total_at};
 ghost use Rattle.flow_types.specs.Feasible.{AreTrips};
 ghost use Rattle.flow_types.specs.Scenario.{flight_at, parts_of};
 ghost use Rattle.flow_types.specs.Valid.{IsScenario};
-ghost use Rattle.bytime_model.specs.CostRow.{IsNearZero, IsWithin, cost_row, flight_constant, flight_terms, late_terms, most_late, most_wait, plus, priced_value, unless_zero, wait_terms};
+ghost use Rattle.bytime_model.specs.CostRow.{cost_row, flight_constant, flight_terms, late_terms, most_late, most_wait, priced_value, unless_zero, wait_terms};
+ghost use Rattle.bytime_model.specs.Filling.{IsNearZero, IsWithin, plus};
 ghost use Rattle.bytime_model.specs.declared.variables.Var.TheVariants.{By};
 ghost use Rattle.bytime_model.specs.Values.{value_at};
 
@@ -104,7 +105,7 @@ fn add_unless_zero(terms: &mut Terms, factor: i64, variable: Var) -> Result<(), 
     Ok(())
 }
 
-// What the flight pays for not having arrived by the period, with so much delay.
+// What the flight is spared for having arrived by the period, with so much delay.
 fn add_late_term(
     terms: &mut Terms,
     s: &Scenario,
@@ -127,7 +128,7 @@ fn add_late_term(
     )
 }
 
-// What it is paid back for not having departed by the period, with so much delay.
+// What it isn't credited for having departed by the period, with so much delay.
 fn add_wait_term(
     terms: &mut Terms,
     s: &Scenario,
@@ -153,7 +154,7 @@ fn add_wait_term(
     )
 }
 
-// What the flight pays for each period that it hasn't arrived by.
+// What the flight is spared for each period by which it has arrived.
 fn add_late_terms(
     terms: &mut Terms,
     s: &Scenario,
@@ -171,7 +172,7 @@ fn add_late_terms(
     Ok(())
 }
 
-// What it is paid back for each period that it hasn't departed by.
+// What it isn't credited for each period by which it has departed.
 fn add_wait_terms(
     terms: &mut Terms,
     s: &Scenario,

@@ -16,7 +16,7 @@
 //!
 //! The definitions stand in `specs/`: `Values` (the values of the variables at a plan), `Rows` (the
 //! rows, by their names), `CostRow` (what a plan costs, as a sum of terms) and `Left` (what a box
-//! leaves of a variable). `Filling` serves the proof of `fill` alone.
+//! leaves of a variable). `Filling` serves the proofs alone.
 //!
 //! Proved: `fill` tells whether there is a row of that name (`told`) and holds exactly it (`row`),
 //! which no plan that keeps every rule breaks (`valid`), or no terms (`none`); `row_of` gives the
