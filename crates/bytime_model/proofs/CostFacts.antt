@@ -1,9 +1,10 @@
 -- The cost row's value at a plan is the plan's cost.
-use Rattle.std.proofs.Common.{◌≡◌, ℕ, zero, suc, ◌+◌, ◌-◌, ◌<◌, ◌≤◌, ◌==◌, Bool, true, false, min, max, List, [], ◌∷◌, ◌++◌, length, slice_get, Option, Some, IfSome, ◌*◌, ◌^◌, get_or, take, take_all, if◌then◌else◌, ℤ, pos, neg_ℤ, ◌+ℤ◌, ◌-ℤ◌, ◌*ℤ◌, refl, sym, ◌∙◌, ap, ap₂, subst, arith, inl, inr}
+use Rattle.std.proofs.Common.{◌≡◌, All, ℕ, zero, suc, ◌+◌, ◌-◌, ◌<◌, ◌≤◌, ◌==◌, Bool, true, false, min, max, List, [], ◌∷◌, ◌++◌, length, slice_get, Option, Some, ◌*◌, ◌^◌, get_or, take, take_all, if◌then◌else◌, ℤ, pos, neg_ℤ, ◌+ℤ◌, ◌-ℤ◌, ◌*ℤ◌, refl, sym, ◌∙◌, ap, ap₂, subst, arith, inl, inr}
 use Rattle.std.proofs.lemmas.Bool.{cases_lt, eq-eqb, ne_eqb}
 use Rattle.std.proofs.lemmas.Bool.Decides.{Decides-int_eq}
 use Rattle.std.proofs.lemmas.Int.{ints}
-use Rattle.std.proofs.lemmas.List.{append-nil, append_assoc}
+use Rattle.std.proofs.lemmas.List.{append_assoc, length-take}
+use Rattle.std.proofs.lemmas.List.Elements.{All-head, All-tail, All-take}
 use Rattle.std.specs.List.{flat_map, range_with_len}
 use Rattle.std.specs.Ordering.{int_eq}
 use Rattle.flow_types.specs.declared.flight.CostTable.{CostTable}
@@ -13,23 +14,25 @@ use Rattle.flow_types.specs.declared.plan.Stop.{Stop}
 use Rattle.flow_types.specs.Costs.{credit_of, plan_cost, times_cost, total_of, trip_cost}
 use Rattle.flow_types.specs.Feasible.{AreTrips}
 use Rattle.flow_types.specs.Trips.{IsOnward, IsTrip, IsWithinHours, arrival_from}
-use Rattle.flow_types.specs.Valid.{IsScenario}
+use Rattle.flow_types.specs.Valid.{IsFlight, IsScenario}
+use Rattle.flow_types.proofs.CostFacts.{credit_within, total_within}
 use Rattle.bytime_model.specs.declared.variables.Term.{Term}
 use Rattle.bytime_model.specs.declared.variables.Var.{Var}
 use Rattle.bytime_model.specs.declared.variables.Var.TheVariants.{By}
-use Rattle.bytime_model.specs.CostRow.{constants, cost_row, flight_constant, flight_terms, most_late, most_wait, priced_value, steps, unless_zero}
-use Rattle.bytime_model.specs.Filling.{IsWithin, plus}
+use Rattle.bytime_model.specs.CostRow.{constants, cost_row, flight_constant, flight_terms, late_step, late_terms, most_late, most_wait, priced_value, steps, unless_zero, wait_step, wait_terms}
+use Rattle.bytime_model.specs.Filling.{IsWithin}
 use Rattle.bytime_model.specs.Rows.{over_flights, term_of}
 use Rattle.bytime_model.specs.Values.{form_value, value_at}
 use Rattle.bytime_model.proofs.FillFacts.{over_more}
 use Rattle.bytime_model.proofs.FormFacts.{form-append}
 use Rattle.bytime_model.proofs.EntryFacts.{by_few}
+use Rattle.bytime_model.proofs.ListingFacts.{range_more}
 use Rattle.bytime_model.proofs.ValidFacts.{flown}
 use Rattle.bytime_model.proofs.UseFacts.{IsFlown, arrived_by, by_value, departed, departed_by, not_arrived_by}
 
 module _ (value : Var → ℕ) where
   -- a term of 0 is worth nothing
-  unless-zero : (factor : ℤ) (variable : Var)
+  pub unless-zero : (factor : ℤ) (variable : Var)
       → form_value value (unless_zero factor variable) ≡ factor *ℤ pos (value variable)
   unless-zero factor variable = by (int_eq factor (pos 0)) refl
     where
@@ -55,27 +58,28 @@ module _ (value : Var → ℕ) where
       unless-zero factor variable ∙ ap (λ n. factor *ℤ pos n) one ∙ same
 
   -- Of what is done from so many periods on, all that is worth less later falls away.
-  steps-from : (worth : ℕ → ℤ) (variable : ℕ → Var) (from count done : ℕ) → done ≤ from + count
+  steps-from : (worth step : ℕ → ℤ) → ((d : ℕ) → step d ≡ worth d -ℤ worth (d + 1))
+      → (variable : ℕ → Var) (from count done : ℕ) → done ≤ from + count
       → ((d : ℕ) → d < from + count → d < done → value (variable d) ≡ 0)
       → ((d : ℕ) → d < from + count → done ≤ d → value (variable d) ≡ 1)
-      → form_value value (flat_map (λ d. unless_zero (worth d -ℤ worth (d + 1)) (variable d))
+      → form_value value (flat_map (λ d. unless_zero (step d) (variable d))
       (range_with_len from count)) ≡ worth (max from done) -ℤ worth (from + count)
-  steps-from worth variable from zero done within before after =
+  steps-from worth step falls variable from zero done within before after =
       let same : worth (max from done) ≡ worth (from + 0) = ap worth (omega (arith, within)) in
       omega (arith, ints, same)
-  steps-from worth variable from (suc count) done within before after =
-      let factor = worth from -ℤ worth (from + 1) in
-      let rest = steps-from worth variable (from + 1) count done (omega (arith, within))
+  steps-from worth step falls variable from (suc count) done within before after =
+      let factor = step from in
+      let fall = falls from in
+      let rest = steps-from worth step falls variable (from + 1) count done (omega (arith, within))
       (λ d below early. before d (omega (arith, below)) early)
       (λ d below late. after d (omega (arith, below)) late) in
       let end : worth (from + 1 + count) ≡ worth (from + suc count) = ap worth (omega arith) in
       let both = form-append value (unless_zero factor (variable from))
-      (flat_map (λ d. unless_zero (worth d -ℤ worth (d + 1)) (variable d))
-      (range_with_len (from + 1) count)) in
+      (flat_map (λ d. unless_zero (step d) (variable d)) (range_with_len (from + 1) count)) in
       elim (cases_lt from done)
       as (λ _. form_value value (unless_zero factor (variable from)
-      ++ flat_map (λ d. unless_zero (worth d -ℤ worth (d + 1)) (variable d))
-      (range_with_len (from + 1) count)) ≡ worth (max from done) -ℤ worth (from + suc count)) [
+      ++ flat_map (λ d. unless_zero (step d) (variable d)) (range_with_len (from + 1) count))
+      ≡ worth (max from done) -ℤ worth (from + suc count)) [
         | inl early ↦
             let here = not_yet factor (variable from) (before from (omega arith) early) in
             let start : worth (max (from + 1) done) ≡ worth (max from done) =
@@ -86,17 +90,18 @@ module _ (value : Var → ℕ) where
             let start : worth (max (from + 1) done) ≡ worth (from + 1) =
             ap worth (omega (arith, late)) in
             let now : worth (max from done) ≡ worth from = ap worth (omega (arith, late)) in
-            omega (arith, ints, both, here, rest, end, start, now)
+            omega (arith, ints, both, here, rest, end, start, now, fall)
       ]
 
-  pub steps-value : (worth : ℕ → ℤ) (variable : ℕ → Var) (count done : ℕ) → done ≤ count
+  pub steps-value : (worth step : ℕ → ℤ) → ((d : ℕ) → step d ≡ worth d -ℤ worth (d + 1))
+      → (variable : ℕ → Var) (count done : ℕ) → done ≤ count
       → ((d : ℕ) → d < count → d < done → value (variable d) ≡ 0)
       → ((d : ℕ) → d < count → done ≤ d → value (variable d) ≡ 1)
-      → form_value value (steps worth variable count) ≡ worth done -ℤ worth count
-  steps-value worth variable count done within before after =
+      → form_value value (steps step variable count) ≡ worth done -ℤ worth count
+  steps-value worth step falls variable count done within before after =
       let start : worth (max 0 done) ≡ worth done = ap worth (omega arith) in
       let end : worth (0 + count) ≡ worth count = ap worth (omega arith) in
-      let all = steps-from worth variable 0 count done (omega (arith, within))
+      let all = steps-from worth step falls variable 0 count done (omega (arith, within))
       (λ d below. before d (omega (arith, below))) (λ d below. after d (omega (arith, below))) in
       all ∙ ap₂ (λ a b. a -ℤ b) start end
 
@@ -118,8 +123,7 @@ module _ (tables : List CostTable) (flights : List Flight) (plan : List (List St
 
   -- what its departure and arrival are worth
   departure_value : (stop : Stop) (rest : List Stop) → stop ∷ rest ≡ trip
-      → form_value value_in (steps (λ d. neg_ℤ (credit_of tables flight.cost d))
-      (λ d. By f 0 (flight.sd + d)) (most_wait periods flight))
+      → form_value value_in (wait_terms tables periods f flight)
       ≡ credit_of tables flight.cost (most_wait periods flight)
       -ℤ credit_of tables flight.cost (stop.time - flight.sd)
   departure_value stop rest same =
@@ -127,7 +131,8 @@ module _ (tables : List CostTable) (flights : List Flight) (plan : List (List St
       subst (IsTrip periods flight) (sym same) is.valid in
       let hours = departs_within stop rest valid in
       let steps-worth = steps-value value_in (λ d. neg_ℤ (credit_of tables flight.cost d))
-      (λ d. By f 0 (flight.sd + d)) (most_wait periods flight) (stop.time - flight.sd)
+      (wait_step tables flight) (λ d. omega (arith, ints)) (λ d. By f 0 (flight.sd + d))
+      (most_wait periods flight) (stop.time - flight.sd)
       (omega (arith, hours.0, hours.1))
       (λ d below early. by_value flights plan periods f flight trip is 0 (flight.sd + d)
       ∙ departed flights plan periods f flight trip is (flight.sd + d) stop rest same
@@ -154,8 +159,7 @@ module _ (tables : List CostTable) (flights : List Flight) (plan : List (List St
       arrives_within next rest onward.1 onward.2
 
   arrival_value : (stop : Stop) (rest : List Stop) → stop ∷ rest ≡ trip
-      → form_value value_in (steps (total_of tables flight.cost)
-      (λ d. By f (length flight.nodes - 1) (flight.sa + d)) (most_late periods flight))
+      → form_value value_in (late_terms tables periods f flight)
       ≡ total_of tables flight.cost (arrival_from stop rest - flight.sa)
       -ℤ total_of tables flight.cost (most_late periods flight)
   arrival_value stop rest same =
@@ -163,7 +167,7 @@ module _ (tables : List CostTable) (flights : List Flight) (plan : List (List St
       subst (IsTrip periods flight) (sym same) is.valid in
       let hours = arrives_within stop rest valid.1 valid.2 in
       let last = length flight.nodes - 1 in
-      steps-value value_in (total_of tables flight.cost)
+      steps-value value_in (total_of tables flight.cost) (late_step tables flight) (λ d. refl)
       (λ d. By f last (flight.sa + d)) (most_late periods flight)
       (arrival_from stop rest - flight.sa)
       (omega (arith, hours.0, hours.1))
@@ -184,11 +188,8 @@ module _ (tables : List CostTable) (flights : List Flight) (plan : List (List St
       ≡ trip_cost tables flight trip
   flight_cost [] same = absurd (subst (IsTrip periods flight) (sym same) is.valid)
   flight_cost (stop ∷ rest) same =
-      let last = length flight.nodes - 1 in
-      let both = form-append value_in (steps (total_of tables flight.cost)
-      (λ d. By f last (flight.sa + d)) (most_late periods flight))
-      (steps (λ d. neg_ℤ (credit_of tables flight.cost d)) (λ d. By f 0 (flight.sd + d))
-      (most_wait periods flight)) in
+      let both = form-append value_in (late_terms tables periods f flight)
+      (wait_terms tables periods f flight) in
       let worth : flight_constant tables periods flight
       +ℤ form_value value_in (flight_terms tables periods f flight)
       ≡ times_cost tables flight stop.time (arrival_from stop rest) =
@@ -252,32 +253,25 @@ plan_priced parts plan scenario trips =
     some_same p q = cc
 
 -- one step more
-range_more : (part : ℕ → List Term) (from count : ℕ)
-    → flat_map part (range_with_len from (suc count))
-    ≡ flat_map part (range_with_len from count) ++ part (from + count)
-range_more part from zero = append-nil (part from) ∙ ap part (omega arith)
-range_more part from (suc count) =
-    let same : from + 1 + count ≡ from + suc count = omega arith in
-    ap (λ terms. part from ++ terms) (range_more part (from + 1) count)
-    ∙ ap (λ n. part from ++ (flat_map part (range_with_len (from + 1) count) ++ part n)) same
-    ∙ sym (append_assoc (part from) (flat_map part (range_with_len (from + 1) count))
-    (part (from + suc count)))
-
-pub steps_more : (worth : ℕ → ℤ) (variable : ℕ → Var) (count : ℕ) (factor : ℤ)
-    (start old new : List Term) → old ≡ start ++ steps worth variable count
-    → factor ≡ worth count -ℤ worth (count + 1)
-    → new ≡ old ++ unless_zero factor (variable count)
-    → new ≡ start ++ steps worth variable (count + 1)
-steps_more worth variable count factor start old new was is more =
-    let part = λ (d : ℕ). unless_zero (worth d -ℤ worth (d + 1)) (variable d) in
+pub steps_suc : (step : ℕ → ℤ) (variable : ℕ → Var) (count : ℕ)
+    → steps step variable (count + 1)
+    ≡ steps step variable count ++ unless_zero (step count) (variable count)
+steps_suc step variable count =
+    let part : ℕ → List Term = λ d. unless_zero (step d) (variable d) in
     let next : count + 1 ≡ suc count = omega arith in
     let at : 0 + count ≡ count = omega arith in
+    ap (λ n. flat_map part (range_with_len 0 n)) next ∙ range_more part 0 count
+    ∙ ap (λ n. steps step variable count ++ part n) at
+
+pub steps_more : (step : ℕ → ℤ) (variable : ℕ → Var) (count : ℕ) (factor : ℤ)
+    (start old new : List Term) → old ≡ start ++ steps step variable count
+    → factor ≡ step count → new ≡ old ++ unless_zero factor (variable count)
+    → new ≡ start ++ steps step variable (count + 1)
+steps_more step variable count factor start old new was is more =
     more ∙ ap (λ terms. terms ++ unless_zero factor (variable count)) was
-    ∙ append_assoc start (steps worth variable count) (unless_zero factor (variable count))
-    ∙ ap (λ f. start ++ (steps worth variable count ++ unless_zero f (variable count))) is
-    ∙ ap (λ n. start ++ (steps worth variable count ++ part n)) (sym at)
-    ∙ ap (λ terms. start ++ terms) (sym (range_more part 0 count)
-    ∙ ap (λ n. flat_map part (range_with_len 0 n)) (sym next))
+    ∙ append_assoc start (steps step variable count) (unless_zero factor (variable count))
+    ∙ ap (λ f. start ++ (steps step variable count ++ unless_zero f (variable count))) is
+    ∙ ap (λ terms. start ++ terms) (sym (steps_suc step variable count))
 
 -- the terms of all flights, one after the other
 pub terms_none : (parts : Parts) (flights : List Flight)
@@ -304,12 +298,38 @@ terms_all parts flights number terms past are =
     are ∙ ap (over_flights (flight_terms parts.tables parts.day.periods) 0)
     (take_all number flights past)
 
--- the constants of the flights so far, and how far from 0 their sum may be
-pub record IsConstant (parts : Parts) (number : ℕ) (sum : Option ℤ) : Type 0 where
-  pub is : sum ≡ Some (constants parts.tables parts.day.periods (take number parts.flights))
-  pub within : IsWithin (200000000000 * number)
-      (constants parts.tables parts.day.periods (take number parts.flights))
+-- how far from 0 a flight's constant may be
+flight_constant_near : (parts : Parts) (flight : Flight) → IsScenario parts
+    → IsFlight parts.day.periods parts.places parts.tables flight
+    → IsWithin 200000000000 (flight_constant parts.tables parts.day.periods flight)
+flight_constant_near parts flight valid ok =
+    let periods = parts.day.periods in
+    let short = valid.day.periods_to in
+    let total = total_within parts.tables flight.mg flight.md (most_late periods flight) flight.cost
+    valid.tables ok.cost (omega (arith, short)) in
+    let credit = credit_within parts.tables flight.mg flight.md (most_wait periods flight)
+    flight.cost valid.tables ok.cost (omega (arith, short)) in
+    record {
+      down = omega (arith, ints, total.low, credit.high);
+      up = omega (arith, ints, total.high, credit.low);
+    }
 
+pub constants_near : (parts : Parts) (flights : List Flight) → IsScenario parts
+    → All (IsFlight parts.day.periods parts.places parts.tables) flights
+    → IsWithin (200000000000 * length flights)
+    (constants parts.tables parts.day.periods flights)
+constants_near parts [] valid all =
+    record { down = omega (arith, ints); up = omega (arith, ints) }
+constants_near parts (flight ∷ flights) valid all =
+    let ok = IsFlight parts.day.periods parts.places parts.tables in
+    let one = flight_constant_near parts flight valid (All-head ok flight flights all) in
+    let rest = constants_near parts flights valid (All-tail ok flight flights all) in
+    record {
+      down = omega (arith, ints, one.down, rest.down);
+      up = omega (arith, ints, one.up, rest.up);
+    }
+
+-- the constants of the flights so far
 constants_suc : (tables : List CostTable) (periods : ℕ) (flights : List Flight) (i : ℕ) (d : Flight)
     → i < length flights
     → constants tables periods (take (suc i) flights)
@@ -320,45 +340,29 @@ constants_suc tables periods (flight ∷ flights) zero d within = omega (arith, 
 constants_suc tables periods (flight ∷ flights) (suc i) d within =
     omega (arith, ints, constants_suc tables periods flights i d (omega (arith, within)))
 
-pub constant_none : (parts : Parts) → IsConstant parts 0 (Some (pos 0))
-constant_none parts = record {
-  is = refl;
-  within = record { down = omega (arith, ints); up = omega (arith, ints) };
-}
-
-pub constant_more : (parts : Parts) (number : ℕ) (flight : Flight) (sum more next : Option ℤ)
+pub constant_more : (parts : Parts) (number : ℕ) (flight : Flight)
     → number < length parts.flights → flight ≡ get_or parts.flights number flight
-    → IsConstant parts number sum
-    → more ≡ Some (flight_constant parts.tables parts.day.periods flight)
-    → IfSome more (IsWithin 200000000000) → next ≡ plus sum more
-    → IsConstant parts (number + 1) next
-constant_more parts number flight sum more next below is so is_more near sums =
-    let value = constants parts.tables parts.day.periods (take number parts.flights) in
-    let one = flight_constant parts.tables parts.day.periods flight in
+    → constants parts.tables parts.day.periods (take (number + 1) parts.flights)
+    ≡ constants parts.tables parts.day.periods (take number parts.flights)
+    +ℤ flight_constant parts.tables parts.day.periods flight
+constant_more parts number flight below is =
+    let sum = constants parts.tables parts.day.periods in
     let step : number + 1 ≡ suc number = omega arith in
-    let all : constants parts.tables parts.day.periods (take (number + 1) parts.flights)
-    ≡ value +ℤ one =
-    ap (λ n. constants parts.tables parts.day.periods (take n parts.flights)) step
+    ap (λ n. sum (take n parts.flights)) step
     ∙ constants_suc parts.tables parts.day.periods parts.flights number flight below
-    ∙ ap (λ f. value +ℤ flight_constant parts.tables parts.day.periods f) (sym is) in
-    let bound : IsWithin 200000000000 one = subst (λ o. IfSome o (IsWithin 200000000000)) is_more
-    near in
-    let was = so.within in
-    record {
-      is = sums ∙ ap₂ plus so.is is_more ∙ ap Some (sym all);
-      within = record {
-        down = omega (arith, ints, all, was.down, bound.down);
-        up = omega (arith, ints, all, was.up, bound.up);
-      };
-    }
+    ∙ ap (λ f. sum (take number parts.flights)
+    +ℤ flight_constant parts.tables parts.day.periods f) (sym is)
 
-pub constant_near : (parts : Parts) (number : ℕ) (sum : Option ℤ) → IsScenario parts
-    → number ≤ length parts.flights → IsConstant parts number sum
-    → IfSome sum (IsWithin (2 ^ 60))
-constant_near parts number sum scenario below so =
-    let few = scenario.flights_few in
-    let was = so.within in
-    subst (λ o. IfSome o (IsWithin (2 ^ 60))) (sym so.is) (record {
-      down = omega (arith, ints, was.down, few, below);
-      up = omega (arith, ints, was.up, few, below);
-    })
+pub constant_near : (parts : Parts) (number : ℕ) → IsScenario parts
+    → IsWithin (2 ^ 60)
+    (constants parts.tables parts.day.periods (take number parts.flights))
+constant_near parts number valid =
+    let few = valid.flights_few in
+    let taken = length-take number parts.flights in
+    let near = constants_near parts (take number parts.flights) valid
+    (All-take (IsFlight parts.day.periods parts.places parts.tables) number parts.flights
+    valid.flights) in
+    record {
+      down = omega (arith, ints, near.down, few, taken);
+      up = omega (arith, ints, near.up, few, taken);
+    }

@@ -58,7 +58,7 @@ module _ {X : Type 0} (part : X → List Term) (xs : List X) where
       few [] = omega arith
       few (y ∷ ys) = omega (arith, length-append (part y) (flat_map part ys), each y, few ys)
 
-if_few : (b : Bool) (terms : List Term) (n : ℕ) → length terms ≤ n
+pub if_few : (b : Bool) (terms : List Term) (n : ℕ) → length terms ≤ n
     → length (if b then terms else []) ≤ n
 if_few true terms n few = few
 if_few false terms n few = omega arith
@@ -104,8 +104,8 @@ filled_all part legs i start now past filled =
     subst (λ all. Adds (flat_map part all) start now) (take_all i legs past) filled.adds
 
 -- the part of one flight more
-over_suc : (part : ℕ → Flight → List Term) (k : ℕ) (flights : List Flight) (i n : ℕ) (d : Flight)
-    → i < length flights → n ≡ k + i
+over_suc : {X : Type 0} (part : ℕ → Flight → List X) (k : ℕ) (flights : List Flight) (i n : ℕ)
+    (d : Flight) → i < length flights → n ≡ k + i
     → over_flights part k (take (suc i) flights)
     ≡ over_flights part k (take i flights) ++ part n (get_or flights i d)
 over_suc part k [] i n d within is = absurd (omega (arith, within))
@@ -117,8 +117,8 @@ over_suc part k (flight ∷ flights) (suc i) n d within is =
     ∙ sym (append_assoc (part k flight) (over_flights part (k + 1) (take i flights))
     (part n (get_or flights i d)))
 
-pub over_more : (part : ℕ → Flight → List Term) (flights : List Flight) (i : ℕ) (d : Flight)
-    → i < length flights
+pub over_more : {X : Type 0} (part : ℕ → Flight → List X) (flights : List Flight) (i : ℕ)
+    (d : Flight) → i < length flights
     → over_flights part 0 (take (i + 1) flights)
     ≡ over_flights part 0 (take i flights) ++ part i (get_or flights i d)
 over_more part flights i d within =
@@ -147,7 +147,7 @@ last_of_four true true false d is = absurd cc
 last_of_four true false c d is = absurd cc
 last_of_four false b c d is = absurd cc
 
-stay_few : (number : ℕ) (flight : Flight) (time node : ℕ)
+pub stay_few : (number : ℕ) (flight : Flight) (time node : ℕ)
     → length (stay_terms number flight time node) ≤ 2
 stay_few number flight time node = by (is_plain flight node) refl
   where
@@ -168,10 +168,10 @@ stay_at_few : (number : ℕ) (flight : Flight) (time : ℕ) (node : Option ℕ)
 stay_at_few number flight time None = omega arith
 stay_at_few number flight time (Some node) = stay_few number flight time node
 
-entry_few : (flight node time : ℕ) → length (enters_in flight node time) ≤ 2
+pub entry_few : (flight node time : ℕ) → length (enters_in flight node time) ≤ 2
 entry_few flight node time = omega (arith, before_few flight node time 1)
 
-use_few : (kind : CapKind) (place time number : ℕ) (flight : Flight)
+pub use_few : (kind : CapKind) (place time number : ℕ) (flight : Flight)
     → length (use_terms kind place time number flight) ≤ 2
 use_few kind.Dep place time number flight =
     if_few (flight.from == place) (enters_in number 0 time) 2 (entry_few number 0 time)

@@ -1,6 +1,6 @@
 -- What a flight takes of a capacity, as a sum of terms, is no more than what its trip is counted
 -- for.
-use Rattle.std.proofs.Common.{◌≡◌, ◌≢◌, ℕ, ◌+◌, ◌-◌, ◌<◌, ◌≤◌, ◌==◌, Bool, true, false, ◌&&◌, nat_lt, List, [], ◌∷◌, length, Option, None, Some, slice_get, slice_index, count_by, All, suc, if◌then◌else◌, pos, ◌≤ℤ◌, refl, sym, ◌∙◌, ap, subst, arith}
+use Rattle.std.proofs.Common.{◌≡◌, ◌≢◌, ℕ, ◌+◌, ◌-◌, ◌<◌, ◌≤◌, ◌==◌, Bool, true, false, ◌&&◌, nat_lt, List, [], ◌∷◌, length, Option, None, Some, slice_get, count_by, All, suc, if◌then◌else◌, pos, ◌≤ℤ◌, refl, sym, ◌∙◌, ap, subst, arith}
 use Rattle.std.proofs.lemmas.Bool.{and_parts, eq-eqb, eqb-true, ltb-true}
 use Rattle.std.proofs.lemmas.Int.{ints}
 use Rattle.flow_types.specs.declared.flight.Flight.{Flight}
@@ -18,6 +18,7 @@ use Rattle.bytime_model.specs.Rows.{by_before, enters_in, minus_one, node_from, 
 use Rattle.bytime_model.specs.Values.{by_at, by_of, form_value, has_inside, inside_at, is_plain, value_at}
 use Rattle.bytime_model.proofs.FormFacts.{form-append, form-before, form-on, form-one}
 use Rattle.bytime_model.proofs.EntryFacts.{by_here, by_skip}
+use Rattle.bytime_model.proofs.NodeFacts.{node_found}
 use Rattle.bytime_model.proofs.TripFacts.{arrived, arrives, before, before_le, departs, is_by_at, no_origin, not_arrived, not_by, occupied, on_le, on_sum}
 
 -- a flight with its trip in a plan, and what is known of its network
@@ -184,25 +185,6 @@ module _ (flights : List Flight) (plan : List (List Stop)) (periods f : ℕ) (fl
             ap (λ p. stays_at p time flight trip) at,
           )
 
-  -- the node that is found is at the place
-  node_at : (place k node : ℕ) (nodes : List ℕ) → node_from place k nodes ≡ Some node
-      → (i : ℕ) × (node ≡ k + i) × (slice_index nodes i ≡ place)
-  node_at place k node [] found = absurd cc
-  node_at place k node (here ∷ nodes) found =
-      by (here == place) refl (node_at place (k + 1) node nodes) found
-    where
-      by : (b : Bool) → (here == place) ≡ b
-          → (node_from place (k + 1) nodes ≡ Some node
-          → (i : ℕ) × (node ≡ k + 1 + i) × (slice_index nodes i ≡ place))
-          → (if b then Some k else node_from place (k + 1) nodes) ≡ Some node
-          → (i : ℕ) × (node ≡ k + i) × (slice_index (here ∷ nodes) i ≡ place)
-      by true is_here later found =
-          let same : k ≡ node = cc in
-          (0, omega (arith, same), eqb-true here place is_here)
-      by false other later found =
-          let more = later found in
-          (suc more.0, omega (arith, more.1), more.2)
-
   pub use_le : (kind : CapKind) (place time : ℕ)
       → form_value value (use_terms kind place time f flight)
       ≤ℤ pos (count_of kind place time flight trip)
@@ -210,7 +192,7 @@ module _ (flights : List Flight) (plan : List (List Stop)) (periods f : ℕ) (fl
   use_le kind.Arr place time = arr_le place time trip refl
   use_le kind.Sector place time =
       sector_le place time (node_from place 0 flight.nodes)
-      (λ node found. let at = node_at place 0 node flight.nodes found in
+      (λ node found. let at = node_found place 0 node flight.nodes found in
       ap (place_at flight) (omega (arith, at.1)) ∙ at.2)
 
   -- it hasn't departed before its departure, and has by then

@@ -100,7 +100,7 @@ one_leaves = refl
 abbrev leg_with : ℕ → ℕ → ℕ → Leg
 leg_with from to least = record { from = from; to = to; least = least }
 
-abbrev forked : Parts
+abbrev pub forked : Parts
 forked = record two {
   flights = record there {
     nodes = 0 ∷ 2 ∷ 3 ∷ 1 ∷ [];

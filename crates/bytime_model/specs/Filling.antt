@@ -1,12 +1,15 @@
 -- What each step of filling a row, or of adding up what flights cost, does. No public clause cites
 -- these.
-use Rattle.std.specs.Prelude.{◌≡◌, Bool, false, true, ℕ, List, ◌++◌, Option, None, Some, ℤ, pos, neg_ℤ, ◌+ℤ◌, ◌≤ℤ◌}
+use Rattle.std.specs.Prelude.{◌≡◌, Bool, false, true, ℕ, ◌-◌, ◌==◌, List, [], ◌++◌, length, slice_get, if◌then◌else◌, ℤ, pos, neg_ℤ, ◌≤ℤ◌}
+use Rattle.flow_types.specs.declared.flight.Flight.{Flight}
 use Rattle.flow_types.specs.declared.parts.Parts.{Parts}
 use Rattle.flow_types.specs.declared.place.CapKind.{CapKind}
+use Rattle.flow_types.specs.declared.place.CapKind.TheVariants as kind
 use Rattle.flow_types.specs.Capacities.{capacity_of}
 use Rattle.bytime_model.specs.declared.names.RowName.{RowName}
 use Rattle.bytime_model.specs.declared.variables.Term.{Term}
-use Rattle.bytime_model.specs.Rows.{AtMost, capacity_terms, is_capacity, is_row, no_row, row_of}
+use Rattle.bytime_model.specs.declared.visits.Visit.{Visit}
+use Rattle.bytime_model.specs.Rows.{AtMost, capacity_terms, enters_in, is_capacity, is_row, no_row, of_flight, row_of, stay_terms}
 
 -- more terms at the end, and the same limit
 pub record Adds (more : List Term) (old new : AtMost) : Type 0 where
@@ -29,16 +32,24 @@ pub record FillsCapacity (parts : Parts) (kind : CapKind) (place period : ℕ) (
   }
   pub none : answer ≡ false → held ≡ no_row
 
+-- What a flight takes of a capacity in the period, by its visit to the place: it departs from its
+-- first node, and arrives at its last one.
+abbrev pub visit_terms : CapKind → ℕ → Visit → Flight → List Term
+visit_terms kind.Dep time visit flight =
+    if visit.node == 0 then enters_in visit.flight visit.node time else []
+visit_terms kind.Arr time visit flight =
+    if visit.node == length flight.nodes - 1 then enters_in visit.flight visit.node time else []
+visit_terms kind.Sector time visit flight = stay_terms visit.flight flight time visit.node
+
+-- the same by its number, nothing where there is no such flight
+abbrev pub visit_terms_in : CapKind → ℕ → List Flight → Visit → List Term
+visit_terms_in kind time flights visit =
+    of_flight (visit_terms kind time visit) (slice_get flights visit.flight)
+
 -- no further from 0 than a limit
 pub record IsWithin (limit : ℕ) (v : ℤ) : Type 0 where
   pub down : neg_ℤ (pos limit) ≤ℤ v
   pub up : v ≤ℤ pos limit
-
--- the sum of both, where both are there
-abbrev pub plus : Option ℤ → Option ℤ → Option ℤ
-plus None more = None
-plus (Some sum) None = None
-plus (Some sum) (Some more) = Some (sum +ℤ more)
 
 -- no further from 0 than any total or credit
 pub record IsNearZero (v : ℤ) : Type 0 where

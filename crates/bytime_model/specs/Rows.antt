@@ -38,7 +38,7 @@ enters_in flight node time =
     term_of one (By flight node time) ∷ by_before minus_one flight node time 1
 
 -- a part of each flight, by its number
-abbrev pub over_flights : (ℕ → Flight → List Term) → ℕ → List Flight → List Term
+abbrev pub over_flights : {X : Type 0} → (ℕ → Flight → List X) → ℕ → List Flight → List X
 over_flights part k [] = []
 over_flights part k (flight ∷ flights) = part k flight ++ over_flights part (k + 1) flights
 

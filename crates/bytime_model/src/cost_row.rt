@@ -1,14 +1,13 @@
 //! The cost row.
-ghost use Rattle.std.specs.Prelude.{◌≡◌, ◌+◌, ◌-◌, ◌≤◌, ◌<◌, ◌^◌, ◌++◌, ℕ, Some, IfOk, IfSome, OnOk, List, length, pos, neg_ℤ, ◌-ℤ◌, ◌+ℤ◌, ◌≤ℤ◌};
+ghost use Rattle.std.specs.Prelude.{◌≡◌, ◌+◌, ◌-◌, ◌≤◌, ◌<◌, ◌^◌, ◌++◌, Some, IfOk, OnOk, List, length, min, ◌+ℤ◌, ◌-ℤ◌};
 ghost use Rattle.flow_types.specs.declared.plan.Stop.{Stop};
-ghost use Rattle.flow_types.specs.declared.parts.Parts.{Parts};
-ghost use Rattle.flow_types.specs.Costs.{credit_at, plan_cost, total_at};
+ghost use Rattle.flow_types.specs.Costs.{plan_cost};
 ghost use Rattle.flow_types.specs.Feasible.{AreTrips};
 ghost use Rattle.flow_types.specs.Scenario.{flight_at, parts_of};
-ghost use Rattle.flow_types.specs.Valid.{IsScenario};
-ghost use Rattle.bytime_model.specs.CostRow.{cost_row, flight_constant, flight_terms, late_terms, most_late, most_wait, priced_value, unless_zero, wait_terms};
-ghost use Rattle.bytime_model.specs.Filling.{IsNearZero, IsWithin, plus};
+ghost use Rattle.bytime_model.specs.CostRow.{cost_row, flight_constant, flight_terms, late_step_at, late_terms, late_variable, most_late_at, most_wait_at, priced_value, unless_zero, wait_step_at, wait_terms, wait_variable};
+ghost use Rattle.bytime_model.specs.Filling.{IsNearZero, IsWithin};
 ghost use Rattle.bytime_model.specs.declared.variables.Var.TheVariants.{By};
+ghost use Rattle.bytime_model.specs.Rows.{term_of};
 ghost use Rattle.bytime_model.specs.Values.{value_at};
 
 use crate::variables::{Term, Terms, Var};
@@ -32,7 +31,7 @@ impl Model for CostRow {
 }
 
 /// The cost row. Its value at a plan, with one trip for each flight, is the plan's cost. It takes
-/// memory for each period that a flight may be late or wait.
+/// memory and time for each period that a flight may be late or wait.
 pub fn linear_cost(alloc: Global, s: &Scenario) -> Result<CostRow, OutOfMemory>
     ensures row { IfOk result (λ row. row ≡ cost_row (parts_of s.now)) }
     ensures cost { IfOk result (λ row. (plan : List (List Stop))
@@ -46,24 +45,112 @@ pub fn linear_cost(alloc: Global, s: &Scenario) -> Result<CostRow, OutOfMemory>
     })
 }
 
-// How much later than scheduled the flight may arrive.
-fn most_late(periods: u16, flight: &Flight) -> u16
-    requires periods { 1 ≤ periods }
-    requires arrives { flight.now.sa + flight.now.md < 2 ^ 16 }
-    requires within { flight.now.sa < periods }
-    ensures { result ≡ most_late periods flight.now }
+/// How many periods later than scheduled the flight may arrive: in the cost row there is a step for
+/// each delay below this. The flight is one of the scenario's. It takes no memory.
+pub fn most_late(s: &Scenario, flight: u32) -> u16
+    requires { flight < length (parts_of s.now).flights }
+    ensures { result ≡ most_late_at (parts_of s.now).day.periods (flight_at s.now flight) }
 {
-    (flight.sa + flight.md).min(periods - 1) - flight.sa
+    let found = &s.flights()[flight as usize];
+    within_day(s.day().periods, found.sa, found.md)
 }
 
-// How much later than scheduled it may depart.
-fn most_wait(periods: u16, flight: &Flight) -> u16
-    requires periods { 1 ≤ periods }
-    requires leaves { flight.now.sd + flight.now.mg < 2 ^ 16 }
-    requires within { flight.now.sd < periods }
-    ensures { result ≡ most_wait periods flight.now }
+/// How many periods later than scheduled the flight may depart: in the cost row there is a step for
+/// each delay below this. The flight is one of the scenario's. It takes no memory.
+pub fn most_wait(s: &Scenario, flight: u32) -> u16
+    requires { flight < length (parts_of s.now).flights }
+    ensures { result ≡ most_wait_at (parts_of s.now).day.periods (flight_at s.now flight) }
 {
-    (flight.sd + flight.mg).min(periods - 1) - flight.sd
+    let found = &s.flights()[flight as usize];
+    within_day(s.day().periods, found.sd, found.mg)
+}
+
+// So many periods after a time, or as many as are left of the day.
+fn within_day(periods: u16, time: u16, most: u16) -> u16
+    requires periods { 1 ≤ periods }
+    requires most { time + most < 2 ^ 16 }
+    requires within { time < periods }
+    ensures { result ≡ min (time + most) (periods - 1) - time }
+{
+    (time + most).min(periods - 1) - time
+}
+
+/// What the flight is spared, if it has arrived with no more than this delay, against a period
+/// more. In the cost row it is the factor of having entered the last node so long after the
+/// scheduled arrival; there is no term where it is 0. The flight is one of the scenario's, and the
+/// delay below 65,535. It takes no memory.
+pub fn late_step(s: &Scenario, flight: u32, delay: u16) -> i64
+    requires flight { flight < length (parts_of s.now).flights }
+    requires delay { delay + 1 < 2 ^ 16 }
+    ensures { result ≡ late_step_at (parts_of s.now).tables (flight_at s.now flight) delay }
+{
+    difference(s.total(flight, delay), s.total(flight, delay + 1))
+}
+
+/// What the flight isn't credited, if it has departed with no more than this delay, against a
+/// period more. In the cost row it is the factor of having entered the first node so long after
+/// the scheduled departure; there is no term where it is 0. The flight is one of the scenario's. It
+/// takes no memory.
+pub fn wait_step(s: &Scenario, flight: u32, delay: u16) -> i64
+    requires flight { flight < length (parts_of s.now).flights }
+    requires delay { delay + 1 < 2 ^ 16 }
+    ensures { result ≡ wait_step_at (parts_of s.now).tables (flight_at s.now flight) delay }
+{
+    difference(s.credit(flight, delay + 1), s.credit(flight, delay))
+}
+
+/// The term of the cost row for this delay of the arrival, also where its factor is 0. The flight
+/// is one of the scenario's, and the delay is below `most_late`. It takes no memory.
+pub fn late_term(s: &Scenario, flight: u32, delay: u16) -> Term
+    requires flight { flight < length (parts_of s.now).flights }
+    requires delay { delay < most_late_at (parts_of s.now).day.periods (flight_at s.now flight) }
+    ensures { result ≡ term_of
+        (late_step_at (parts_of s.now).tables (flight_at s.now flight) delay)
+        (late_variable flight (flight_at s.now flight) delay) }
+{
+    term_of(late_step(s, flight, delay), late_variable(s, flight, delay))
+}
+
+/// The term of the cost row for this delay of the departure, also where its factor is 0. The flight
+/// is one of the scenario's, and the delay is below `most_wait`. It takes no memory.
+pub fn wait_term(s: &Scenario, flight: u32, delay: u16) -> Term
+    requires flight { flight < length (parts_of s.now).flights }
+    requires delay { delay < most_wait_at (parts_of s.now).day.periods (flight_at s.now flight) }
+    ensures { result ≡ term_of
+        (wait_step_at (parts_of s.now).tables (flight_at s.now flight) delay)
+        (wait_variable flight (flight_at s.now flight) delay) }
+{
+    term_of(wait_step(s, flight, delay), wait_variable(s, flight, delay))
+}
+
+// Having arrived with no more than this delay.
+fn late_variable(s: &Scenario, flight: u32, delay: u16) -> Var
+    requires flight { flight < length (parts_of s.now).flights }
+    requires delay { delay < most_late_at (parts_of s.now).day.periods (flight_at s.now flight) }
+    ensures { result ≡ late_variable flight (flight_at s.now flight) delay }
+{
+    let found = &s.flights()[flight as usize];
+    let node = (found.nodes.items().len() - 1) as u16;
+    let time = found.sa + delay;
+    Var::By { flight, node, time }
+}
+
+// Having departed with no more than this delay.
+fn wait_variable(s: &Scenario, flight: u32, delay: u16) -> Var
+    requires flight { flight < length (parts_of s.now).flights }
+    requires delay { delay < most_wait_at (parts_of s.now).day.periods (flight_at s.now flight) }
+    ensures { result ≡ wait_variable flight (flight_at s.now flight) delay }
+{
+    let node = 0;
+    let time = s.flights()[flight as usize].sd + delay;
+    Var::By { flight, node, time }
+}
+
+// So many times the variable.
+fn term_of(factor: i64, variable: Var) -> Term
+    ensures { result ≡ term_of factor variable }
+{
+    Term { variable, factor }
 }
 
 // The difference of two numbers that aren't far from 0.
@@ -75,86 +162,17 @@ fn difference(a: i64, b: i64) -> i64
     a - b
 }
 
-// How much less so much arrival delay costs than a period more.
-fn total_step(s: &Scenario, number: u32, delay: u16) -> i64
-    requires number { number < length (parts_of s.now).flights }
-    requires delay { delay + 1 < 2 ^ 16 }
-    ensures { result ≡ total_at (parts_of s.now).tables (flight_at s.now number) delay
-        -ℤ total_at (parts_of s.now).tables (flight_at s.now number) (delay + 1) }
-{
-    difference(s.total(number, delay), s.total(number, delay + 1))
-}
-
-// How much more is credited for a period more of ground delay.
-fn credit_step(s: &Scenario, number: u32, delay: u16) -> i64
-    requires number { number < length (parts_of s.now).flights }
-    requires delay { delay + 1 < 2 ^ 16 }
-    ensures { result ≡ neg_ℤ (credit_at (parts_of s.now).tables (flight_at s.now number) delay)
-        -ℤ neg_ℤ (credit_at (parts_of s.now).tables (flight_at s.now number) (delay + 1)) }
-{
-    difference(s.credit(number, delay + 1), s.credit(number, delay))
-}
-
 // Adds the term, where its factor isn't 0.
-fn add_unless_zero(terms: &mut Terms, factor: i64, variable: Var) -> Result<(), OutOfMemory>
-    ensures { OnOk result (terms.new ≡ terms.old ++ unless_zero factor variable) }
+fn add_unless_zero(terms: &mut Terms, term: Term) -> Result<(), OutOfMemory>
+    ensures { OnOk result (terms.new ≡ terms.old ++ unless_zero term.factor term.variable) }
 {
-    if factor != 0 {
-        terms.add(Term { variable, factor })?;
+    if term.factor != 0 {
+        terms.add(term)?;
     }
     Ok(())
 }
 
-// What the flight is spared for having arrived by the period, with so much delay.
-fn add_late_term(
-    terms: &mut Terms,
-    s: &Scenario,
-    flight: u32,
-    node: u16,
-    time: u16,
-    delay: u16,
-) -> Result<(), OutOfMemory>
-    requires flight { flight < length (parts_of s.now).flights }
-    requires delay { delay + 1 < 2 ^ 16 }
-    ensures { OnOk result (terms.new ≡ terms.old
-        ++ unless_zero (total_at (parts_of s.now).tables (flight_at s.now flight) delay
-        -ℤ total_at (parts_of s.now).tables (flight_at s.now flight) (delay + 1))
-        (By flight node time)) }
-{
-    add_unless_zero(
-        terms,
-        total_step(s, flight, delay),
-        Var::By { flight, node, time },
-    )
-}
-
-// What it isn't credited for having departed by the period, with so much delay.
-fn add_wait_term(
-    terms: &mut Terms,
-    s: &Scenario,
-    flight: u32,
-    time: u16,
-    delay: u16,
-) -> Result<(), OutOfMemory>
-    requires flight { flight < length (parts_of s.now).flights }
-    requires delay { delay + 1 < 2 ^ 16 }
-    ensures { OnOk result (terms.new ≡ terms.old
-        ++ unless_zero (neg_ℤ (credit_at (parts_of s.now).tables (flight_at s.now flight) delay)
-        -ℤ neg_ℤ (credit_at (parts_of s.now).tables (flight_at s.now flight) (delay + 1)))
-        (By flight 0 time)) }
-{
-    add_unless_zero(
-        terms,
-        credit_step(s, flight, delay),
-        Var::By {
-            flight,
-            node: 0,
-            time,
-        },
-    )
-}
-
-// What the flight is spared for each period by which it has arrived.
+// A term for each period by which the flight may have arrived.
 fn add_late_terms(
     terms: &mut Terms,
     s: &Scenario,
@@ -165,14 +183,13 @@ fn add_late_terms(
     ensures { OnOk result (terms.new ≡ terms.old ++ late_terms (parts_of s.now).tables
         (parts_of s.now).day.periods number flight.now) }
 {
-    let last = (flight.nodes.items().len() - 1) as u16;
-    for delay in 0..most_late(s.day().periods, flight) {
-        add_late_term(terms, s, number, last, flight.sa + delay, delay)?;
+    for delay in 0..most_late(s, number) {
+        add_unless_zero(terms, late_term(s, number, delay))?;
     }
     Ok(())
 }
 
-// What it isn't credited for each period by which it has departed.
+// A term for each period by which it may have departed.
 fn add_wait_terms(
     terms: &mut Terms,
     s: &Scenario,
@@ -183,8 +200,8 @@ fn add_wait_terms(
     ensures { OnOk result (terms.new ≡ terms.old ++ wait_terms (parts_of s.now).tables
         (parts_of s.now).day.periods number flight.now) }
 {
-    for delay in 0..most_wait(s.day().periods, flight) {
-        add_wait_term(terms, s, number, flight.sd + delay, delay)?;
+    for delay in 0..most_wait(s, number) {
+        add_unless_zero(terms, wait_term(s, number, delay))?;
     }
     Ok(())
 }
@@ -218,42 +235,36 @@ fn cost_terms(alloc: Global, s: &Scenario) -> Result<Terms, OutOfMemory>
 }
 
 // The cost of the flight, if it were as late as it may.
-fn flight_constant(s: &Scenario, number: u32, flight: &Flight) -> Option<i64>
+fn flight_constant(s: &Scenario, number: u32, flight: &Flight) -> i64
     requires { flight_at s.now number ≡ Some flight.now }
-    ensures constant { result ≡ Some (flight_constant (parts_of s.now).tables
-        (parts_of s.now).day.periods flight.now) }
-    ensures within { IfSome result (IsWithin 200000000000) }
+    ensures constant { result ≡ flight_constant (parts_of s.now).tables
+        (parts_of s.now).day.periods flight.now }
+    ensures within { IsWithin 200000000000 result }
 {
-    let periods = s.day().periods;
-    Some(difference(
-        s.total(number, most_late(periods, flight)),
-        s.credit(number, most_wait(periods, flight)),
-    ))
+    difference(
+        s.total(number, most_late(s, number)),
+        s.credit(number, most_wait(s, number)),
+    )
 }
 
-// The sum of both, where both are there.
-fn plus(sum: Option<i64>, more: Option<i64>) -> Option<i64>
-    requires sum { IfSome sum (IsWithin (2 ^ 60)) }
-    requires more { IfSome more (IsWithin 200000000000) }
-    ensures { result ≡ plus sum more }
+// The sum of both.
+fn plus(sum: i64, more: i64) -> i64
+    requires sum { IsWithin (2 ^ 60) sum }
+    requires more { IsWithin 200000000000 more }
+    ensures { result ≡ sum +ℤ more }
 {
-    match sum {
-        None => None,
-        Some(sum) => match more {
-            None => None,
-            Some(more) => Some(sum + more),
-        },
-    }
+    sum + more
 }
 
-// What all flights cost, if they were as late as they may.
-fn constant_of(s: &Scenario) -> i64
+/// What all flights cost, if they were as late as they may: the constant of the cost row. It takes
+/// no memory, and time for each flight.
+pub fn constant_of(s: &Scenario) -> i64
     ensures { result ≡ (cost_row (parts_of s.now)).constant }
 {
     let flights = s.flights();
-    let mut sum = Some(0);
+    let mut sum = 0;
     for number in 0..flights.len() {
         sum = plus(sum, flight_constant(s, number as u32, &flights[number]));
     }
-    sum.unwrap_or(0)
+    sum
 }

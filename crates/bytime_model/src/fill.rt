@@ -21,8 +21,8 @@ fn put_before(buffer: &mut RowBuffer, flight: u32, node: u16, time: u16, wait: u
     }
 }
 
-// Entering the node in this period.
-fn put_entry(buffer: &mut RowBuffer, flight: u32, node: u16, time: u16)
+/// Entering the node in this period.
+pub fn put_entry(buffer: &mut RowBuffer, flight: u32, node: u16, time: u16)
     requires { length buffer.old.terms + 2 ≤ most_terms }
     ensures { Adds (enters_in flight node time) buffer.old buffer.new }
 {
@@ -75,8 +75,8 @@ fn put_all_back(buffer: &mut RowBuffer, number: u32, flight: &Flight, node: u16,
     }
 }
 
-// Being inside the node in the period.
-fn put_stay(buffer: &mut RowBuffer, number: u32, flight: &Flight, time: u16, node: u16)
+/// Being inside the node in the period.
+pub fn put_stay(buffer: &mut RowBuffer, number: u32, flight: &Flight, time: u16, node: u16)
     requires { length buffer.old.terms + length flight.now.legs + 1 ≤ most_terms }
     ensures { Adds (stay_terms number flight.now time node) buffer.old buffer.new }
 {
@@ -136,8 +136,8 @@ fn put_stay_at(buffer: &mut RowBuffer, number: u32, flight: &Flight, place: u32,
     }
 }
 
-// The last node of the flight.
-fn last_node(flight: &Flight) -> u16
+/// The last node of the flight.
+pub fn last_node(flight: &Flight) -> u16
     requires some { 1 ≤ length flight.now.nodes }
     requires few { length flight.now.nodes ≤ most_nodes }
     ensures { result ≡ length flight.now.nodes - 1 }

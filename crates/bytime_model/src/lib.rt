@@ -7,28 +7,55 @@
 //! makes room for one row, and asks for it by its name:
 //!
 //!     let mut row = RowBuffer::new(alloc)?;
-//!     if row.fill(&s, RowName::Dep { place, period }) {
-//!         for term in row.terms() {
-//!             println!("{} times {:?}", term.factor, term.variable);
+//!     for name in rows_of(alloc, &s)?.items() {
+//!         if row.fill(&s, *name) {
+//!             for term in row.terms() {
+//!                 println!("{} times {:?}", term.factor, term.variable);
+//!             }
+//!             println!("is at most {}", row.limit());
 //!         }
-//!         println!("is at most {}", row.limit());
 //!     }
 //!
+//! Whoever asks for many rows makes the visits of the scenario once, `Visits::new(alloc, &s)?`, and
+//! calls `fill_with(&s, &visits, name)`: then a row of a capacity goes over the flights alone that
+//! have a node at the place.
+//!
+//! Whoever adds up what plans cost without a list of terms goes over the flights. For each `delay`
+//! below `most_late(&s, flight)`, `late_step(&s, flight, delay)` is the factor of having entered
+//! the last node so long after the scheduled arrival; `most_wait` and `wait_step` are the same for
+//! the first node and the scheduled departure, and `constant_of(&s)` is the constant. `late_term`
+//! and `wait_term` give such a factor with its variable.
+//!
 //! The definitions stand in `specs/`: `Values` (the values of the variables at a plan), `Rows` (the
-//! rows, by their names), `CostRow` (what a plan costs, as a sum of terms) and `Left` (what a box
-//! leaves of a variable). `Filling` serves the proofs alone.
+//! rows, by their names), `AllRows` (the names of all rows), `Order` (their order), `Visits` (who
+//! has a node at a place), `CostRow` (what a plan costs, as a sum of terms) and `Left` (what a box
+//! leaves of a variable). `Filling` and `Listing` serve the proofs alone. `proofs/SmallFacts.antt`
+//! is for the proofs of crates above: how large factors, limits and steps are, and how long a row
+//! is; they stand on the other files of proofs too.
 //!
-//! Proved: `fill` tells whether there is a row of that name (`told`) and holds exactly it (`row`),
-//! which no plan that keeps every rule breaks (`valid`), or no terms (`none`); `row_of` gives the
-//! same row in a list of its own (`some`, `row`). `linear_cost` gives the cost row (`row`), whose
-//! value at a plan is the plan's cost (`cost`). `left_of` tells what the box leaves of a variable
-//! (`left`), and it is so at every plan in the box (`agrees`).
+//! Proved: `fill` and `fill_with` tell whether there is a row of that name (`told`) and hold
+//! exactly it (`row`), which no plan that keeps every rule breaks (`valid`), or no terms (`none`);
+//! `row_of` gives the same row in a list of its own (`some`, `row`). `rows_of` gives the names of
+//! all rows (`names`): a name is among them exactly where there is such a row (`each`), and each
+//! comes before all later ones (`order`), as `is_before` tells, so that no name comes twice
+//! (`rows_are_in_one_order`). `Visits::at` gives the flights that have a node at the place, in
+//! their order. `linear_cost` gives the cost row (`row`), whose value at a plan is the plan's cost
+//! (`cost`); the calls for one step or term, for how many there are and for the constant give what
+//! the definition has for them, and so does `has_inside`. `left_of` tells what the box leaves of a
+//! variable (`left`), and it is so at every plan in the box (`agrees`).
 //!
-//! Memory: `RowBuffer` takes 0.2 MB once, and `linear_cost` 24 bytes for each period that a flight
-//! may be late or wait, or up to twice that, since the list grows; the others take none. Time: a
-//! row of a capacity goes over the flights of the day, and any other over the legs of its flight.
+//! Memory: `RowBuffer` takes 0.2 MB once, `Visits` 8 bytes for each node of a flight and for each
+//! place, `linear_cost` 24 bytes for each period that a flight may be late or wait, `row_of` 24 for
+//! each term, and `rows_of` 12 for each name; these take up to twice that, since the lists grow.
+//! While it runs `row_of` takes a `RowBuffer` more, and `Visits::new` up to 28 bytes for each node
+//! and 4 for each place. The others take none. Time: for a row of a capacity, `fill` goes over the
+//! flights of the day, and `fill_with` over those that have a node at the place; for that of a
+//! sector, `fill` also goes over the nodes of each flight, and both over the legs of each flight
+//! that has a node there. For any other row both go over the legs of its flight. `Visits::new` goes
+//! over the nodes of all flights and over the places.
 #![tactic(auto)]
 
+mod all_rows;
 mod buffer;
 mod cost_row;
 mod fill;
@@ -37,10 +64,18 @@ mod names;
 mod row;
 mod rows;
 mod variables;
+mod visited;
+mod visits;
 
+pub use all_rows::rows_of;
 pub use buffer::{MOST_TERMS, RowBuffer};
-pub use cost_row::{CostRow, linear_cost};
+pub use cost_row::{
+    CostRow, constant_of, late_step, late_term, linear_cost, most_late, most_wait, wait_step,
+    wait_term,
+};
 pub use left::{Left, left_of};
-pub use names::RowName;
+pub use names::{RowName, RowNames, rows_are_in_one_order};
 pub use row::{Row, row_of};
-pub use variables::{Term, Terms, Var};
+pub use rows::has_inside;
+pub use variables::{Term, Terms, Var, Vars};
+pub use visits::{Visit, Visits};

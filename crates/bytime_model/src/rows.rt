@@ -1,26 +1,32 @@
 //! The row of a name.
-ghost use Rattle.std.specs.Prelude.{◌≡◌, ◌<◌, ◌&&◌, Some, Bool, false, true, nat_lt, length, slice_get};
+ghost use Rattle.std.specs.Prelude.{◌≡◌, ◌<◌, ◌&&◌, Some, IfSome, Bool, false, true, nat_lt, length, slice_get};
 ghost use Rattle.flow_types.specs.Capacities.{has_kind};
 ghost use Rattle.flow_types.specs.Scenario.{parts_of};
 ghost use Rattle.bytime_model.specs.declared.names.RowName.TheVariants.{Connect, Enter, Leave, Mono, Occupy, Top};
 ghost use Rattle.bytime_model.specs.Filling.{Fills, FillsCapacity};
 ghost use Rattle.bytime_model.specs.Rows.{goes_on, is_capacity, is_node, is_row, no_row};
 ghost use Rattle.bytime_model.specs.Values.{has_inside};
+ghost use Rattle.bytime_model.specs.Visits.{AreVisitsOf};
 
 use crate::buffer::RowBuffer;
-use crate::fill::{is_plain, put_connect, put_enter, put_leave, put_occupy, put_uses};
+use crate::fill::{is_plain, put_connect, put_enter, put_leave, put_occupy};
 use crate::names::RowName;
 use crate::variables::Var;
+use crate::visited::put_taken;
+use crate::visits::Visits;
 use flow_types::{CapKind, Scenario, capacity_at};
 
 impl RowBuffer {
     ghost use Rattle.std.specs.Prelude.{◌≡◌, false, true};
     ghost use Rattle.flow_types.specs.Scenario.{parts_of};
     ghost use Rattle.bytime_model.specs.Rows.{IsValid, is_row, no_row, row_of};
+    ghost use Rattle.bytime_model.specs.Visits.{AreVisitsOf};
 
     /// Holds the row of the name, if there is one, and no terms else. Tells whether there is. A cut
     /// has no row here. No plan that keeps every rule breaks the row. It takes no memory. A row of
-    /// a capacity takes time for each flight of the day, and any other for each leg of its flight.
+    /// departures or arrivals takes time for each flight of the day, that of a sector for each node
+    /// of each flight and each leg of those that have a node there, and any other for each leg of
+    /// its flight.
     pub fn fill(&mut self, s: &Scenario, name: RowName) -> bool
         ensures told { result ≡ is_row (parts_of s.now) name }
         ensures row { result ≡ true → self.new ≡ row_of (parts_of s.now) name }
@@ -28,22 +34,41 @@ impl RowBuffer {
         ensures valid { IsValid (parts_of s.now) self.new }
     {
         self.clear();
-        fill_by(self, s, name)
+        fill_by(self, s, None, name)
+    }
+
+    /// Does the same as `fill`, by the visits of the scenario. So a row of a capacity takes time
+    /// for each flight that has a node at the place, and that of a sector for each leg of these. It
+    /// takes no memory.
+    pub fn fill_with(&mut self, s: &Scenario, visits: &Visits, name: RowName) -> bool
+        requires visits { AreVisitsOf (parts_of s.now) visits.now }
+        ensures told { result ≡ is_row (parts_of s.now) name }
+        ensures row { result ≡ true → self.new ≡ row_of (parts_of s.now) name }
+        ensures none { result ≡ false → self.new ≡ no_row }
+        ensures valid { IsValid (parts_of s.now) self.new }
+    {
+        self.clear();
+        fill_by(self, s, Some(visits), name)
     }
 }
 
-// Fills a row that has no terms yet.
-fn fill_by(buffer: &mut RowBuffer, s: &Scenario, name: RowName) -> bool
-    requires { buffer.old ≡ no_row }
+// Fills a row that has no terms yet, by the visits where they are known.
+fn fill_by(buffer: &mut RowBuffer, s: &Scenario, visits: Option<&Visits>, name: RowName) -> bool
+    requires visits { IfSome visits (λ visits. AreVisitsOf (parts_of s.now) visits.now) }
+    requires none { buffer.old ≡ no_row }
     ensures { Fills (parts_of s.now) name result buffer.new }
 {
     match name {
         RowName::Mono { flight, node, time } => fill_mono(buffer, s, flight, node, time),
         RowName::Top { flight, node } => fill_top(buffer, s, flight, node),
-        RowName::Dep { place, period } => fill_capacity(buffer, s, CapKind::Dep, place, period),
-        RowName::Arr { place, period } => fill_capacity(buffer, s, CapKind::Arr, place, period),
+        RowName::Dep { place, period } => {
+            fill_capacity(buffer, s, visits, CapKind::Dep, place, period)
+        }
+        RowName::Arr { place, period } => {
+            fill_capacity(buffer, s, visits, CapKind::Arr, place, period)
+        }
         RowName::Sector { place, period } => {
-            fill_capacity(buffer, s, CapKind::Sector, place, period)
+            fill_capacity(buffer, s, visits, CapKind::Sector, place, period)
         }
         RowName::Occupy { flight, node, time } => fill_occupy(buffer, s, flight, node, time),
         RowName::Enter { flight, node, time } => fill_enter(buffer, s, flight, node, time),
@@ -63,8 +88,9 @@ fn is_node(s: &Scenario, flight: u32, node: u16) -> bool
     }
 }
 
-// Whether it has a variable for being inside the node.
-fn has_inside(s: &Scenario, flight: u32, node: u16) -> bool
+/// Whether the flight has a variable for being inside the node: it is between the ends, and not a
+/// plain one. It takes time for each leg of the flight.
+pub fn has_inside(s: &Scenario, flight: u32, node: u16) -> bool
     ensures { result ≡ has_inside (slice_get (parts_of s.now).flights flight) node }
 {
     match s.flights().get(flight as usize) {
@@ -123,17 +149,19 @@ fn fill_top(buffer: &mut RowBuffer, s: &Scenario, flight: u32, node: u16) -> boo
 fn fill_capacity(
     buffer: &mut RowBuffer,
     s: &Scenario,
+    visits: Option<&Visits>,
     kind: CapKind,
     place: u32,
     period: u16,
 ) -> bool
-    requires { buffer.old ≡ no_row }
+    requires visits { IfSome visits (λ visits. AreVisitsOf (parts_of s.now) visits.now) }
+    requires none { buffer.old ≡ no_row }
     ensures { FillsCapacity (parts_of s.now) kind place period result buffer.new }
 {
     if !is_capacity(s, kind, place, period) {
         return false;
     }
-    put_uses(buffer, s, kind, place, period);
+    put_taken(buffer, s, visits, kind, place, period);
     buffer.set_limit(i64::from(capacity_at(s.places(), kind, place, period)));
     true
 }

@@ -20,3 +20,6 @@ pub struct Term {
 
 /// A list of terms.
 pub type Terms = Sequence<Term>;
+
+/// A list of variables.
+pub type Vars = Sequence<Var>;

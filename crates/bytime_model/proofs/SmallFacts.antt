@@ -1,0 +1,359 @@
+-- How large the factors and limits of the rows are, and how long a row is: for crates that add rows
+-- up.
+use Rattle.std.proofs.Common.{◌≡◌, ◌⊎◌, ℕ, zero, suc, ◌+◌, ◌-◌, ◌*◌, ◌^◌, ◌<◌, ◌≤◌, ◌==◌, Bool, true, false, nat_le, List, [], ◌∷◌, ◌++◌, length, slice_get, slice_index, Option, None, Some, All, if◌then◌else◌, ℤ, pos, inl, inr, refl, subst, arith}
+use Rattle.std.proofs.lemmas.Bool.{cases_lt}
+use Rattle.std.proofs.lemmas.Int.{ints}
+use Rattle.std.proofs.lemmas.List.{get_or_past, length-append}
+use Rattle.std.proofs.lemmas.List.Elements.{All-append, All-cons, All-nil}
+use Rattle.std.specs.List.{flat_map, range_with_len}
+use Rattle.std.specs.Ordering.{int_eq}
+use Rattle.exact_sums.proofs.ItemFacts.{All-item}
+use Rattle.flow_types.specs.declared.flight.Connection.{Connection}
+use Rattle.flow_types.specs.declared.flight.Flight.{Flight}
+use Rattle.flow_types.specs.declared.parts.Parts.{Parts}
+use Rattle.flow_types.specs.declared.place.CapKind.{CapKind}
+use Rattle.flow_types.specs.declared.place.CapKind.TheVariants as kind
+use Rattle.flow_types.specs.declared.place.Place.{Place}
+use Rattle.flow_types.specs.Capacities.{caps_of}
+use Rattle.flow_types.specs.Limits.{most_capacity}
+use Rattle.flow_types.specs.Valid.{IsPlace, IsScenario}
+use Rattle.flow_types.proofs.CostFacts.{credit_at-within, total_at-within}
+use Rattle.time_windows.proofs.RootFacts.{flight_in}
+use Rattle.bytime_model.specs.declared.names.RowName.{RowName}
+use Rattle.bytime_model.specs.declared.names.RowName.TheVariants.{Arr, Connect, Cut, Dep, Enter, Leave, Mono, Occupy, Sector, Top}
+use Rattle.bytime_model.specs.declared.variables.Term.{Term}
+use Rattle.bytime_model.specs.declared.variables.Var.{Var}
+use Rattle.bytime_model.specs.declared.variables.Var.TheVariants.{By, Inside}
+use Rattle.bytime_model.specs.CostRow.{cost_row, flight_terms, late_step, late_step_at, late_terms, most_late, most_wait, unless_zero, wait_step, wait_step_at, wait_terms}
+use Rattle.bytime_model.specs.Filling.{IsWithin}
+use Rattle.bytime_model.specs.Rows.{back_term, back_terms, by_before, connect_terms, enter_terms, enters_in, last_node, leave_terms, minus_one, most_terms, node_from, occupy_terms, of_connection, of_flight, on_term, on_terms, one, over_flights, row_limit, row_terms, stay_terms, stay_terms_at, term_of, use_terms}
+use Rattle.bytime_model.specs.Values.{is_plain}
+use Rattle.bytime_model.proofs.CostFacts.{constants_near}
+use Rattle.bytime_model.proofs.FillFacts.{back_few, before_few, on_all_few, parts_few, use_few}
+
+-- the factor is 1 or -1
+abbrev pub IsUnit : Term → Type 0
+IsUnit term = (term.factor ≡ one) ⊎ (term.factor ≡ minus_one)
+
+-- what holds of each part holds of all
+module _ (P : Term → Type 0) where
+  pub all_flat : {X : Type 0} (part : X → List Term) (xs : List X) → ((x : X) → All P (part x))
+      → All P (flat_map part xs)
+  all_flat part [] each = All-nil P
+  all_flat part (x ∷ xs) each =
+      All-append P (part x) (flat_map part xs) (each x) (all_flat part xs each)
+
+  pub all_over : (part : ℕ → Flight → List Term) (k : ℕ) (flights : List Flight)
+      → ((i : ℕ) (flight : Flight) → All P (part i flight)) → All P (over_flights part k flights)
+  all_over part k [] each = All-nil P
+  all_over part k (flight ∷ flights) each =
+      All-append P (part k flight) (over_flights part (k + 1) flights) (each k flight)
+      (all_over part (k + 1) flights each)
+
+  pub all_if : (b : Bool) (xs : List Term) → All P xs → All P (if b then xs else [])
+  all_if true xs all = all
+  all_if false xs all = All-nil P
+
+  pub all_of : (terms : Flight → List Term) (flight : Option Flight)
+      → ((f : Flight) → All P (terms f)) → All P (of_flight terms flight)
+  all_of terms None each = All-nil P
+  all_of terms (Some flight) each = each flight
+
+with_one : (variable : Var) (terms : List Term) → All IsUnit terms
+    → All IsUnit (term_of one variable ∷ terms)
+with_one variable terms all = All-cons IsUnit (term_of one variable) terms (inl refl) all
+
+minus : (variable : Var) → All IsUnit (term_of minus_one variable ∷ [])
+minus variable = All-cons IsUnit (term_of minus_one variable) [] (inr refl) (All-nil IsUnit)
+
+before_units : (flight node time wait : ℕ)
+    → All IsUnit (by_before minus_one flight node time wait)
+before_units flight node time wait =
+    all_if IsUnit (nat_le wait time) (term_of minus_one (By flight node (time - wait)) ∷ [])
+    (minus (By flight node (time - wait)))
+
+entry_units : (flight node time : ℕ) → All IsUnit (enters_in flight node time)
+entry_units flight node time =
+    with_one (By flight node time) (by_before minus_one flight node time 1)
+    (before_units flight node time 1)
+
+on_units : (number : ℕ) (flight : Flight) (node time : ℕ)
+    → All IsUnit (on_terms number flight node time)
+on_units number flight node time =
+    all_flat IsUnit (on_term number node time) flight.legs
+    (λ leg. all_if IsUnit (leg.from == node) (term_of minus_one (By number leg.to time) ∷ [])
+    (minus (By number leg.to time)))
+
+back_units : (number : ℕ) (flight : Flight) (node time : ℕ)
+    → All IsUnit (back_terms number flight node time)
+back_units number flight node time =
+    all_flat IsUnit (back_term number node time) flight.legs
+    (λ leg. all_if IsUnit (leg.to == node) (by_before minus_one number leg.from time leg.least)
+    (before_units number leg.from time leg.least))
+
+stay_units : (number : ℕ) (flight : Flight) (time node : ℕ)
+    → All IsUnit (stay_terms number flight time node)
+stay_units number flight time node = by (is_plain flight node)
+  where
+    by : (b : Bool) → All IsUnit (if b then term_of one (By number node time)
+        ∷ on_terms number flight node time else term_of one (Inside number node time) ∷ [])
+    by true = with_one (By number node time) (on_terms number flight node time)
+        (on_units number flight node time)
+    by false = with_one (Inside number node time) [] (All-nil IsUnit)
+
+stay_at_units : (number : ℕ) (flight : Flight) (time : ℕ) (node : Option ℕ)
+    → All IsUnit (stay_terms_at number flight time node)
+stay_at_units number flight time None = All-nil IsUnit
+stay_at_units number flight time (Some node) = stay_units number flight time node
+
+use_units : (kind : CapKind) (place time number : ℕ) (flight : Flight)
+    → All IsUnit (use_terms kind place time number flight)
+use_units kind.Dep place time number flight =
+    all_if IsUnit (flight.from == place) (enters_in number 0 time) (entry_units number 0 time)
+use_units kind.Arr place time number flight =
+    all_if IsUnit (flight.to == place) (enters_in number (length flight.nodes - 1) time)
+    (entry_units number (length flight.nodes - 1) time)
+use_units kind.Sector place time number flight =
+    stay_at_units number flight time (node_from place 0 flight.nodes)
+
+capacity_units : (parts : Parts) (kind : CapKind) (place time : ℕ)
+    → All IsUnit (over_flights (use_terms kind place time) 0 parts.flights)
+capacity_units parts kind place time =
+    all_over IsUnit (use_terms kind place time) 0 parts.flights
+    (λ i flight. use_units kind place time i flight)
+
+connect_units : (flights : List Flight) (time : ℕ) (connection : Option Connection)
+    → All IsUnit (of_connection (λ c. connect_terms flights c time) connection)
+connect_units flights time None = All-nil IsUnit
+connect_units flights time (Some c) =
+    with_one (By c.second 0 time)
+    (by_before minus_one c.first (last_node (slice_get flights c.first)) time c.turnaround)
+    (before_units c.first (last_node (slice_get flights c.first)) time c.turnaround)
+
+-- every factor of a row is 1 or -1
+pub row_units : (parts : Parts) (name : RowName) → All IsUnit (row_terms parts name)
+row_units parts (Mono f n t) =
+    with_one (By f n (t - 1)) (term_of minus_one (By f n t) ∷ []) (minus (By f n t))
+row_units parts (Top f n) =
+    with_one (By f n (parts.day.periods - 1)) [] (All-nil IsUnit)
+row_units parts (Dep p t) = capacity_units parts kind.Dep p t
+row_units parts (Arr p t) = capacity_units parts kind.Arr p t
+row_units parts (Sector p t) = capacity_units parts kind.Sector p t
+row_units parts (Occupy f n t) =
+    all_of IsUnit (λ flight. occupy_terms f flight n t) (slice_get parts.flights f)
+    (λ flight. with_one (By f n t)
+    (on_terms f flight n t ++ term_of minus_one (Inside f n t) ∷ [])
+    (All-append IsUnit (on_terms f flight n t) (term_of minus_one (Inside f n t) ∷ [])
+    (on_units f flight n t) (minus (Inside f n t))))
+row_units parts (Enter f n t) =
+    all_of IsUnit (λ flight. enter_terms f flight n t) (slice_get parts.flights f)
+    (λ flight. with_one (By f n t) (back_terms f flight n t) (back_units f flight n t))
+row_units parts (Leave f n) =
+    all_of IsUnit (λ flight. leave_terms f flight n (parts.day.periods - 1))
+    (slice_get parts.flights f)
+    (λ flight. with_one (By f n (parts.day.periods - 1))
+    (on_terms f flight n (parts.day.periods - 1))
+    (on_units f flight n (parts.day.periods - 1)))
+row_units parts (Connect c t) = connect_units parts.flights t (slice_get parts.connections c)
+row_units parts (Cut i) = All-nil IsUnit
+
+-- a capacity, wherever it is read
+cap_small : (caps : List ℕ) (period : ℕ) → All (λ c. c ≤ most_capacity) caps
+    → slice_index caps period ≤ most_capacity
+cap_small caps period all = by (cases_lt period (length caps))
+  where
+    by : (period < length caps) ⊎ (length caps ≤ period) → slice_index caps period ≤ most_capacity
+    by (inl within) = all period 0 within
+    by (inr past) = omega (arith, get_or_past caps period 0 past)
+
+caps_small : (kind : CapKind) (parts : Parts) (place period : ℕ) (found : Option Place)
+    → IsScenario parts → slice_get parts.places place ≡ found
+    → slice_index (caps_of kind found) period ≤ most_capacity
+caps_small kind parts place period None valid is = omega arith
+caps_small kind.Dep parts place period (Some found) valid is =
+    cap_small found.first period
+    (All-item (IsPlace parts.day.periods) parts.places place found valid.places is).first
+caps_small kind.Arr parts place period (Some found) valid is =
+    cap_small found.second period
+    (All-item (IsPlace parts.day.periods) parts.places place found valid.places is).second
+caps_small kind.Sector parts place period (Some found) valid is =
+    cap_small found.first period
+    (All-item (IsPlace parts.day.periods) parts.places place found valid.places is).first
+
+-- no limit of a row is greater than a capacity may be
+pub row_limit_small : (parts : Parts) (name : RowName) → IsScenario parts
+    → row_limit parts name ≤ most_capacity
+row_limit_small parts (Mono f n t) valid = omega arith
+row_limit_small parts (Top f n) valid = omega arith
+row_limit_small parts (Dep p t) valid =
+    caps_small kind.Dep parts p t (slice_get parts.places p) valid refl
+row_limit_small parts (Arr p t) valid =
+    caps_small kind.Arr parts p t (slice_get parts.places p) valid refl
+row_limit_small parts (Sector p t) valid =
+    caps_small kind.Sector parts p t (slice_get parts.places p) valid refl
+row_limit_small parts (Occupy f n t) valid = omega arith
+row_limit_small parts (Enter f n t) valid = omega arith
+row_limit_small parts (Leave f n) valid = omega arith
+row_limit_small parts (Connect c t) valid = omega arith
+row_limit_small parts (Cut i) valid = omega arith
+
+-- two terms a flight
+over_few : (kind : CapKind) (place time k : ℕ) (flights : List Flight)
+    → length (over_flights (use_terms kind place time) k flights) ≤ 2 * length flights
+over_few kind place time k [] = omega arith
+over_few kind place time k (flight ∷ flights) =
+    omega (
+      arith,
+      length-append (use_terms kind place time k flight)
+          (over_flights (use_terms kind place time) (k + 1) flights),
+      use_few kind place time k flight,
+      over_few kind place time (k + 1) flights,
+    )
+
+capacity_few : (parts : Parts) (kind : CapKind) (place time : ℕ) → IsScenario parts
+    → length (over_flights (use_terms kind place time) 0 parts.flights) ≤ most_terms
+capacity_few parts kind place time valid =
+    omega (arith, over_few kind place time 0 parts.flights, valid.flights_few)
+
+-- a term a leg, and two more
+of_few : (parts : Parts) (f : ℕ) (terms : Flight → List Term) (found : Option Flight)
+    → IsScenario parts → slice_get parts.flights f ≡ found
+    → ((flight : Flight) → length (terms flight) ≤ length flight.legs + 2)
+    → length (of_flight terms found) ≤ most_terms
+of_few parts f terms None valid is few = omega arith
+of_few parts f terms (Some flight) valid is few =
+    omega (arith, few flight, (flight_in parts f flight valid is).route.legs_to_limit)
+
+connect_few : (flights : List Flight) (time : ℕ) (connection : Option Connection)
+    → length (of_connection (λ c. connect_terms flights c time) connection) ≤ most_terms
+connect_few flights time None = omega arith
+connect_few flights time (Some c) =
+    omega (
+      arith,
+      before_few c.first (last_node (slice_get flights c.first)) time c.turnaround,
+    )
+
+-- no row has more terms than there is room for
+pub row_few : (parts : Parts) (name : RowName) → IsScenario parts
+    → length (row_terms parts name) ≤ most_terms
+row_few parts (Mono f n t) valid = omega arith
+row_few parts (Top f n) valid = omega arith
+row_few parts (Dep p t) valid = capacity_few parts kind.Dep p t valid
+row_few parts (Arr p t) valid = capacity_few parts kind.Arr p t valid
+row_few parts (Sector p t) valid = capacity_few parts kind.Sector p t valid
+row_few parts (Occupy f n t) valid =
+    of_few parts f (λ flight. occupy_terms f flight n t) (slice_get parts.flights f) valid refl
+    (λ flight. omega (
+      arith,
+      length-append (on_terms f flight n t) (term_of minus_one (Inside f n t) ∷ []),
+      on_all_few f n t flight.legs,
+    ))
+row_few parts (Enter f n t) valid =
+    of_few parts f (λ flight. enter_terms f flight n t) (slice_get parts.flights f) valid refl
+    (λ flight. omega (arith, parts_few (back_term f n t) flight.legs (back_few f n t)))
+row_few parts (Leave f n) valid =
+    of_few parts f (λ flight. leave_terms f flight n (parts.day.periods - 1))
+    (slice_get parts.flights f) valid refl
+    (λ flight. omega (arith, on_all_few f n (parts.day.periods - 1) flight.legs))
+row_few parts (Connect c t) valid = connect_few parts.flights t (slice_get parts.connections c)
+row_few parts (Cut i) valid = omega arith
+
+-- how far from 0 a step of the cost row may be
+pub late_step_near : (parts : Parts) (number delay : ℕ) (found : Option Flight)
+    → IsScenario parts → slice_get parts.flights number ≡ found → delay + 1 < 65536
+    → IsWithin 200000000000 (late_step_at parts.tables found delay)
+late_step_near parts number delay None valid is few =
+    record { down = omega (arith, ints); up = omega (arith, ints) }
+late_step_near parts number delay (Some flight) valid is few =
+    let now = total_at-within parts number delay (Some flight) valid is (omega (arith, few)) in
+    let next = total_at-within parts number (delay + 1) (Some flight) valid is few in
+    record {
+      down = omega (arith, ints, now.low, next.high);
+      up = omega (arith, ints, now.high, next.low);
+    }
+
+pub wait_step_near : (parts : Parts) (number delay : ℕ) (found : Option Flight)
+    → IsScenario parts → slice_get parts.flights number ≡ found → delay + 1 < 65536
+    → IsWithin 200000000000 (wait_step_at parts.tables found delay)
+wait_step_near parts number delay None valid is few =
+    record { down = omega (arith, ints); up = omega (arith, ints) }
+wait_step_near parts number delay (Some flight) valid is few =
+    let now = credit_at-within parts number delay (Some flight) valid is (omega (arith, few)) in
+    let next = credit_at-within parts number (delay + 1) (Some flight) valid is few in
+    record {
+      down = omega (arith, ints, now.high, next.low);
+      up = omega (arith, ints, now.low, next.high);
+    }
+
+-- a factor of the cost row
+abbrev pub IsNear : Term → Type 0
+IsNear term = IsWithin 200000000000 term.factor
+
+unless_near : (factor : ℤ) (variable : Var) → IsWithin 200000000000 factor
+    → All IsNear (unless_zero factor variable)
+unless_near factor variable near = by (int_eq factor (pos 0))
+  where
+    by : (b : Bool) → All IsNear (if b then [] else term_of factor variable ∷ [])
+    by true = All-nil IsNear
+    by false = All-cons IsNear (term_of factor variable) [] near (All-nil IsNear)
+
+steps_near : (step : ℕ → ℤ) (variable : ℕ → Var) (from count : ℕ)
+    → ((delay : ℕ) → delay < from + count → IsWithin 200000000000 (step delay))
+    → All IsNear (flat_map (λ delay. unless_zero (step delay) (variable delay))
+    (range_with_len from count))
+steps_near step variable from zero each = All-nil IsNear
+steps_near step variable from (suc count) each =
+    All-append IsNear (unless_zero (step from) (variable from))
+    (flat_map (λ delay. unless_zero (step delay) (variable delay))
+    (range_with_len (from + 1) count))
+    (unless_near (step from) (variable from) (each from (omega arith)))
+    (steps_near step variable (from + 1) count
+    (λ delay below. each delay (omega (arith, below))))
+
+flight_near : (parts : Parts) (number : ℕ) (flight : Flight) → IsScenario parts
+    → slice_get parts.flights number ≡ Some flight
+    → All IsNear (flight_terms parts.tables parts.day.periods number flight)
+flight_near parts number flight valid is =
+    let periods = parts.day.periods in
+    let short = valid.day.periods_to in
+    All-append IsNear (late_terms parts.tables periods number flight)
+    (wait_terms parts.tables periods number flight)
+    (steps_near (late_step parts.tables flight)
+    (λ delay. By number (length flight.nodes - 1) (flight.sa + delay)) 0 (most_late periods flight)
+    (λ delay below. late_step_near parts number delay (Some flight) valid is
+    (omega (arith, below, short))))
+    (steps_near (wait_step parts.tables flight) (λ delay. By number 0 (flight.sd + delay)) 0
+    (most_wait periods flight)
+    (λ delay below. wait_step_near parts number delay (Some flight) valid is
+    (omega (arith, below, short))))
+
+flights_near : (parts : Parts) (k : ℕ) (flights : List Flight) → IsScenario parts
+    → ((i : ℕ) (flight : Flight) → slice_get flights i ≡ Some flight
+    → slice_get parts.flights (k + i) ≡ Some flight)
+    → All IsNear (over_flights (flight_terms parts.tables parts.day.periods) k flights)
+flights_near parts k [] valid there = All-nil IsNear
+flights_near parts k (flight ∷ flights) valid there =
+    let part = flight_terms parts.tables parts.day.periods in
+    let first : k + 0 ≡ k = omega arith in
+    All-append IsNear (part k flight) (over_flights part (k + 1) flights)
+    (flight_near parts k flight valid
+    (subst (λ n. slice_get parts.flights n ≡ Some flight) first (there 0 flight refl)))
+    (flights_near parts (k + 1) flights valid
+    (λ i f is. subst (λ n. slice_get parts.flights n ≡ Some f) (omega arith) (there (suc i) f is)))
+
+-- no factor of the cost row is far from 0
+pub cost_terms_near : (parts : Parts) → IsScenario parts → All IsNear (cost_row parts).terms
+cost_terms_near parts valid =
+    flights_near parts 0 parts.flights valid
+    (λ i flight is. subst (λ n. slice_get parts.flights n ≡ Some flight) (omega arith) is)
+
+-- nor is its constant
+pub constant_small : (parts : Parts) → IsScenario parts
+    → IsWithin (2 ^ 60) (cost_row parts).constant
+constant_small parts valid =
+    let all = constants_near parts parts.flights valid valid.flights in
+    let few = valid.flights_few in
+    record {
+      down = omega (arith, ints, all.down, few);
+      up = omega (arith, ints, all.up, few);
+    }
