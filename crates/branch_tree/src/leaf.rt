@@ -1,0 +1,28 @@
+//! Leaves.
+
+use bytime_model::RowName;
+use flow_types::Sequence;
+
+/// A row of the by-time program, and how often it is counted.
+#[derive(Clone, Copy, Debug, PartialEq, Eq)]
+pub struct Multiplier {
+    pub row: RowName,
+    /// Below 2^62.
+    pub value: u64,
+}
+
+/// A list of multipliers.
+pub type Multipliers = Sequence<Multiplier>;
+
+/// Why no plan of a box costs less than its bound.
+#[derive(Debug, Drop)]
+pub enum Leaf {
+    /// A node that must be entered is closed.
+    Empty,
+    /// Each node has one choice, so there is one plan at the most.
+    Unit,
+    /// So many times the cost, and so many times what each row is above its limit: what all of it
+    /// comes to at the least, over the values 0 or 1 that the box leaves the variables. The weight
+    /// is below 2^62.
+    Dual { weight: u64, rows: Multipliers },
+}

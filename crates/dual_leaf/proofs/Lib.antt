@@ -1,0 +1,17 @@
+pub mod ColumnFacts
+pub mod CostGrowFacts
+pub mod GrowFacts
+pub mod LandFacts
+pub mod NumberFacts
+pub mod OptionFacts
+pub mod RoundFacts
+pub mod RowGrowFacts
+pub mod SlotFacts
+pub mod SoundFacts
+pub mod SumsFacts
+pub mod ThereFacts
+pub mod TimesFacts
+pub mod UnitBoxFacts
+pub mod UnitFitFacts
+pub mod UnitSumFacts
+pub mod ValueFacts

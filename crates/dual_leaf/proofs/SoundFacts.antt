@@ -1,0 +1,110 @@
+-- Weak duality: no plan in the box that keeps every rule costs less than a leaf says.
+use Rattle.std.proofs.Common.{◌≡◌, ℕ, suc, ◌≤◌, true, List, [], ◌∷◌, Option, None, Some, slice_get, IfOk, Result, Ok, Err, ℤ, pos, ◌*ℤ◌, ◌≤ℤ◌, Bool, false, if◌then◌else◌, refl, sym, ap, ◌∙◌, subst, arith}
+use Rattle.std.proofs.lemmas.Int.{ints}
+use Rattle.std.proofs.Math.IntN.{*ℤ_comm, zero-*ℤ}
+use Rattle.flow_types.specs.declared.bound.Bound.{Bound}
+use Rattle.flow_types.specs.declared.bound.Bound.TheVariants.{AtLeast, NoPlan}
+use Rattle.flow_types.specs.declared.flight.Flight.{Flight}
+use Rattle.flow_types.specs.declared.parts.Parts.{Parts}
+use Rattle.flow_types.specs.declared.plan.Stop.{Stop}
+use Rattle.flow_types.specs.Costs.{plan_cost}
+use Rattle.flow_types.specs.Counts.{stays_at}
+use Rattle.flow_types.specs.Feasible.{IsFeasible}
+use Rattle.flow_types.specs.Trips.{place_at}
+use Rattle.flow_types.specs.Valid.{IsScenario}
+use Rattle.time_windows.specs.Boxes.{Box, IsBoxOf, IsInBox}
+use Rattle.bytime_model.specs.declared.variables.Var.{Var}
+use Rattle.bytime_model.specs.declared.variables.Var.TheVariants.{By, Inside}
+use Rattle.bytime_model.specs.Rows.{row_of}
+use Rattle.bytime_model.specs.Values.{by_at, has_inside, inside_at, value_at}
+use Rattle.bytime_model.proofs.CostFacts.{plan_priced}
+use Rattle.bytime_model.proofs.EntryFacts.{by_few}
+use Rattle.bytime_model.proofs.LeftFacts.{agrees}
+use Rattle.bytime_model.proofs.ValidFacts.{flown, row_kept}
+use Rattle.branch_tree.specs.declared.leaf.Multiplier.{Multiplier}
+use Rattle.plan_rules.proofs.CountFacts.{stays_at-once}
+use Rattle.dual_leaf.specs.Dual.{AreKnown, IsChoice, IsDualValue, dual_at, excess, excesses}
+use Rattle.dual_leaf.specs.Leaf.{IsBoundOn, IsDualBound, IsLive, IsSaid}
+use Rattle.dual_leaf.specs.declared.fault.LeafFault.{LeafFault}
+use Rattle.dual_leaf.proofs.TimesFacts.{times-down}
+
+module _ (parts : Parts) (scenario : IsScenario parts) (box : Box) (made : IsBoxOf parts box)
+    (plan : List (List Stop)) (feasible : IsFeasible parts plan) (inside : IsInBox box plan) where
+  abbrev value : Var → ℕ
+  value = value_at parts.flights plan
+
+  by_bit : (n t : ℕ) (found : Option (List Stop)) → by_at n t found ≤ 1
+  by_bit n t None = omega arith
+  by_bit n t (Some trip) = by_few n t trip
+
+  inside_bit : (f n t : ℕ) (flight : Option Flight) → slice_get parts.flights f ≡ flight
+      → inside_at n t flight (slice_get plan f) ≤ 1
+  inside_bit f n t None none = omega arith
+  inside_bit f n t (Some flight) found =
+      let own = flown parts plan scenario feasible.trips f flight found in
+      subst (λ trip. inside_at n t (Some flight) trip ≤ 1) (sym own.1.flown)
+      (by (has_inside (Some flight) n) own.0
+      (stays_at-once parts.day.periods (place_at flight n) t flight own.0 own.1.valid))
+    where
+      by : (b : Bool) (trip : List Stop) → stays_at (place_at flight n) t flight trip ≤ 1
+          → (if b then stays_at (place_at flight n) t flight trip else 0) ≤ 1
+      by true trip once = once
+      by false trip once = omega arith
+
+  bits : (variable : Var) → value variable ≤ 1
+  bits (By f n t) = by_bit n t (slice_get plan f)
+  bits (Inside f n t) = inside_bit f n t (slice_get parts.flights f) refl
+
+  -- the values of the variables at the plan are as the box leaves them
+  plan_is : IsChoice parts.flights box value
+  plan_is = record {
+    bits = bits;
+    agree = agrees parts plan scenario feasible.trips box made inside;
+  }
+
+  excess_down : (rows : List Multiplier) → AreKnown parts rows → excesses parts rows value ≤ℤ pos 0
+  excess_down [] known = omega (arith, ints)
+  excess_down (m ∷ rows) known =
+      let kept = row_kept parts plan scenario feasible m.row (known 0 m refl) in
+      let here = times-down m.value (excess value (row_of parts m.row)) (omega (
+        arith,
+        ints,
+        kept,
+      )) in
+      let rest = excess_down rows (λ k other is. known (suc k) other is) in
+      omega (arith, ints, here, rest)
+
+  dual_le : (weight : ℕ) (rows : List Multiplier) → AreKnown parts rows
+      → dual_at parts weight rows value
+      ≤ℤ (pos weight *ℤ plan_cost parts.tables parts.flights plan)
+  dual_le weight rows known =
+      let cost = ap (λ n. pos weight *ℤ n) (plan_priced parts plan scenario feasible.trips) in
+      let down = excess_down rows known in
+      omega (arith, ints, cost, down)
+
+pub dual_sound : (parts : Parts) (box : Box) (weight : ℕ) (rows : List Multiplier) (bound : Bound)
+    → IsScenario parts → IsBoxOf parts box → IsDualBound parts box weight rows (Ok bound)
+    → IsBoundOn parts box bound
+dual_sound parts box weight rows NoPlan scenario made is = λ plan feasible inside.
+    let le = is.least.below (value_at parts.flights plan)
+    (plan_is parts scenario box made plan feasible inside) in
+    let cost = dual_le parts scenario box made plan feasible inside weight rows is.known in
+    let zero_of = ap (λ w. pos w *ℤ plan_cost parts.tables parts.flights plan) is.said.0
+    ∙ zero-*ℤ (plan_cost parts.tables parts.flights plan) in
+    absurd (omega (arith, ints, le, cost, zero_of, is.said.1))
+dual_sound parts box weight rows (AtLeast least) scenario made is = λ plan feasible inside.
+    let le = is.least.below (value_at parts.flights plan)
+    (plan_is parts scenario box made plan feasible inside) in
+    let cost = dual_le parts scenario box made plan feasible inside weight rows is.known in
+    let turned = *ℤ_comm (pos weight) (plan_cost parts.tables parts.flights plan) in
+    is.said.1.below (plan_cost parts.tables parts.flights plan)
+    (omega (arith, ints, le, cost, turned))
+
+pub if_sound : (parts : Parts) (box : Box) (weight : ℕ) (rows : List Multiplier)
+    (answer : Result Bound LeafFault) → IsScenario parts → IsBoxOf parts box → IsLive box
+    → AreKnown parts rows → (value : ℤ) → IsDualValue parts box weight rows value
+    → IsSaid weight value answer → IfOk answer (IsBoundOn parts box)
+if_sound parts box weight rows (Ok bound) scenario made live known value least said =
+    dual_sound parts box weight rows bound scenario made
+    (record { live = live; known = known; value = value; least = least; said = said })
+if_sound parts box weight rows (Err fault) scenario made live known value least said = tt

@@ -1,0 +1,10 @@
+use Rattle.std.proofs.Common.{◌+◌, ◌*◌, ◌^◌}
+use Rattle.dual_leaf.specs.Landing.{Grows, choice_in}
+use Rattle.dual_leaf.proofs.CostGrowFacts.{part_cost}
+use Rattle.dual_leaf.proofs.costs.add_cost.Given as goal
+
+abbrev pub invariant-loop-flight : goal.invariant-loop-flight
+invariant-loop-flight l =
+    Grows (choice_in l.fn.s.parts l.fn.columns l.fn.boxes)
+    (part_cost l.fn.s.parts l.fn.weight l.flight)
+    (2 ^ 122 + l.flight * 2 ^ 111) l.fn.sums l.sums

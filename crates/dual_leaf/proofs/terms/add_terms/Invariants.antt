@@ -1,0 +1,10 @@
+use Rattle.std.proofs.Common.{◌*◌, ◌^◌, ◌*ℤ◌, pos, take}
+use Rattle.bytime_model.specs.Values.{form_value}
+use Rattle.dual_leaf.specs.Landing.{Grows, choice_in}
+use Rattle.dual_leaf.proofs.terms.add_terms.Given as goal
+
+abbrev pub invariant-loop-term : goal.invariant-loop-term
+invariant-loop-term l =
+    Grows (choice_in l.fn.s.parts l.fn.columns l.fn.boxes)
+    (λ value. pos l.fn.count *ℤ form_value value (take l.term-index l.fn.terms))
+    (l.term-index * 2 ^ 62) l.fn.sums l.sums

@@ -1,0 +1,21 @@
+use Rattle.std.proofs.Common.{subst}
+use Rattle.flow_types.specs.Scenario.{parts_of}
+use Rattle.time_windows.specs.Held.{box_of}
+use Rattle.dual_leaf.specs.Leaf.{IsSaid}
+use Rattle.dual_leaf.proofs.NumberFacts.{ready_box}
+use Rattle.dual_leaf.proofs.SoundFacts.{if_sound}
+use Rattle.dual_leaf.proofs.SumsFacts.{whole_near}
+use Rattle.dual_leaf.proofs.work.dual_bound.Goals as goal
+
+pub dual_value-requires-clause-ready : goal.dual_value-requires-clause-ready
+dual_value-requires-clause-ready c =
+    ready_box (parts_of c.args.s.now) c.args.columns.now c.args.boxes.now c.requires.columns
+    c.requires.boxes c.requires.tight
+
+pub returns-in-Ok-clause-sound : goal.returns-in-Ok-clause-sound
+returns-in-Ok-clause-sound c =
+    if_sound (parts_of c.args.s.now) (box_of c.args.boxes.now) c.args.weight c.args.rows.now
+    c.said.result c.args.s.now.valid c.requires.boxes.inside c.in_default.ensures
+    c.in-Ok.ensures.value.0 c.in-Ok.value c.in-Ok.ensures.value.1
+    (subst (λ z. IsSaid c.args.weight z c.said.result)
+    (whole_near c.in-Ok.value c.in-Ok.ensures.near) c.said.ensures)

@@ -1,0 +1,70 @@
+-- Where a variable counts in the sums of a leaf, and how sums grow by a form: something over the
+-- values of variables.
+use Rattle.std.specs.Prelude.{◌≡◌, ℕ, ◌+◌, ◌<◌, ◌≤◌, List, ◌++◌, length, Option, ℤ, ◌+ℤ◌}
+use Rattle.flow_types.specs.declared.flight.Flight.{Flight}
+use Rattle.flow_types.specs.declared.parts.Parts.{Parts}
+use Rattle.time_windows.specs.Boxes.{Box}
+use Rattle.time_windows.specs.Held.{Held, IsMadeFor, box_of}
+use Rattle.bytime_model.specs.declared.left.Left.{Left}
+use Rattle.bytime_model.specs.declared.left.Left.TheVariants.{Free, One, Same, Zero}
+use Rattle.bytime_model.specs.declared.variables.Var.{Var}
+use Rattle.bytime_model.specs.declared.variables.Term.{Term}
+use Rattle.bytime_model.specs.CostRow.{late_step_at, late_variable, most_late_at, most_wait_at, steps, wait_step_at, wait_variable}
+use Rattle.bytime_model.specs.Left.{left_of}
+use Rattle.dual_leaf.specs.declared.columns.Column.{Column}
+use Rattle.dual_leaf.specs.declared.landing.Landing.{Landing}
+use Rattle.dual_leaf.specs.declared.landing.Landing.TheVariants.{At, Nowhere, Surely}
+use Rattle.dual_leaf.specs.Columns.{IsNumbered, IsWhole, Numbering, position_of}
+use Rattle.dual_leaf.specs.Sums.{Summed, mass, sum_at}
+
+-- by what the box leaves of the variable
+abbrev pub landing_by : List Column → Var → Left → Landing
+landing_by columns variable Zero = Nowhere
+landing_by columns variable One = Surely
+landing_by columns variable (Same other) = At (position_of columns other)
+landing_by columns variable Free = At (position_of columns variable)
+
+abbrev pub landing_of : List Column → List Flight → Box → Var → Landing
+landing_of columns flights box variable =
+    landing_by columns variable (left_of flights box variable)
+
+-- what is 0, 1, or what is said of the position
+abbrev pub landed : (ℕ → ℕ) → Landing → ℕ
+landed bit Nowhere = 0
+landed bit Surely = 1
+landed bit (At position) = bit position
+
+-- the values of variables, where the free ones have what is said of their positions
+abbrev pub choice : List Column → List Flight → Box → (ℕ → ℕ) → Var → ℕ
+choice columns flights box bit variable = landed bit (landing_of columns flights box variable)
+
+abbrev pub IsLandingWithin : ℕ → Landing → Type 0
+IsLandingWithin count Nowhere = Unit {0}
+IsLandingWithin count Surely = Unit {0}
+IsLandingWithin count (At position) = position < count
+
+-- The sums grow by a form: so they do whatever is said of the positions. Their numbers grow by no
+-- more than a size.
+pub record Grows (at : (ℕ → ℕ) → Var → ℕ) (form : (Var → ℕ) → ℤ) (size : ℕ) (old new : Summed)
+    : Type 0 where
+  pub sum : (bit : ℕ → ℕ) → sum_at bit new ≡ sum_at bit old +ℤ form (at bit)
+  pub mass : mass new ≤ mass old + size
+  pub same : length new.factors ≡ length old.factors
+
+-- of this scenario, with the columns that its tight boxes have
+pub record IsReady (parts : Parts) (numbering : Numbering) (held : Held) : Type 0 where
+  pub made : IsMadeFor parts held
+  pub numbered : IsNumbered parts numbering (box_of held)
+  pub whole : IsWhole parts.flights (box_of held)
+
+-- the values of variables in the box, by what is said of the positions
+abbrev pub choice_in : Parts → Numbering → Held → (ℕ → ℕ) → Var → ℕ
+choice_in parts numbering held = choice numbering.columns parts.flights (box_of held)
+
+-- the terms of the cost row for a flight that may not be there
+abbrev pub terms_at : Parts → ℕ → Option Flight → List Term
+terms_at parts number found =
+    steps (late_step_at parts.tables found) (late_variable number found)
+    (most_late_at parts.day.periods found)
+    ++ steps (wait_step_at parts.tables found) (wait_variable number found)
+    (most_wait_at parts.day.periods found)

@@ -1,0 +1,10 @@
+pub mod Columns
+pub mod Dual
+pub mod Landing
+pub mod Leaf
+pub mod Options
+pub mod Rows
+pub mod Slots
+pub mod Sums
+pub mod UnitSums
+pub mod Work

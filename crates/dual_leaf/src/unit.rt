@@ -1,0 +1,114 @@
+//! What the one plan costs that may be in a box where each node has one option.
+ghost use Rattle.std.specs.Prelude.{◌≡◌, ◌+◌, ◌<◌, ◌^◌, IfSome, List, length};
+ghost use Rattle.flow_types.specs.declared.plan.Stop.{Stop};
+ghost use Rattle.flow_types.specs.Scenario.{parts_of};
+ghost use Rattle.flight_routes.specs.Work.{IsWorkFor};
+ghost use Rattle.plan_rules.specs.Loads.{AreLoads, IsMadeFor as AreLoadsFor};
+ghost use Rattle.time_windows.specs.Held.{IsMadeFor, box_of};
+ghost use Rattle.greedy_plan.specs.FirstBound.{IsNear, plus};
+ghost use Rattle.greedy_plan.specs.Greedy.{with_rest};
+ghost use Rattle.dual_leaf.specs.Leaf.{IsBoundOn, IsCostIn, IsUnitBox};
+ghost use Rattle.dual_leaf.specs.UnitSums.{IsNext, IsSoFar, bound_of};
+
+use flight_routes::Work;
+use flow_types::{Bound, Scenario};
+use plan_rules::Loads;
+use time_windows::Boxes;
+
+/// What the plan in the box costs that keeps every rule, or that there is none. Each node of the
+/// box has one option, so no flight has two trips in it: each takes the one that fits beside those
+/// before it. The box, the work and the loads, which are cleared first, are of the scenario. It
+/// takes no memory, and time as a least trip for each flight.
+pub fn unit_cost(work: &mut Work, loads: &mut Loads, s: &Scenario, boxes: &Boxes) -> Bound
+    requires boxes { IsMadeFor (parts_of s.now) boxes.now }
+    requires unit { IsUnitBox (box_of boxes.now) }
+    requires work { IsWorkFor (parts_of s.now) work.old }
+    requires loads { AreLoadsFor (parts_of s.now) loads.old }
+    ensures cost { IsCostIn (parts_of s.now) (box_of boxes.now) result }
+    ensures sound { IsBoundOn (parts_of s.now) (box_of boxes.now) result }
+    ensures work { IsWorkFor (parts_of s.now) work.new }
+    ensures loads { AreLoadsFor (parts_of s.now) loads.new }
+{
+    loads.clear();
+    let mut sum = Some(0);
+    for number in 0..s.flights().len() {
+        sum = with_next(work, loads, s, boxes, number as u32, sum);
+    }
+    bound_of(sum)
+}
+
+// The bound that the sum says.
+fn bound_of(sum: Option<i128>) -> Bound
+    ensures { result ≡ bound_of sum }
+{
+    match sum {
+        None => Bound::NoPlan,
+        Some(cost) => Bound::AtLeast(cost),
+    }
+}
+
+// The sum of the costs with that of the next flight's trip.
+fn with_next(
+    work: &mut Work,
+    loads: &mut Loads,
+    s: &Scenario,
+    boxes: &Boxes,
+    flight: u32,
+    sum: Option<i128>,
+) -> Option<i128>
+    requires boxes { IsMadeFor (parts_of s.now) boxes.now }
+    requires unit { IsUnitBox (box_of boxes.now) }
+    requires work { IsWorkFor (parts_of s.now) work.old }
+    requires loads { AreLoadsFor (parts_of s.now) loads.old }
+    requires flight { flight < length (parts_of s.now).flights }
+    requires before { IsSoFar (parts_of s.now) (box_of boxes.now) flight loads.old sum }
+    ensures so_far { IsSoFar (parts_of s.now) (box_of boxes.now) (flight + 1) loads.new result }
+    ensures work { IsWorkFor (parts_of s.now) work.new }
+    ensures loads { AreLoadsFor (parts_of s.now) loads.new }
+{
+    if sum.is_none() {
+        return None;
+    }
+    let cost = add_next(work, loads, s, boxes, flight);
+    plus(sum, cost)
+}
+
+// Counts the trip of the next flight that fits beside those before it, and tells what it costs.
+fn add_next(
+    work: &mut Work,
+    loads: &mut Loads,
+    s: &Scenario,
+    boxes: &Boxes,
+    flight: u32,
+) -> Option<i128>
+    requires boxes { IsMadeFor (parts_of s.now) boxes.now }
+    requires work { IsWorkFor (parts_of s.now) work.old }
+    requires loads { AreLoadsFor (parts_of s.now) loads.old }
+    requires flight { flight < length (parts_of s.now).flights }
+    ensures next { (trips : List (List Stop)) → length trips ≡ flight
+        → AreLoads (parts_of s.now) (with_rest (parts_of s.now).flights trips) loads.old
+        → IsNext (parts_of s.now) (box_of boxes.now) trips flight loads.new result }
+    ensures work { IsWorkFor (parts_of s.now) work.new }
+    ensures loads { AreLoadsFor (parts_of s.now) loads.new }
+{
+    let cost = work.least_fit(s, boxes, flight, loads);
+    if cost.is_some() {
+        loads.add(s, flight, work.trip());
+    }
+    cost
+}
+
+// The sum of both, where both are there.
+fn plus(sum: Option<i128>, cost: Option<i128>) -> Option<i128>
+    requires sum { IfSome sum (IsNear (2 ^ 100)) }
+    requires cost { IfSome cost (IsNear (2 ^ 100)) }
+    ensures { result ≡ plus sum cost }
+{
+    match sum {
+        None => None,
+        Some(sum) => match cost {
+            None => None,
+            Some(cost) => Some(sum + cost),
+        },
+    }
+}

@@ -1,0 +1,155 @@
+//! The bounds of leaves.
+ghost use Rattle.std.specs.Prelude.{◌≡◌, IfOk, length};
+ghost use Rattle.flow_types.specs.Scenario.{parts_of};
+ghost use Rattle.time_windows.specs.Held.{IsMadeFor, box_of};
+ghost use Rattle.time_windows.specs.Tight.{IsTight};
+ghost use Rattle.bytime_model.specs.Visits.{AreVisitsOf};
+ghost use Rattle.branch_tree.specs.Leaves.{HasRange};
+ghost use Rattle.dual_leaf.specs.Columns.{AreColumnsOf};
+ghost use Rattle.dual_leaf.specs.Leaf.{IsBoundOn, IsDualAnswer};
+
+use crate::bound::said;
+use crate::columns::Columns;
+use crate::dual::dual_value;
+use crate::fault::LeafFault;
+use crate::options::first_closed;
+use crate::plain::{empty_bound, unit_bound};
+use crate::sums::Sums;
+use branch_tree::{Leaf, Multiplier};
+use bytime_model::{RowBuffer, Visits};
+use flight_routes::Work;
+use flow_types::{Bound, OutOfMemory, Scenario};
+use plan_rules::Loads;
+use std::alloc::Global;
+use std::marker::Model;
+use time_windows::Boxes;
+use valid_cuts::Pool;
+
+/// The room in which leaves get their bounds, made once for a scenario.
+#[derive(Debug, Drop)]
+pub struct LeafWork {
+    columns: Columns,
+    sums: Sums,
+    buffer: RowBuffer,
+    visits: Visits,
+    // For the plan of a unit box.
+    work: Work,
+    loads: Loads,
+}
+
+impl Model for LeafWork {
+    ghost use Rattle.dual_leaf.specs.Work.{Room};
+
+    ghost Value = { Room };
+
+    ghost view = { λ a. record {
+      columns = a.columns;
+      sums = a.sums;
+      visits = a.visits;
+      work = a.work;
+      loads = a.loads;
+    } };
+}
+
+impl LeafWork {
+    ghost use Rattle.std.specs.Prelude.{IfOk};
+    ghost use Rattle.flow_types.specs.Scenario.{parts_of};
+    ghost use Rattle.time_windows.specs.Held.{IsMadeFor, box_of};
+    ghost use Rattle.time_windows.specs.Tight.{IsTight};
+    ghost use Rattle.branch_tree.specs.Leaves.{IsInRange};
+    ghost use Rattle.dual_leaf.specs.Leaf.{IsBoundOn, IsLeafBound};
+    ghost use Rattle.dual_leaf.specs.Work.{IsRoomFor};
+
+    /// Room for the leaves of the scenario: 20 bytes for each variable that the tight root box
+    /// leaves free, 24 for each of 32 nodes a flight, the visits to its places, loads, and 1.1 MB.
+    /// While it runs it takes the memory of a root box.
+    pub fn new(alloc: Global, s: &Scenario) -> Result<LeafWork, OutOfMemory>
+        ensures { IfOk result (IsRoomFor (parts_of s.now)) }
+    {
+        let columns = Columns::new(alloc, s)?;
+        let sums = Sums::new(alloc, columns.count())?;
+        Ok(LeafWork {
+            columns,
+            sums,
+            buffer: RowBuffer::new(alloc)?,
+            visits: Visits::new(alloc, s)?,
+            work: Work::new(alloc, s)?,
+            loads: Loads::new(alloc, s)?,
+        })
+    }
+
+    /// The bound of the leaf on the box: no plan in the box that keeps every rule costs less, and
+    /// with `NoPlan` there is none. The box is a tight one of the scenario that the room was made
+    /// for; the leaf's weight and multipliers are below 2^62, and it has fewer than 2^32 of these.
+    ///
+    /// An Empty leaf has `NoPlan`, and a Unit leaf what the one plan costs that may be in the box,
+    /// or `NoPlan` where that breaks a rule. A Dual leaf has its value divided by its weight and
+    /// rounded up: the value is the least, over all values 0 or 1 that the box leaves the
+    /// variables, of the weight times the cost plus each multiplier times what its row is above its
+    /// limit (the Lagrangian dual). With the weight 0 a value above 0 gives `NoPlan`.
+    ///
+    /// The fault is the first of those that `LeafFault` lists. No cut has a row yet, whatever the
+    /// pool. It takes no memory, and time for each node; for a Dual leaf also for each period by
+    /// which a flight may be late or wait, and for the rows that the leaf names; for a Unit leaf as
+    /// a least trip for each flight.
+    pub fn leaf_bound(
+        &mut self,
+        s: &Scenario,
+        boxes: &Boxes,
+        leaf: &Leaf,
+        _pool: &Pool,
+    ) -> Result<Bound, LeafFault>
+        requires made { IsRoomFor (parts_of s.now) self.old }
+        requires boxes { IsMadeFor (parts_of s.now) boxes.now }
+        requires tight { IsTight (parts_of s.now) (box_of boxes.now) }
+        requires range { IsInRange leaf.now }
+        ensures bound { IsLeafBound (parts_of s.now) (box_of boxes.now) leaf.now result }
+        ensures sound { IfOk result (IsBoundOn (parts_of s.now) (box_of boxes.now)) }
+        ensures made { IsRoomFor (parts_of s.now) self.new }
+    {
+        match leaf {
+            Leaf::Empty => empty_bound(s, boxes),
+            Leaf::Unit => unit_bound(&mut self.work, &mut self.loads, s, boxes),
+            Leaf::Dual { weight, rows } => dual_bound(
+                &mut self.sums,
+                &mut self.buffer,
+                &self.columns,
+                &self.visits,
+                s,
+                boxes,
+                *weight,
+                rows.items(),
+            ),
+        }
+    }
+}
+
+// That of a Dual leaf.
+fn dual_bound(
+    sums: &mut Sums,
+    buffer: &mut RowBuffer,
+    columns: &Columns,
+    visits: &Visits,
+    s: &Scenario,
+    boxes: &Boxes,
+    weight: u64,
+    rows: &[Multiplier],
+) -> Result<Bound, LeafFault>
+    requires columns { AreColumnsOf (parts_of s.now) columns.now }
+    requires positions { length sums.old.factors ≡ columns.now.count }
+    requires visits { AreVisitsOf (parts_of s.now) visits.now }
+    requires boxes { IsMadeFor (parts_of s.now) boxes.now }
+    requires tight { IsTight (parts_of s.now) (box_of boxes.now) }
+    requires range { HasRange weight rows.now }
+    ensures bound { IsDualAnswer (parts_of s.now) (box_of boxes.now) weight rows.now result }
+    ensures sound { IfOk result (IsBoundOn (parts_of s.now) (box_of boxes.now)) }
+    ensures positions { length sums.new.factors ≡ columns.now.count }
+{
+    if let Some(closed) = first_closed(s, boxes) {
+        return Err(LeafFault::Closed(closed.flight, closed.node));
+    }
+    match dual_value(sums, buffer, columns, visits, s, boxes, weight, rows) {
+        Err(position) => Err(LeafFault::UnknownRow(position)),
+        Ok(value) => said(value, weight),
+    }
+}
