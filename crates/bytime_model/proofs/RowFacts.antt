@@ -1,15 +1,13 @@
 -- What is told of a row's name, and the row that is held.
-use Rattle.std.proofs.Common.{◌≡◌, ℕ, ◌-◌, true, List, [], ◌∷◌, Some, slice_get, length, ℤ, pos, sym, ◌∙◌, ap, ap₂, subst}
+use Rattle.std.proofs.Common.{◌≡◌, ℕ, ◌-◌, true, List, Some, slice_get, length, ℤ, pos, sym, ◌∙◌, ap, ap₂, subst}
 use Rattle.flow_types.specs.declared.flight.Connection.{Connection}
 use Rattle.flow_types.specs.declared.flight.Flight.{Flight}
 use Rattle.flow_types.specs.declared.parts.Parts.{Parts}
 use Rattle.bytime_model.specs.declared.names.RowName.{RowName}
 use Rattle.bytime_model.specs.declared.names.RowName.TheVariants.{Connect, Enter, Occupy}
 use Rattle.bytime_model.specs.declared.variables.Term.{Term}
-use Rattle.bytime_model.specs.declared.variables.Var.TheVariants.{By}
 use Rattle.bytime_model.specs.Filling.{Adds, Fills}
-use Rattle.bytime_model.specs.Rows.{AtMost, by_before, connect_terms, enter_terms, is_row, last_node, minus_one, occupy_terms, of_connection, of_flight, one, row_of, term_of}
-use Rattle.bytime_model.proofs.FillFacts.{adds_then}
+use Rattle.bytime_model.specs.Rows.{AtMost, connect_terms, enter_terms, is_row, last_node, occupy_terms, of_connection, of_flight, row_of, turn_terms}
 
 same_row : (held : AtMost) (terms : List Term) (limit : ℤ) → held.terms ≡ terms
     → held.limit ≡ limit → held ≡ record { terms = terms; limit = limit }
@@ -55,16 +53,10 @@ connect_fills parts c t connection held is row terms limit =
 
 -- the last node is that of the flight which is there
 pub connect_adds : (flights : List Flight) (connection : Connection) (time : ℕ) (flight : Flight)
-    (last : ℕ) (start old new : AtMost) → slice_get flights connection.first ≡ Some flight
-    → last ≡ length flight.nodes - 1
-    → Adds (term_of one (By connection.second 0 time) ∷ []) start old
-    → Adds (by_before minus_one connection.first last time connection.turnaround) old new
-    → Adds (connect_terms flights connection time) start new
-connect_adds flights connection time flight last start old new is end first second =
+    (last : ℕ) (old new : AtMost) → slice_get flights connection.first ≡ Some flight
+    → last ≡ length flight.nodes - 1 → Adds (turn_terms connection last time) old new
+    → Adds (connect_terms flights connection time) old new
+connect_adds flights connection time flight last old new is end adds =
     let node : last ≡ last_node (slice_get flights connection.first) =
     end ∙ ap last_node (sym is) in
-    subst (λ n. Adds (term_of one (By connection.second 0 time)
-    ∷ by_before minus_one connection.first n time connection.turnaround) start new) node
-    (adds_then (term_of one (By connection.second 0 time) ∷ [])
-    (by_before minus_one connection.first last time connection.turnaround) start old new first
-    second)
+    subst (λ n. Adds (turn_terms connection n time) old new) node adds

@@ -139,12 +139,15 @@ abbrev pub leave_terms : ℕ → Flight → ℕ → ℕ → List Term
 leave_terms number flight node time =
     term_of one (By number node time) ∷ on_terms number flight node time
 
--- the second flight has departed, and the first hadn't arrived in time for it
+-- the second flight has departed, and the first hadn't entered its last node in time for it
+abbrev pub turn_terms : Connection → ℕ → ℕ → List Term
+turn_terms connection last time =
+    term_of one (By connection.second 0 time)
+    ∷ by_before minus_one connection.first last time connection.turnaround
+
 abbrev pub connect_terms : List Flight → Connection → ℕ → List Term
 connect_terms flights connection time =
-    term_of one (By connection.second 0 time)
-    ∷ by_before minus_one connection.first (last_node (slice_get flights connection.first)) time
-    connection.turnaround
+    turn_terms connection (last_node (slice_get flights connection.first)) time
 
 -- what a flight or a connection that is there puts into a row
 abbrev pub of_flight : (Flight → List Term) → Option Flight → List Term

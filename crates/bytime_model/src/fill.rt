@@ -3,7 +3,7 @@ ghost use Rattle.std.specs.Prelude.{◌≡◌, ◌+◌, ◌-◌, ◌*◌, ◌≤
 ghost use Rattle.flow_types.specs.Limits.{most_legs, most_nodes};
 ghost use Rattle.flow_types.specs.Scenario.{flight_at, parts_of};
 ghost use Rattle.bytime_model.specs.Filling.{Adds};
-ghost use Rattle.bytime_model.specs.Rows.{back_term, back_terms, by_before, capacity_terms, enters_in, is_capacity, is_node, minus_one, connect_terms, enter_terms, leave_terms, most_terms, node_from, occupy_terms, on_term, on_terms, stay_terms, stay_terms_at, use_terms};
+ghost use Rattle.bytime_model.specs.Rows.{back_term, back_terms, by_before, capacity_terms, enters_in, is_capacity, is_node, minus_one, connect_terms, enter_terms, leave_terms, turn_terms, most_terms, node_from, occupy_terms, on_term, on_terms, stay_terms, stay_terms_at, use_terms};
 ghost use Rattle.bytime_model.specs.Values.{has_inside, is_plain};
 
 use crate::buffer::RowBuffer;
@@ -246,18 +246,16 @@ pub fn put_leave(buffer: &mut RowBuffer, number: u32, flight: &Flight, node: u16
     put_all_on(buffer, number, flight, node, time);
 }
 
-/// The second flight has departed, and the first hadn't arrived in time for it.
-pub fn put_connect(buffer: &mut RowBuffer, s: &Scenario, connection: Connection, time: u16)
-    requires room { length buffer.old.terms ≡ 0 }
-    requires first { connection.first < length (parts_of s.now).flights }
-    ensures { Adds (connect_terms (parts_of s.now).flights connection time) buffer.old buffer.new }
+// The second flight has departed, and the first hadn't entered this node in time for it.
+fn put_turn(buffer: &mut RowBuffer, connection: Connection, last: u16, time: u16)
+    requires { length buffer.old.terms ≡ 0 }
+    ensures { Adds (turn_terms connection last time) buffer.old buffer.new }
 {
     let Connection {
         first,
         second,
         turnaround,
     } = connection;
-    let last = last_node(&s.flights()[first as usize]);
     buffer.put(
         Var::By {
             flight: second,
@@ -267,4 +265,14 @@ pub fn put_connect(buffer: &mut RowBuffer, s: &Scenario, connection: Connection,
         1,
     );
     put_before(buffer, first, last, time, turnaround);
+}
+
+/// The second flight has departed, and the first hadn't arrived in time for it.
+pub fn put_connect(buffer: &mut RowBuffer, s: &Scenario, connection: Connection, time: u16)
+    requires room { length buffer.old.terms ≡ 0 }
+    requires first { connection.first < length (parts_of s.now).flights }
+    ensures { Adds (connect_terms (parts_of s.now).flights connection time) buffer.old buffer.new }
+{
+    let last = last_node(&s.flights()[connection.first as usize]);
+    put_turn(buffer, connection, last, time);
 }
