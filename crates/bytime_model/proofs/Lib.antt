@@ -8,6 +8,7 @@ pub mod LinkFacts
 pub mod ListingFacts
 pub mod NameLists
 pub mod NodeFacts
+pub mod OnceFacts
 pub mod OrderFacts
 pub mod RowFacts
 pub mod SmallFacts

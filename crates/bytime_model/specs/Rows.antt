@@ -1,5 +1,5 @@
 -- The rows of the by-time program, by their names.
-use Rattle.std.specs.Prelude.{ℕ, ◌+◌, ◌-◌, ◌==◌, Bool, false, ◌&&◌, nat_le, nat_lt, List, [], ◌∷◌, ◌++◌, length, Option, Some, None, slice_get, ℤ, pos, neg_ℤ, ◌≤ℤ◌, if◌then◌else◌}
+use Rattle.std.specs.Prelude.{◌≢◌, ℕ, ◌+◌, ◌-◌, ◌==◌, Bool, false, ◌&&◌, nat_le, nat_lt, List, [], ◌∷◌, ◌++◌, length, All, AllPairs, Option, Some, None, slice_get, ℤ, pos, neg_ℤ, ◌≤ℤ◌, if◌then◌else◌}
 use Rattle.std.specs.List.{flat_map}
 use Rattle.flow_types.specs.declared.flight.Connection.{Connection}
 use Rattle.flow_types.specs.declared.flight.Flight.{Flight}
@@ -190,6 +190,14 @@ row_limit parts (Enter f n t) = 0
 row_limit parts (Leave f n) = 0
 row_limit parts (Connect c t) = 0
 row_limit parts (Cut i) = 0
+
+-- like terms are collected: no two are of one variable, and no factor is 0
+abbrev pub AreOther : Term → Term → Type 0
+AreOther a b = a.variable ≢ b.variable
+
+pub record AreCollected (terms : List Term) : Type 0 where
+  pub once : AllPairs AreOther terms
+  pub no_zero : All (λ term. term.factor ≢ pos 0) terms
 
 -- how many terms a row may have
 abbrev pub most_terms : ℕ

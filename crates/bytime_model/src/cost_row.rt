@@ -7,7 +7,7 @@ ghost use Rattle.flow_types.specs.Scenario.{flight_at, parts_of};
 ghost use Rattle.bytime_model.specs.CostRow.{cost_row, flight_constant, flight_terms, late_step_at, late_terms, late_variable, most_late_at, most_wait_at, priced_value, unless_zero, wait_step_at, wait_terms, wait_variable};
 ghost use Rattle.bytime_model.specs.Filling.{IsNearZero, IsWithin};
 ghost use Rattle.bytime_model.specs.declared.variables.Var.TheVariants.{By};
-ghost use Rattle.bytime_model.specs.Rows.{term_of};
+ghost use Rattle.bytime_model.specs.Rows.{AreCollected, term_of};
 ghost use Rattle.bytime_model.specs.Values.{value_at};
 
 use crate::variables::{Term, Terms, Var};
@@ -30,10 +30,12 @@ impl Model for CostRow {
     ghost view = { λ r. record { constant = r.constant; terms = r.terms } };
 }
 
-/// The cost row. Its value at a plan, with one trip for each flight, is the plan's cost. It takes
-/// memory and time for each period that a flight may be late or wait.
+/// The cost row. Its value at a plan, with one trip for each flight, is the plan's cost. No two of
+/// its terms are of one variable, and no factor is 0. It takes memory and time for each period that
+/// a flight may be late or wait.
 pub fn linear_cost(alloc: Global, s: &Scenario) -> Result<CostRow, OutOfMemory>
     ensures row { IfOk result (λ row. row ≡ cost_row (parts_of s.now)) }
+    ensures collected { IfOk result (λ row. AreCollected row.terms) }
     ensures cost { IfOk result (λ row. (plan : List (List Stop))
         → AreTrips (parts_of s.now).day.periods (parts_of s.now).flights plan
         → priced_value (value_at (parts_of s.now).flights plan) row

@@ -35,7 +35,8 @@
 //!
 //! Proved: `fill` and `fill_with` tell whether there is a row of that name (`told`) and hold
 //! exactly it (`row`), which no plan that keeps every rule breaks (`valid`), or no terms (`none`);
-//! `row_of` gives the same row in a list of its own (`some`, `row`). `rows_of` gives the names of
+//! `row_of` gives the same row in a list of its own (`some`, `row`). Like terms are collected
+//! (`collected`): no two are of one variable, and no factor is 0. `rows_of` gives the names of
 //! all rows (`names`): a name is among them exactly where there is such a row (`each`), and each
 //! comes before all later ones (`order`), as `is_before` tells, so that no name comes twice
 //! (`rows_are_in_one_order`). `Visits::at` gives the flights that have a node at the place, in

@@ -1,7 +1,7 @@
 //! A row in a list of its own.
 ghost use Rattle.std.specs.Prelude.{◌≡◌, IfOk, IfSome, IsSome, ◌↔◌, true};
 ghost use Rattle.flow_types.specs.Scenario.{parts_of};
-ghost use Rattle.bytime_model.specs.Rows.{IsValid, is_row, row_of};
+ghost use Rattle.bytime_model.specs.Rows.{AreCollected, IsValid, is_row, row_of};
 
 use crate::buffer::RowBuffer;
 use crate::names::RowName;
@@ -31,6 +31,7 @@ pub fn row_of(alloc: Global, s: &Scenario, name: RowName) -> Result<Option<Row>,
     ensures some { IfOk result (λ row. IsSome row ↔ is_row (parts_of s.now) name ≡ true) }
     ensures row { IfOk result (λ row. IfSome row (λ row. row ≡ row_of (parts_of s.now) name)) }
     ensures valid { IfOk result (λ row. IfSome row (IsValid (parts_of s.now))) }
+    ensures collected { IfOk result (λ row. IfSome row (λ row. AreCollected row.terms)) }
 {
     let mut buffer = RowBuffer::new(alloc)?;
     if !buffer.fill(s, name) {
