@@ -1,0 +1,10 @@
+use Rattle.std.proofs.Common.{w64}
+use Rattle.std.proofs.lemmas.Nat.Bits.{bit_at_clear_other, bit_at_clear_same}
+use Rattle.number_set.proofs.bits.without_bit.Goals as goal
+
+pub returns-clause-here : goal.returns-clause-here
+returns-clause-here c = bit_at_clear_same w64 c.args.word c.args.bit c.requires
+
+pub returns-clause-others : goal.returns-clause-others
+returns-clause-others c = λ i below apart.
+    bit_at_clear_other w64 c.args.word c.args.bit c.requires i below apart

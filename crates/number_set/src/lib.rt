@@ -1,0 +1,23 @@
+//! Sets of numbers below a bound, whose least number is found at once.
+//!
+//!     let mut waiting = NumberSet::new(alloc, 1000)?;
+//!     waiting.insert(7);
+//!     waiting.insert(3);
+//!     waiting.remove(7);
+//!     assert!(waiting.first() == Some(3));
+//!
+//! A set has a bit for each number, 64 to a word, and a bit for each word that has one.
+//!
+//! Proved: a set that is made has no numbers (`none`); `insert` and `remove` change whether the
+//! number is in the set and nothing else; `contains` tells it; `first` gives the least number of the
+//! set, or that there is none.
+//!
+//! Memory: a bit for each number below the bound, and a sixty-fourth of that. Only `new` takes any.
+//! Time: `insert`, `remove` and `contains` take the same for any set, and `first` goes over a word
+//! for each 4,096 numbers below the least.
+#![tactic(auto)]
+
+mod bits;
+mod set;
+
+pub use set::NumberSet;
