@@ -1,0 +1,14 @@
+pub mod AboveFacts
+pub mod ArenaFacts
+pub mod ClearedFacts
+pub mod DifferenceFacts
+pub mod DifferenceRows
+pub mod DivideFacts
+pub mod DividedFacts
+pub mod DivisorFacts
+pub mod MergeFacts
+pub mod PlaceFacts
+pub mod ProductFacts
+pub mod ReduceFacts
+pub mod RowFacts
+pub mod WorkedRows

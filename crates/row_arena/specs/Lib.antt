@@ -1,0 +1,4 @@
+pub mod Arena
+pub mod Combining
+pub mod Products
+pub mod Rows
