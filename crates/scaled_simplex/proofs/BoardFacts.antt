@@ -1,0 +1,127 @@
+-- Boards, row by row.
+use Rattle.std.proofs.Common.{◌≡◌, ◌≢◌, ℕ, ◌<◌, List, All, length, set, slice_index, Ok, pos, ◌<ℤ◌, int_lt, refl, sym, ap, ◌∙◌, subst, arith}
+use Rattle.std.proofs.lemmas.List.{length-set}
+use Rattle.number_set.specs.Numbers.{IsChanged}
+use Rattle.row_arena.specs.declared.entry.Entry.{Entry}
+use Rattle.row_arena.specs.Arena.{AreFilled, Rows, combined, row_at}
+use Rattle.row_arena.specs.Combining.{cleared}
+use Rattle.row_arena.specs.Rows.{entry_at}
+use Rattle.scaled_simplex.specs.declared.basis.Basis.{Basis}
+use Rattle.scaled_simplex.specs.declared.board.Board.{Board}
+use Rattle.scaled_simplex.specs.Board.{AreAdded, AreFound}
+use Rattle.scaled_simplex.specs.BoardOf.{CanSweep, IsBoard, KeepsBoard}
+use Rattle.scaled_simplex.specs.Program.{Problem}
+use Rattle.scaled_simplex.specs.Tableau.{right_side}
+use Rattle.scaled_simplex.proofs.FoundFacts.{found_set}
+use Rattle.scaled_simplex.proofs.ListedFacts.{listed_set}
+use Rattle.scaled_simplex.proofs.Sweeps.{combined_is, row_at-set_other, row_at-set_same}
+
+-- the index that a row stands for is one of those of the set
+pub index_small : (problem : Problem) (board : Board) (row : ℕ) → IsBoard problem board
+    → row < length problem.constraints
+    → slice_index board.basis.index_of.items row < board.basis.negative.bound
+index_small problem board row is below =
+    subst (λ n. slice_index board.basis.index_of.items row < n) (sym is.found.bound)
+    (is.indices row 0 (let count = is.basis in omega (arith, below, count)))
+
+-- a row is combined with another one
+module _ (problem : Problem) (board : Board) (row pivot index : ℕ) (arena : Rows)
+    (is : IsBoard problem board) (below : row < length problem.constraints)
+    (done : combined board.arena.cells board.arena.rows row pivot index ≡ Ok arena.rows) where
+  abbrev made : List Entry
+  made = cleared index (row_at board.arena.rows row) (row_at board.arena.rows pivot)
+
+  within : row < length board.arena.rows
+  within = let count = is.rows in omega (arith, below, count)
+
+  set_is : arena.rows ≡ set board.arena.rows row made
+  set_is = combined_is board.arena.cells board.arena.rows arena.rows row pivot index done
+
+  made_is : row_at arena.rows row ≡ made
+  made_is =
+      ap (λ (l : List (List Entry)). row_at l row) set_is
+      ∙ row_at-set_same board.arena.rows row made within
+
+  pub board_set : (basis : Basis) (lists : List (List ℕ))
+      → AreFilled (row_at board.arena.rows row) (row_at arena.rows row) arena.filled
+      → AreAdded row arena.filled board.lists lists
+      → IsChanged (slice_index board.basis.index_of.items row)
+      (int_lt (entry_at (row_at arena.rows row) (right_side problem)) (pos 0))
+      board.basis.negative basis.negative
+      → basis.index_of ≡ board.basis.index_of → basis.row_of ≡ board.basis.row_of
+      → IsBoard problem (record { arena = arena; basis = basis; lists = lists })
+  board_set basis lists filled added change index_of row_of =
+      let items : board.basis.index_of.items ≡ basis.index_of.items =
+      ap (λ v. v.items) (sym index_of) in
+      record {
+        rows = ap length set_is ∙ length-set board.arena.rows row made ∙ is.rows;
+        basis = subst (λ l. length l ≡ length problem.constraints) items is.basis;
+        indices = subst (All (λ i. i < right_side problem)) items is.indices;
+        found = subst (λ l. AreFound problem (record {
+          rows = arena.rows;
+          basis = l;
+        }) basis.row_of.items basis.negative) items
+            (subst (λ l. AreFound problem (record {
+              rows = arena.rows;
+              basis = board.basis.index_of.items;
+            }) l basis.negative) (ap (λ v. v.items) (sym row_of))
+            (found_set problem board.arena.rows arena.rows board.basis.index_of.items
+            board.basis.row_of.items board.basis.negative is.found row made basis.negative below
+            within set_is
+            (subst (λ (r : List Entry). IsChanged (slice_index board.basis.index_of.items row)
+            (int_lt (entry_at r (right_side problem)) (pos 0)) board.basis.negative
+            basis.negative) made_is change)));
+        listed = listed_set board.arena.rows arena.rows row (length problem.constraints)
+            (right_side problem) made arena.filled board.lists lists below within set_is is.listed
+            (subst (λ (r : List Entry). AreFilled (row_at board.arena.rows row) r arena.filled)
+            made_is filled) added;
+      }
+
+  -- the other rows are as before
+  pub row_kept : (k : ℕ) → k ≢ row → row_at arena.rows k ≡ row_at board.arena.rows k
+  row_kept k other =
+      ap (λ (l : List (List Entry)). row_at l k) set_is
+      ∙ row_at-set_other board.arena.rows row k made other
+
+  pub count_kept : length arena.rows ≡ length board.arena.rows
+  count_kept = ap length set_is ∙ length-set board.arena.rows row made
+
+  pub board_keeps : (basis : Basis) (lists : List (List ℕ)) → (row ≡ pivot → ⊥)
+      → basis.index_of ≡ board.basis.index_of → arena.cells ≡ board.arena.cells
+      → KeepsBoard problem pivot board (record { arena = arena; basis = basis; lists = lists })
+  board_keeps basis lists other index_of cells = record {
+    index_of = ap (λ v. v.items) index_of;
+    cells = cells;
+    count_is = count_kept;
+    pivots = row_kept pivot (λ same. other (sym same));
+    costs = row_kept (length problem.constraints) (λ same. omega (arith, same, below));
+  }
+
+-- what is kept twice is kept
+pub keeps_on : (problem : Problem) (pivot : ℕ) (a b c : Board) → KeepsBoard problem pivot a b
+    → KeepsBoard problem pivot b c → KeepsBoard problem pivot a c
+keeps_on problem pivot a b c first second = record {
+  index_of = second.index_of ∙ first.index_of;
+  cells = second.cells ∙ first.cells;
+  count_is = second.count_is ∙ first.count_is;
+  pivots = second.pivots ∙ first.pivots;
+  costs = second.costs ∙ first.costs;
+}
+
+pub can_still : (problem : Problem) (pivot index : ℕ) (old new : Board)
+    → CanSweep problem pivot index old → KeepsBoard problem pivot old new
+    → CanSweep problem pivot index new
+can_still problem pivot index old new can keeps = record {
+  within = can.within;
+  above = subst (λ (r : List Entry). pos 0 <ℤ entry_at r index) (sym keeps.pivots) can.above;
+}
+
+pub keeps_itself : (problem : Problem) (pivot : ℕ) (board : Board)
+    → KeepsBoard problem pivot board board
+keeps_itself problem pivot board = record {
+  index_of = refl;
+  cells = refl;
+  count_is = refl;
+  pivots = refl;
+  costs = refl;
+}

@@ -1,0 +1,283 @@
+-- Rows that are added to the lists of their indices.
+use Rattle.std.proofs.Common.{◌≡◌, ◌≢◌, ◌⊎◌, ℕ, zero, suc, ◌+◌, ◌<◌, ◌≤◌, Bool, true, false, List, [], ◌∷◌, ◌++◌, All, length, get_or, map, replicate, set, take, pos, inl, inr, refl, sym, ap, ◌∙◌, subst, arith}
+use Rattle.std.specs.List.{Contains}
+use Rattle.std.specs.Ordering.{int_eq}
+use Rattle.std.proofs.lemmas.Bool.{cases_eq, cases_lt}
+use Rattle.std.proofs.lemmas.Bool.Decides.{Decides-int_eq}
+use Rattle.std.proofs.lemmas.List.{get_or-replicate, get_or-set_other, get_or-set_same, get_or_past, length-replicate, length-set, take_all, take_more}
+use Rattle.std.proofs.lemmas.List.Elements.{All-append, All-cons, All-nil, Contains-append_cases, Contains-append_left, Contains-append_right}
+use Rattle.row_arena.specs.declared.entry.Entry.{Entry}
+use Rattle.row_arena.specs.Arena.{AreFilled, row_at}
+use Rattle.row_arena.specs.Rows.{IsRow, entry_at}
+use Rattle.row_arena.proofs.AboveFacts.{entry_found}
+use Rattle.scaled_simplex.specs.Board.{AreAdded, AreListed, column_of}
+use Rattle.scaled_simplex.proofs.Sweeps.{row_at-set_other, row_at-set_same}
+
+-- where there is one item, it is that
+one_item : (x y : ℕ) → Contains (x ∷ []) y → y ≡ x
+one_item x y (zero, within, is) = sym is
+one_item x y (suc k, within, is) = absurd (omega (arith, within))
+
+contains_first : {X : Type 0} (x : X) (xs : List X) → Contains (x ∷ xs) x
+contains_first x xs = (0, omega arith, refl)
+
+contains_later : {X : Type 0} (x y : X) (xs : List X) → Contains xs y → Contains (x ∷ xs) y
+contains_later x y xs (k, within, is) = (suc k, omega (arith, within), is)
+
+no_item : {X : Type 0} (x : X) → Contains [] x → ⊥
+no_item x (k, within, is) = omega (arith, within)
+
+-- what is said of an item is said of its column
+contains_map : (row : List Entry) (entry : Entry) → Contains row entry
+    → Contains (map column_of row) entry.column
+contains_map [] entry has = absurd (no_item entry has)
+contains_map (e ∷ row) entry (zero, within, is) =
+    (zero, omega arith, ap column_of is)
+contains_map (e ∷ row) entry (suc k, within, is) =
+    contains_later e.column entry.column (map column_of row)
+    (contains_map row entry (k, omega (arith, within), is))
+
+pub none_added : (row : ℕ) (lists : List (List ℕ)) → AreAdded row [] lists lists
+none_added row lists = record {
+  count_is = refl;
+  kept = λ index k has. has;
+  added = λ index has within. absurd (no_item index has);
+  small = λ index bound below all. all;
+}
+
+pub added_none : (row index : ℕ) (lists : List (List ℕ)) → length lists ≤ index
+    → AreAdded row (index ∷ []) lists lists
+added_none row index lists past = record {
+  count_is = refl;
+  kept = λ i k has. has;
+  added = λ i has within.
+      let same = one_item index i has in
+      absurd (omega (arith, past, within, same));
+  small = λ i bound below all. all;
+}
+
+module _ (row index : ℕ) (lists : List (List ℕ)) (within : index < length lists) where
+  abbrev grown : List (List ℕ)
+  grown = set lists index (get_or lists index [] ++ row ∷ [])
+
+  own_list : get_or grown index [] ≡ get_or lists index [] ++ row ∷ []
+  own_list = get_or-set_same lists index (get_or lists index [] ++ row ∷ []) [] within
+
+  other_list : (i : ℕ) → i ≢ index → get_or grown i [] ≡ get_or lists i []
+  other_list i other =
+      get_or-set_other lists index i (get_or lists index [] ++ row ∷ []) [] other
+
+  pub added_one : AreAdded row (index ∷ []) lists grown
+  added_one = record {
+    count_is = length-set lists index (get_or lists index [] ++ row ∷ []);
+    kept = λ i k has. elim (cases_eq i index) as (λ _. Contains (get_or grown i []) k) [
+      | inl same ↦ subst (λ n. Contains (get_or grown n []) k) (sym same)
+          (subst (λ l. Contains l k) (sym own_list)
+          (Contains-append_left (get_or lists index []) (row ∷ []) k
+          (subst (λ n. Contains (get_or lists n []) k) same has)))
+      | inr other ↦ subst (λ l. Contains l k) (sym (other_list i other)) has
+    ];
+    added = λ i has below.
+        subst (λ n. Contains (get_or grown n []) row) (sym (one_item index i has))
+        (subst (λ l. Contains l row) (sym own_list)
+        (Contains-append_right (get_or lists index []) (row ∷ []) row (contains_first row [])));
+    small = λ i bound below all. elim (cases_eq i index)
+        as (λ _. All (λ k. k < bound) (get_or grown i [])) [
+          | inl same ↦ subst (λ n. All (λ k. k < bound) (get_or grown n [])) (sym same)
+              (subst (All (λ k. k < bound)) (sym own_list)
+              (All-append (λ k. k < bound) (get_or lists index []) (row ∷ [])
+              (subst (λ n. All (λ k. k < bound) (get_or lists n [])) same all)
+              (All-cons (λ k. k < bound) row [] below (All-nil (λ k. k < bound)))))
+          | inr other ↦ subst (All (λ k. k < bound)) (sym (other_list i other)) all
+        ];
+  }
+
+-- some, and then one more
+added_more : (row index : ℕ) (done : List ℕ) (old middle new : List (List ℕ))
+    → AreAdded row done old middle → AreAdded row (index ∷ []) middle new
+    → AreAdded row (done ++ index ∷ []) old new
+added_more row index done old middle new first second = record {
+  count_is = second.count_is ∙ first.count_is;
+  kept = λ i k has. second.kept i k (first.kept i k has);
+  added = λ i has below. elim (Contains-append_cases done (index ∷ []) i has)
+      as (λ _. Contains (get_or new i []) row) [
+        | inl before ↦ second.kept i row (first.added i before below)
+        | inr last ↦ second.added i last
+            (let count = first.count_is in omega (arith, count, below))
+      ];
+  small = λ i bound below all. second.small i bound below (first.small i bound below all);
+}
+
+pub added_index : (row : ℕ) (indices : List ℕ) (k d : ℕ) (old middle new : List (List ℕ))
+    → k < length indices → AreAdded row (take k indices) old middle
+    → AreAdded row (get_or indices k d ∷ []) middle new
+    → AreAdded row (take (k + 1) indices) old new
+added_index row indices k d old middle new within first second =
+    subst (λ l. AreAdded row l old new) (sym (take_more indices k d within))
+    (added_more row (get_or indices k d) (take k indices) old middle new first second)
+
+pub added_all : (row : ℕ) (indices : List ℕ) (old new : List (List ℕ))
+    → AreAdded row (take (length indices) indices) old new → AreAdded row indices old new
+added_all row indices old new added =
+    subst (λ l. AreAdded row l old new) (take_all (length indices) indices (omega arith)) added
+
+-- the same of the columns of entries
+map_take : (entries : List Entry) (k : ℕ)
+    → map column_of (take k entries) ≡ take k (map column_of entries)
+map_take entries zero = refl
+map_take [] (suc k) = refl
+map_take (entry ∷ entries) (suc k) = ap (λ l. entry.column ∷ l) (map_take entries k)
+
+map_append : (xs ys : List Entry) → map column_of (xs ++ ys) ≡ map column_of xs ++ map column_of ys
+map_append [] ys = refl
+map_append (x ∷ xs) ys = ap (λ l. x.column ∷ l) (map_append xs ys)
+
+pub added_entry : (row : ℕ) (entries : List Entry) (k : ℕ) (d : Entry)
+    (old middle new : List (List ℕ)) → k < length entries
+    → AreAdded row (map column_of (take k entries)) old middle
+    → AreAdded row ((get_or entries k d).column ∷ []) middle new
+    → AreAdded row (map column_of (take (k + 1) entries)) old new
+added_entry row entries k d old middle new within first second =
+    subst (λ l. AreAdded row l old new)
+    (sym (ap (map column_of) (take_more entries k d within)
+    ∙ map_append (take k entries) (get_or entries k d ∷ [])))
+    (added_more row (get_or entries k d).column (map column_of (take k entries)) old middle new
+    first second)
+
+pub added_entries : (row : ℕ) (entries : List Entry) (old new : List (List ℕ))
+    → AreAdded row (map column_of (take (length entries) entries)) old new
+    → AreAdded row (map column_of entries) old new
+added_entries row entries old new added =
+    subst (λ l. AreAdded row (map column_of l) old new)
+    (take_all (length entries) entries (omega arith)) added
+
+-- the lists of no rows
+pub none_listed : (rows : List (List Entry)) (indices : ℕ)
+    → AreListed rows 0 indices (replicate indices [])
+none_listed rows indices = record {
+  count_is = length-replicate indices [];
+  each = λ k index below within some. absurd (omega (arith, below));
+  small = λ index. by index (cases_lt index indices);
+}
+  where
+    by : (index : ℕ) → (index < indices) ⊎ (indices ≤ index)
+        → All (λ k. k < 0) (get_or (replicate indices []) index [])
+    by index (inl below) =
+        subst (All (λ k. k < 0)) (sym (get_or-replicate indices index [] [] below))
+        (All-nil (λ k. k < 0))
+    by index (inr past) =
+        let lists : List (List ℕ) = replicate indices [] in
+        let count : length lists ≡ indices = length-replicate indices [] in
+        subst (All (λ k. k < 0)) (sym (get_or_past (replicate indices []) index []
+        (omega (arith, past, count))))
+        (All-nil (λ k. k < 0))
+
+-- a row more
+pub listed_more : (rows : List (List Entry)) (row indices : ℕ) (old new : List (List ℕ))
+    → IsRow (row_at rows row) → AreListed rows row indices old
+    → AreAdded row (map column_of (row_at rows row)) old new
+    → AreListed rows (row + 1) indices new
+listed_more rows row indices old new is listed added = record {
+  count_is = added.count_is ∙ listed.count_is;
+  each = λ k index below within some. elim (cases_lt k row)
+      as (λ _. Contains (get_or new index []) k) [
+        | inl before ↦ added.kept index k (listed.each k index before within some)
+        | inr past ↦
+            let same : k ≡ row = omega (arith, below, past) in
+            subst (λ n. Contains (get_or new index []) n) (sym same)
+            (added.added index
+            (contains_map (row_at rows row) (record {
+              column = index;
+              value = entry_at (row_at rows row) index;
+            }) (entry_found (row_at rows row) index is
+            (subst (λ n. entry_at (row_at rows n) index ≢ pos 0) same some)))
+            (let count = listed.count_is in omega (arith, within, count)))
+      ];
+  small = λ index. added.small index (row + 1) (omega arith)
+      (λ i d inside. let before = listed.small index i d inside in omega (arith, before));
+}
+
+-- one row is another one, and is added where it has an entry and had none
+module _ (rows new : List (List Entry)) (row count indices : ℕ) (made : List Entry)
+    (filled : List ℕ) (old lists : List (List ℕ)) (below : row < count)
+    (within : row < length rows) (is : new ≡ set rows row made)
+    (listed : AreListed rows count indices old) (more : AreFilled (row_at rows row) made filled)
+    (added : AreAdded row filled old lists) where
+  own_row : row_at new row ≡ made
+  own_row = ap (λ l. row_at l row) is ∙ row_at-set_same rows row made within
+
+  other_row : (k : ℕ) → k ≢ row → row_at new k ≡ row_at rows k
+  other_row k other = ap (λ l. row_at l k) is ∙ row_at-set_other rows row k made other
+
+  own_listed : (index : ℕ) → index < indices → entry_at made index ≢ pos 0
+      → Contains (get_or lists index []) row
+  own_listed index small some = by (int_eq (entry_at (row_at rows row) index) (pos 0)) refl
+    where
+      by : (b : Bool) → int_eq (entry_at (row_at rows row) index) (pos 0) ≡ b
+          → Contains (get_or lists index []) row
+      by true none = added.added index
+          (more.each index ((Decides-int_eq (entry_at (row_at rows row) index) (pos 0)).0 none) some)
+          (let count_is = listed.count_is in omega (arith, small, count_is))
+      by false has = added.kept index row (listed.each row index below small
+          (λ none. no_both ((Decides-int_eq (entry_at (row_at rows row) index) (pos 0)).1 none) has))
+        where
+          no_both : {b : Bool} → b ≡ true → b ≡ false → ⊥
+          no_both yes_it no_it = let e : true ≡ false = sym yes_it ∙ no_it in let g : ⊥ = cc in g
+
+  pub listed_set : AreListed new count indices lists
+  listed_set = record {
+    count_is = added.count_is ∙ listed.count_is;
+    each = λ k index small inside some. elim (cases_eq k row)
+        as (λ _. Contains (get_or lists index []) k) [
+          | inl same ↦ subst (λ n. Contains (get_or lists index []) n) (sym same)
+              (own_listed index inside
+              (subst (λ l. entry_at l index ≢ pos 0)
+              (ap (row_at new) same ∙ own_row) some))
+          | inr other ↦ added.kept index k (listed.each k index small inside
+              (subst (λ l. entry_at l index ≢ pos 0) (other_row k other) some))
+        ];
+    small = λ index. added.small index count below (listed.small index);
+  }
+
+-- an index at which one row alone has an entry
+pub listed_left : (rows : List (List Entry)) (count indices index row : ℕ)
+    (lists : List (List ℕ)) → row < count → index < indices
+    → ((k : ℕ) → k < count → k ≢ row → entry_at (row_at rows k) index ≡ pos 0)
+    → AreListed rows count indices lists
+    → AreListed rows count indices (set lists index (row ∷ []))
+listed_left rows count indices index row lists below within alone listed = record {
+  count_is = length-set lists index (row ∷ []) ∙ listed.count_is;
+  each = λ k i small inside some. elim (cases_eq i index)
+      as (λ _. Contains (get_or (set lists index (row ∷ [])) i []) k) [
+        | inl same ↦
+            let it : k ≡ row = alone_is k small
+            (subst (λ n. entry_at (row_at rows k) n ≢ pos 0) same some) in
+            subst (λ n. Contains (get_or (set lists index (row ∷ [])) n []) k) (sym same)
+            (subst (λ l. Contains l k)
+            (sym (get_or-set_same lists index (row ∷ []) [] there))
+            (subst (λ n. Contains (row ∷ []) n) (sym it) (contains_first row [])))
+        | inr other ↦ subst (λ l. Contains l k)
+            (sym (get_or-set_other lists index i (row ∷ []) [] other))
+            (listed.each k i small inside some)
+      ];
+  small = λ i. elim (cases_eq i index)
+      as (λ _. All (λ k. k < count) (get_or (set lists index (row ∷ [])) i [])) [
+        | inl same ↦ subst (λ n. All (λ k. k < count) (get_or (set lists index (row ∷ [])) n []))
+            (sym same)
+            (subst (All (λ k. k < count))
+            (sym (get_or-set_same lists index (row ∷ []) [] there))
+            (All-cons (λ k. k < count) row [] below (All-nil (λ k. k < count))))
+        | inr other ↦ subst (All (λ k. k < count))
+            (sym (get_or-set_other lists index i (row ∷ []) [] other)) (listed.small i)
+      ];
+}
+  where
+    there : index < length lists
+    there = let count_is = listed.count_is in omega (arith, within, count_is)
+
+    alone_is : (k : ℕ) → k < count → entry_at (row_at rows k) index ≢ pos 0 → k ≡ row
+    alone_is k small some = by (cases_eq k row)
+      where
+        by : (k ≡ row) ⊎ (k ≢ row) → k ≡ row
+        by (inl same) = same
+        by (inr other) = absurd (some (alone k small other))

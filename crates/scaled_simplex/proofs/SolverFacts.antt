@@ -1,0 +1,63 @@
+-- A run from the first tableau on.
+use Rattle.std.proofs.Common.{◌≡◌, ℕ, ◌+◌, false, [], ◌∷◌, ◌++◌, map, Option, Some, None, ℤ, pos, ◌<ℤ◌, sym, subst, arith}
+use Rattle.std.specs.List.{range_with_len}
+use Rattle.std.proofs.lemmas.List.FromFn.{map-range_with_len_more}
+use Rattle.scaled_simplex.specs.declared.board.Board.{Board}
+use Rattle.scaled_simplex.specs.declared.end.End.TheVariants.{Wide}
+use Rattle.scaled_simplex.specs.declared.told.Told.{Told}
+use Rattle.scaled_simplex.specs.Board.{IsBasic}
+use Rattle.scaled_simplex.specs.BoardOf.{tableau_of}
+use Rattle.scaled_simplex.specs.Multipliers.{IsTold}
+use Rattle.scaled_simplex.specs.Program.{Problem}
+use Rattle.scaled_simplex.specs.Run.{Outcome, is_infeasible, multiplier_in, weight_in}
+use Rattle.scaled_simplex.specs.Solving.{IsFirst, IsRan, IsSolver}
+use Rattle.scaled_simplex.specs.Steps.{IsTelling}
+use Rattle.scaled_simplex.proofs.BasicRows.{first_basic}
+use Rattle.scaled_simplex.proofs.FirstTableau.{first_lawful}
+use Rattle.scaled_simplex.proofs.Lawful.{IsLawful}
+use Rattle.scaled_simplex.proofs.RunLaw.{bare_tells, run_from_tells}
+
+module _ (problem : Problem) (cells : ℕ) (held : Option Board) (is : IsSolver problem cells held)
+  where
+    -- without a tableau
+    pub bare_ran : (row : ℕ) → IsRan problem None (record { end = Wide; row = row })
+    bare_ran row = record {
+      valid = is.valid;
+      within = tt;
+      told_is = bare_tells problem is.valid;
+    }
+
+    module _ (board : Board) (there : held ≡ Some board) where
+      first : IsFirst problem cells (Some board)
+      first = subst (IsFirst problem cells) there is.first
+
+      pub first_is_basic : IsBasic problem (tableau_of board)
+      first_is_basic = subst (IsBasic problem) (sym first.1) (first_basic problem is.valid)
+
+      first_is_lawful : IsLawful problem (tableau_of board)
+      first_is_lawful = subst (IsLawful problem) (sym first.1) (first_lawful problem is.valid)
+
+      -- with one, as the run has it then
+      pub ran : (pivots : ℕ) (cutoff : Option ℤ) (new : Board) (told : Told)
+          → IsTelling problem board.arena.cells cutoff pivots (tableau_of board) new told
+          → IsRan problem (Some new) told
+      ran pivots cutoff new told telling = record {
+        valid = is.valid;
+        within = telling.within;
+        told_is = subst (IsTold problem) (sym telling.outcome)
+            (run_from_tells problem board.arena.cells cutoff pivots (tableau_of board)
+            first_is_lawful);
+      }
+
+-- a multiplier more
+pub multipliers_more : (problem : Problem) (outcome : Outcome) (k : ℕ)
+    → map (multiplier_in problem outcome) (range_with_len 0 k)
+    ++ multiplier_in problem outcome k ∷ []
+    ≡ map (multiplier_in problem outcome) (range_with_len 0 (k + 1))
+multipliers_more problem outcome k =
+    sym (map-range_with_len_more (multiplier_in problem outcome) 0 k k (omega arith))
+
+-- the weight, where the run didn't end Infeasible
+pub weight_above : (problem : Problem) (outcome : Outcome) → IsTold problem outcome
+    → is_infeasible outcome.end ≡ false → pos 0 <ℤ weight_in problem outcome
+weight_above problem outcome told isnt = (told.bound isnt).weight

@@ -1,0 +1,6 @@
+use Rattle.std.proofs.Common.{map, take}
+use Rattle.scaled_simplex.specs.Board.{AreAdded, column_of}
+use Rattle.scaled_simplex.proofs.listing.add_entries.Given as goal
+
+abbrev pub invariant-loop-k : goal.invariant-loop-k
+invariant-loop-k l = AreAdded l.row (map column_of (take l.k l.entries)) l.fn.lists l.lists

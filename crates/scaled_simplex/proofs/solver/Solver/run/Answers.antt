@@ -1,0 +1,17 @@
+use Rattle.scaled_simplex.proofs.SolverFacts.{bare_ran, first_is_basic, ran}
+use Rattle.scaled_simplex.proofs.solver.Solver.run.Goals as goal
+
+pub invariant_of-result : goal.invariant_of-result
+invariant_of-result c =
+    bare_ran c.self.inside.program.now c.self.inside.cells c.self.inside.board c.self.invariant 0
+
+pub run_from-requires-clause-basic : goal.run_from-requires-clause-basic
+run_from-requires-clause-basic c =
+    first_is_basic c.self.inside.program.now c.self.inside.cells c.self.inside.board
+    c.self.invariant c.in-Some.board c.in-Some.is
+
+pub invariant_of-result-in-Some : goal.invariant_of-result-in-Some
+invariant_of-result-in-Some c =
+    ran c.self.inside.program.now c.self.inside.cells c.self.inside.board c.self.invariant
+    c.in-Some.board c.in-Some.is c.args.pivots c.args.cutoff c.run_from.new.board
+    c.in_ok-told-in-Some.told c.in_ok-told-in-Some.ensures

@@ -1,0 +1,34 @@
+use Rattle.std.proofs.Common.{◌≡◌, Err, length, subst, sym}
+use Rattle.row_arena.specs.Arena.{IfWide, row_at}
+use Rattle.scaled_simplex.specs.declared.end.End.TheVariants.{Wide as TooWide}
+use Rattle.scaled_simplex.specs.Run.{pivoted}
+use Rattle.scaled_simplex.specs.Steps.{IsTelling}
+use Rattle.scaled_simplex.specs.BoardOf.{tableau_of}
+use Rattle.scaled_simplex.proofs.StepFacts.{chosen_told, onward_told, wide_told}
+use Rattle.scaled_simplex.proofs.steps.go_on.Goals as goal
+
+pub pivot-requires-clause-chosen : goal.pivot-requires-clause-chosen
+pivot-requires-clause-chosen c =
+    chosen_told c.args.program.now (tableau_of c.args.board.now) c.args.cutoff c.args.row
+    c.args.index c.requires.turn
+
+pub returns-in-Ok : goal.returns-in-Ok
+returns-in-Ok c =
+    onward_told c.args.program.now c.args.cutoff c.args.left c.args.board.now c.requires.board
+    c.pivot.new.board c.args.row c.args.index c.requires.turn c.requires.left c.requires.basic
+    c.in-Ok.ensures.ok c.in-Ok.ensures.basis c.in-Ok.ensures.board c.pivot.ensures.cells
+
+pub returns-in-Err-Wide : goal.returns-in-Err-Wide
+returns-in-Err-Wide c =
+    let problem = c.args.program.now in
+    let old = c.args.board.now in
+    let costs = length problem.constraints in
+    subst (λ row. IsTelling problem old.arena.cells c.args.cutoff c.args.left (tableau_of old)
+    c.pivot.new.board (record { end = TooWide; row = row })) (sym c.rows.ensures.count)
+    (wide_told problem c.args.cutoff c.args.left old c.requires.board c.pivot.new.board c.args.row
+    c.args.index c.requires.turn c.requires.left c.in-Err-Wide.field-0-0
+    (subst (λ why. IfWide why (λ wide. pivoted problem old.arena.cells (tableau_of old) c.args.row
+    c.args.index ≡ Err wide)) c.in-Err-Wide.field-0-is c.in-Err-Wide.ensures.wide)
+    c.pivot.ensures.count
+    (subst (λ why. IfWide why (λ wide. row_at c.pivot.new.board.arena.rows costs
+    ≡ row_at old.arena.rows costs)) c.in-Err-Wide.field-0-is c.in-Err-Wide.ensures.costs))

@@ -1,0 +1,10 @@
+pub mod Board
+pub mod BoardOf
+pub mod Multipliers
+pub mod Program
+pub mod Ratios
+pub mod Run
+pub mod Search
+pub mod Solving
+pub mod Steps
+pub mod Tableau

@@ -1,0 +1,48 @@
+-- Solvers and runs, as callers see them.
+use Rattle.std.specs.Prelude.{◌≡◌, ℕ, ◌<◌, ◌≤◌, Option, None, Some, length}
+use Rattle.row_arena.specs.Arena.{live, row_at}
+use Rattle.scaled_simplex.specs.declared.board.Board.{Board}
+use Rattle.scaled_simplex.specs.declared.told.Told.{Told}
+use Rattle.scaled_simplex.specs.BoardOf.{IsBoard, tableau_of}
+use Rattle.scaled_simplex.specs.Multipliers.{IsTold}
+use Rattle.scaled_simplex.specs.Program.{IsProblem, Problem}
+use Rattle.scaled_simplex.specs.Run.{Outcome}
+use Rattle.scaled_simplex.specs.Tableau.{bare_row, first_tableau}
+
+-- a program, and room for so many entries
+pub record Solving : Type 0 where
+  pub problem : Problem
+  pub cells : ℕ
+
+-- the first tableau, unless it has no room
+abbrev pub IsFirst : Problem → ℕ → Option Board → Type 0
+IsFirst problem cells None = cells < live (first_tableau problem).rows
+IsFirst problem cells (Some board) =
+    IsBoard problem board × (tableau_of board ≡ first_tableau problem)
+    × (board.arena.cells ≡ cells) × (live (first_tableau problem).rows ≤ cells)
+
+pub record IsSolver (problem : Problem) (cells : ℕ) (board : Option Board) : Type 0 where
+  pub valid : IsProblem problem
+  pub first : IsFirst problem cells board
+
+-- a program, and how a run of it ended
+pub record Ran : Type 0 where
+  pub problem : Problem
+  pub outcome : Outcome
+
+-- the row that tells: without a tableau, that of all columns at 0
+abbrev pub outcome_in : Problem → Option Board → Told → Outcome
+outcome_in problem None told = record { end = told.end; row = bare_row problem }
+outcome_in problem (Some board) told = record {
+  end = told.end;
+  row = row_at board.arena.rows told.row;
+}
+
+abbrev pub IsWithin : Option Board → Told → Type 0
+IsWithin None told = Unit {0}
+IsWithin (Some board) told = told.row < length board.arena.rows
+
+pub record IsRan (problem : Problem) (board : Option Board) (told : Told) : Type 0 where
+  pub valid : IsProblem problem
+  pub within : IsWithin board told
+  pub told_is : IsTold problem (outcome_in problem board told)

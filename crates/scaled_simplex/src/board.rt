@@ -1,0 +1,13 @@
+//! The tableau of a run, and what finds its way in it.
+
+use crate::basis::Basis;
+use crate::lists::RowLists;
+use row_arena::RowArena;
+
+/// The rows of a tableau, the index that each stands for, and where entries may be.
+#[derive(Drop)]
+pub struct Board {
+    pub arena: RowArena,
+    pub basis: Basis,
+    pub lists: RowLists,
+}

@@ -1,0 +1,227 @@
+//! A pivot.
+ghost use Rattle.std.specs.Prelude.{◌≡◌, ◌≢◌, ◌<◌, ◌<ℤ◌, ◌+◌, Err, IfErr, Ok, OnErr, OnOk, Some, int_lt, length, pos, set};
+ghost use Rattle.scaled_simplex.specs.Tableau.{right_side};
+ghost use Rattle.row_arena.specs.Arena.{IfWide, combined, row_at};
+ghost use Rattle.row_arena.specs.Rows.{entry_at, negated};
+ghost use Rattle.scaled_simplex.specs.Board.{IsBasic};
+ghost use Rattle.scaled_simplex.specs.BoardOf.{CanSweep, IsAlone, IsBoard, IsChosen, IsTodo, KeepsBoard, tableau_of};
+ghost use Rattle.scaled_simplex.specs.Run.{pivoted, right_at, swept, swept_at};
+
+use crate::board::Board;
+use crate::listing::{add_filled, lists_of, sorted_rows};
+use crate::program::Program;
+use flow_types::OutOfMemory;
+use row_arena::{Refused, RowArena};
+use std::alloc::Global;
+
+// Clears the row by the pivot row, if it has an entry at the index.
+#[tactic(auto, using(crate::proofs::BoardFacts::index_small))]
+fn sweep_row(
+    board: &mut Board,
+    program: &Program,
+    row: u32,
+    pivot: u32,
+    index: u32,
+) -> Result<(), Refused>
+    requires board { IsBoard program.now board.old }
+    requires can { CanSweep program.now pivot index board.old }
+    requires row { row < length program.now.constraints }
+    ensures ok { OnOk result (swept_at program.now board.old.arena.cells pivot index
+        board.old.arena.rows row ≡ Ok board.new.arena.rows) }
+    ensures board { OnOk result (IsBoard program.now board.new) }
+    ensures wide { IfErr result (λ refused. IfWide refused (λ wide. swept_at program.now
+        board.old.arena.cells pivot index board.old.arena.rows row ≡ Err wide)) }
+    ensures keeps { KeepsBoard program.now pivot board.old board.new }
+{
+    if row == pivot || board.arena.entry(row, index) == 0 {
+        return Ok(());
+    }
+    board.arena.combine(row, pivot, index)?;
+    add_filled(&mut board.lists, row, board.arena.filled())?;
+    let negative = is_negative(&board.arena, program, row);
+    board.basis.put_sign(row, negative);
+    Ok(())
+}
+
+/// Whether the row has a negative right side.
+pub fn is_negative(arena: &RowArena, program: &Program, row: u32) -> bool
+    requires { row < length arena.now.rows }
+    ensures { result
+        ≡ int_lt (entry_at (row_at arena.now.rows row) (right_side program.now)) (pos 0) }
+{
+    arena.entry(row, program.right_side()) < 0
+}
+
+// Clears these rows.
+fn sweep(
+    board: &mut Board,
+    program: &Program,
+    todo: &[u32],
+    pivot: u32,
+    index: u32,
+) -> Result<(), Refused>
+    requires board { IsBoard program.now board.old }
+    requires can { CanSweep program.now pivot index board.old }
+    requires todo { IsTodo program.now index board.old.arena.rows todo.now }
+    ensures ok { OnOk result (swept program.now board.old.arena.cells pivot index 0
+        (length program.now.constraints) board.old.arena.rows ≡ Ok board.new.arena.rows) }
+    ensures board { OnOk result (IsBoard program.now board.new) }
+    ensures wide { IfErr result (λ refused. IfWide refused (λ wide. swept program.now
+        board.old.arena.cells pivot index 0 (length program.now.constraints + 1)
+        board.old.arena.rows ≡ Err wide)) }
+    ensures keeps { KeepsBoard program.now pivot board.old board.new }
+{
+    for p in 0..todo.len() {
+        sweep_row(board, program, todo[p], pivot, index)?;
+    }
+    Ok(())
+}
+
+/// Makes the lists of rows anew, if they have become long.
+pub fn renew_lists(board: &mut Board, alloc: Global, program: &Program) -> Result<(), OutOfMemory>
+    requires board { IsBoard program.now board.old }
+    ensures board { IsBoard program.now board.new }
+    ensures arena { board.new.arena ≡ board.old.arena }
+    ensures basis { board.new.basis ≡ board.old.basis }
+{
+    if board.lists.are_long() {
+        let right = program.right_side() as usize;
+        board.lists = lists_of(alloc, &board.arena, program.rows(), right)?;
+    }
+    Ok(())
+}
+
+// The rows that may have an entry at the index.
+#[tactic(auto, using(crate::proofs::TodoFacts::todo_told, crate::proofs::TodoFacts::index_listed))]
+fn find_todo(
+    todo: &mut Vec<u32>,
+    board: &Board,
+    program: &Program,
+    index: u32,
+) -> Result<(), OutOfMemory>
+    requires board { IsBoard program.now board.now }
+    requires index { index < right_side program.now }
+    ensures { OnOk result (IsTodo program.now index board.now.arena.rows todo.new.items) }
+{
+    sorted_rows(todo, board.lists.rows_of(index))
+}
+
+// The row is turned round, and stands for the index.
+#[tactic(auto, using(crate::proofs::BoardFacts::index_small))]
+fn turn_round(board: &mut Board, program: &Program, row: u32, index: u32)
+    requires board { IsBoard program.now board.old }
+    requires basic { IsBasic program.now (tableau_of board.old) }
+    requires row { row < length program.now.constraints }
+    requires leaves { right_at program.now (tableau_of board.old) row <ℤ pos 0 }
+    requires index { index < right_side program.now }
+    requires enters { entry_at (row_at board.old.arena.rows row) index <ℤ pos 0 }
+    ensures rows { board.new.arena.rows
+        ≡ set board.old.arena.rows row (negated (row_at board.old.arena.rows row)) }
+    ensures cells { board.new.arena.cells ≡ board.old.arena.cells }
+    ensures basis { board.new.basis.index_of.items
+        ≡ set board.old.basis.index_of.items row index }
+    ensures board { IsBoard program.now board.new }
+{
+    board.arena.negate(row);
+    board.basis.put_sign(row, false);
+    board.basis.enter(row, index);
+}
+
+// Clears the cost row by the pivot row, also where it has no entry at the index.
+fn clear_costs(board: &mut Board, program: &Program, pivot: u32, index: u32) -> Result<(), Refused>
+    requires board { IsBoard program.now board.old }
+    requires can { CanSweep program.now pivot index board.old }
+    ensures ok { OnOk result (combined board.old.arena.cells board.old.arena.rows
+        (length program.now.constraints) pivot index ≡ Ok board.new.arena.rows) }
+    ensures board { IsBoard program.now board.new }
+    ensures wide { IfErr result (λ refused. IfWide refused (λ wide. combined board.old.arena.cells
+        board.old.arena.rows (length program.now.constraints) pivot index ≡ Err wide)) }
+    ensures err { OnErr result (board.new.arena.rows ≡ board.old.arena.rows) }
+    ensures count { length board.new.arena.rows ≡ length board.old.arena.rows }
+    ensures cells { board.new.arena.cells ≡ board.old.arena.cells }
+    ensures basis { board.new.basis ≡ board.old.basis }
+{
+    board.arena.combine(program.rows(), pivot, index)
+}
+
+// Clears all other rows by the pivot row, and last the cost row.
+fn clear_others(
+    board: &mut Board,
+    program: &Program,
+    todo: &[u32],
+    pivot: u32,
+    index: u32,
+) -> Result<(), Refused>
+    requires board { IsBoard program.now board.old }
+    requires can { CanSweep program.now pivot index board.old }
+    requires todo { IsTodo program.now index board.old.arena.rows todo.now }
+    ensures ok { OnOk result (swept program.now board.old.arena.cells pivot index 0
+        (length program.now.constraints + 1) board.old.arena.rows ≡ Ok board.new.arena.rows) }
+    ensures board { OnOk result (IsBoard program.now board.new) }
+    ensures wide { IfErr result (λ refused. IfWide refused (λ wide. swept program.now
+        board.old.arena.cells pivot index 0 (length program.now.constraints + 1)
+        board.old.arena.rows ≡ Err wide)) }
+    ensures costs { OnErr result (row_at board.new.arena.rows (length program.now.constraints)
+        ≡ row_at board.old.arena.rows (length program.now.constraints)) }
+    ensures count { length board.new.arena.rows ≡ length board.old.arena.rows }
+    ensures cells { board.new.arena.cells ≡ board.old.arena.cells }
+    ensures index_of { board.new.basis.index_of.items ≡ board.old.basis.index_of.items }
+{
+    sweep(board, program, todo, pivot, index)?;
+    clear_costs(board, program, pivot, index)?;
+    Ok(())
+}
+
+// Leaves the list of the index the one row that has an entry there.
+fn leave_row(
+    board: &mut Board,
+    alloc: Global,
+    program: &Program,
+    row: u32,
+    index: u32,
+) -> Result<(), OutOfMemory>
+    requires board { IsBoard program.now board.old }
+    requires row { row < length program.now.constraints }
+    requires index { index < right_side program.now }
+    requires alone { IsAlone program.now board.old.arena.rows row index }
+    ensures board { OnOk result (IsBoard program.now board.new) }
+    ensures arena { board.new.arena ≡ board.old.arena }
+    ensures basis { board.new.basis ≡ board.old.basis }
+{
+    board.lists.leave(alloc, index, row)?;
+    Ok(())
+}
+
+/// Turns the row that leaves round and lets it stand for the index that enters, and clears all
+/// others there. Where a number or the number of entries passes what there is room for, the cost row
+/// is as before.
+pub fn pivot(
+    board: &mut Board,
+    alloc: Global,
+    program: &Program,
+    todo: &mut Vec<u32>,
+    row: u32,
+    index: u32,
+) -> Result<(), Refused>
+    requires board { IsBoard program.now board.old }
+    requires basic { IsBasic program.now (tableau_of board.old) }
+    requires chosen { IsChosen program.now (tableau_of board.old) row index }
+    ensures ok { OnOk result (pivoted program.now board.old.arena.cells (tableau_of board.old) row
+        index ≡ Ok board.new.arena.rows) }
+    ensures basis { OnOk result (board.new.basis.index_of.items
+        ≡ set board.old.basis.index_of.items row index) }
+    ensures board { OnOk result (IsBoard program.now board.new) }
+    ensures wide { IfErr result (λ refused. IfWide refused (λ wide. pivoted program.now
+        board.old.arena.cells (tableau_of board.old) row index ≡ Err wide)) }
+    ensures cells { board.new.arena.cells ≡ board.old.arena.cells }
+    ensures count { length board.new.arena.rows ≡ length board.old.arena.rows }
+    ensures costs { IfErr result (λ refused. IfWide refused (λ _.
+        row_at board.new.arena.rows (length program.now.constraints)
+        ≡ row_at board.old.arena.rows (length program.now.constraints))) }
+{
+    find_todo(todo, board, program, index)?;
+    turn_round(board, program, row, index);
+    clear_others(board, program, todo, row, index)?;
+    leave_row(board, alloc, program, row, index)?;
+    Ok(())
+}
