@@ -104,14 +104,14 @@ placed cell (suc k) from to o (c ∷ columns) column line is opened =
     next n m = omega arith
 
 -- what leaves a variable free
-record IsByFree (must : Bool) (window : Option Window) (time : ℕ) : Type 0 where
-  opened : Window
-  is : window ≡ Some opened
-  from : opened.lo ≤ time
-  to : time ≤ opened.hi
-  before : must ≡ true → time < opened.hi
+pub record IsByFree (must : Bool) (window : Option Window) (time : ℕ) : Type 0 where
+  pub opened : Window
+  pub is : window ≡ Some opened
+  pub from : opened.lo ≤ time
+  pub to : time ≤ opened.hi
+  pub before : must ≡ true → time < opened.hi
 
-by_free : (must : Bool) (window : Option Window) (f n t : ℕ)
+pub by_free : (must : Bool) (window : Option Window) (f n t : ℕ)
     → by_left must window f n t ≡ Free → IsByFree must window t
 by_free must None f n t free = absurd (let e : ⊥ = cc in e)
 by_free must (Some w) f n t free =
@@ -143,13 +143,13 @@ by_free must (Some w) f n t free =
           before = λ no. absurd (let e : false ≡ true = sym marked ∙ no in cc);
         }
 
-record IsInsideFree (window : Option Window) (stays : Bool) (time : ℕ) : Type 0 where
-  opened : Window
-  is : window ≡ Some opened
-  from : opened.lo ≤ time
-  may : stays ≡ true
+pub record IsInsideFree (window : Option Window) (stays : Bool) (time : ℕ) : Type 0 where
+  pub opened : Window
+  pub is : window ≡ Some opened
+  pub from : opened.lo ≤ time
+  pub may : stays ≡ true
 
-inside_free : (window : Option Window) (stays : Bool) (t : ℕ)
+pub inside_free : (window : Option Window) (stays : Bool) (t : ℕ)
     → inside_left window stays t ≡ Free → IsInsideFree window stays t
 inside_free None stays t free = absurd (let e : ⊥ = cc in e)
 inside_free (Some w) stays t free = by (nat_lt t w.lo) refl stays refl free

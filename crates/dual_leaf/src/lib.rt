@@ -53,5 +53,7 @@ mod terms;
 mod unit;
 mod work;
 
+pub use columns::Columns;
 pub use fault::LeafFault;
+pub use landing::{Landing, landing_of};
 pub use work::LeafWork;

@@ -1,0 +1,292 @@
+-- The program of a box, from its columns, costs and rows.
+use Rattle.std.proofs.Common.{◌≡◌, ℕ, zero, suc, ◌+◌, ◌-◌, ◌*◌, ◌^◌, ◌<◌, ◌≤◌, Bool, true, false, nat_lt, List, [], ◌∷◌, ◌++◌, length, map, get_or, slice_get, sum_by, if◌then◌else◌, All, int_lt, ℤ, pos, unsigned_abs, nat_abs, refl, sym, ap, ◌∙◌, subst, arith}
+use Rattle.std.proofs.Math.Nat.{mul-le-mul_right}
+use Rattle.std.proofs.lemmas.Int.{ints}
+use Rattle.std.proofs.lemmas.List.{append_assoc, get_or-map, length-append, length-map}
+use Rattle.std.proofs.lemmas.List.FromFn.{length-map-range_with_len}
+use Rattle.std.proofs.lemmas.List.Sums.{sum_by-cons}
+use Rattle.std.specs.List.{range_with_len}
+use Rattle.flow_types.specs.declared.parts.Parts.{Parts}
+use Rattle.flow_types.specs.declared.place.CapKind.{CapKind}
+use Rattle.flow_types.specs.declared.place.CapKind.TheVariants as kind
+use Rattle.flow_types.specs.Capacities.{has_kind}
+use Rattle.flow_types.specs.Valid.{IsScenario}
+use Rattle.row_arena.specs.Rows.{most_entry}
+use Rattle.scaled_simplex.specs.Program.{IsCost, Problem, columns, most_indices}
+use Rattle.time_windows.specs.Boxes.{Box}
+use Rattle.bytime_model.specs.declared.names.RowName.{RowName}
+use Rattle.bytime_model.specs.declared.names.RowName.TheVariants.{Connect, Enter, Leave, Mono, Occupy}
+use Rattle.bytime_model.specs.AllRows.{capacity_name, capacity_names, connect_names, enter_names, leave_names, mono_names, node_count, occupy_names, over_all_nodes, over_connections, over_nodes, over_places, rows_of, top_names}
+use Rattle.bytime_model.specs.Rows.{goes_on, is_row}
+use Rattle.bytime_model.specs.Values.{has_inside}
+use Rattle.bytime_model.proofs.AllRowsFacts.{rows_each}
+use Rattle.presolve.specs.Listing.{AddsRows, HaveCosts, kept_among, with_rows}
+use Rattle.presolve.specs.Relaxed.{at_most_one, cost_in, flipped_of, kept_of, kept_row, program_of}
+use Rattle.presolve.specs.Variables.{columns_of}
+use Rattle.presolve.proofs.FreeFacts.{columns_few, flat_few, nodes_few}
+use Rattle.presolve.proofs.PromiseFacts.{every}
+use Rattle.presolve.proofs.RowFacts.{kept_few}
+
+-- how many rows there are at most
+module _ (parts : Parts) (scenario : IsScenario parts) where
+  mapped : (name : ℕ → RowName) (from count : ℕ)
+      → length (map name (range_with_len from count)) ≡ count
+  mapped name from count = length-map-range_with_len name from count
+
+  if_few : (b : Bool) (most : ℕ) (names : List RowName) → length names ≤ most
+      → length (if b then names else []) ≤ most
+  if_few true most names few = few
+  if_few false most names few = omega arith
+
+  flight_few : (names : ℕ → ℕ → List RowName) (most : ℕ)
+      → ((f n : ℕ) → length (names f n) ≤ most)
+      → (f : ℕ) → length (over_nodes parts names f) ≤ 32 * most
+  flight_few names most few f =
+      let all = flat_few (names f) most 0 (node_count (slice_get parts.flights f)) (few f) in
+      let nodes = mul-le-mul_right most (nodes_few parts f scenario) in
+      omega (arith, all, nodes)
+
+  nodes_all : (names : ℕ → ℕ → List RowName) (most : ℕ) → most ≤ 512
+      → ((f n : ℕ) → length (names f n) ≤ most)
+      → length (over_all_nodes parts names) ≤ 32768000
+  nodes_all names most small few =
+      let all = flat_few (over_nodes parts names) (32 * most) 0 (length parts.flights)
+      (flight_few names most few) in
+      let flights = mul-le-mul_right (32 * most) scenario.flights_few in
+      omega (arith, all, flights, small)
+
+  periods : parts.day.periods ≤ 512
+  periods = scenario.day.periods_to
+
+  mono_few : length (over_all_nodes parts (mono_names parts)) ≤ 32768000
+  mono_few = nodes_all (mono_names parts) 512 (omega arith) (λ f n.
+      let same = mapped (Mono f n) 1 (parts.day.periods - 1) in
+      let most = periods in omega (arith, same, most))
+
+  top_few : length (over_all_nodes parts top_names) ≤ 32768000
+  top_few = nodes_all top_names 512 (omega arith) (λ f n. omega arith)
+
+  occupy_few : length (over_all_nodes parts (occupy_names parts)) ≤ 32768000
+  occupy_few = nodes_all (occupy_names parts) 512 (omega arith) (λ f n.
+      if_few (has_inside (slice_get parts.flights f) n) 512
+      (map (Occupy f n) (range_with_len 0 parts.day.periods))
+      (let same = mapped (Occupy f n) 0 parts.day.periods in
+      let most = periods in omega (arith, same, most)))
+
+  enter_few : length (over_all_nodes parts (enter_names parts)) ≤ 32768000
+  enter_few = nodes_all (enter_names parts) 512 (omega arith) (λ f n.
+      if_few (nat_lt 0 n) 512 (map (Enter f n) (range_with_len 0 parts.day.periods))
+      (let same = mapped (Enter f n) 0 parts.day.periods in
+      let most = periods in omega (arith, same, most)))
+
+  leave_few : length (over_all_nodes parts (leave_names parts)) ≤ 32768000
+  leave_few = nodes_all (leave_names parts) 512 (omega arith) (λ f n.
+      if_few (goes_on (slice_get parts.flights f) n) 512 (Leave f n ∷ []) (omega arith))
+
+  places_few : (kind : CapKind) → length (over_places parts kind) ≤ 512000
+  places_few kind =
+      let all = flat_few (capacity_names parts kind) 512 0 (length parts.places) (λ p.
+      if_few (has_kind kind (slice_get parts.places p)) 512
+      (map (capacity_name kind p) (range_with_len 0 parts.day.periods))
+      (let same = mapped (capacity_name kind p) 0 parts.day.periods in
+      let most = periods in omega (arith, same, most))) in
+      let most = scenario.places_few in
+      omega (arith, all, most)
+
+  connections_few : length (over_connections parts) ≤ 2048000
+  connections_few =
+      let all = flat_few (connect_names parts) 512 0 (length parts.connections) (λ c.
+      let same = mapped (Connect c) 0 parts.day.periods in
+      let most = periods in omega (arith, same, most)) in
+      let most = scenario.connections_few in
+      omega (arith, all, most)
+
+  joined : (a b : List RowName) → length (a ++ b) ≡ length a + length b
+  joined a b = length-append a b
+
+  pub rows_few : length (rows_of parts) ≤ 2 ^ 28
+  rows_few =
+      let a = over_all_nodes parts (mono_names parts) in
+      let b = over_all_nodes parts top_names in
+      let d = over_places parts kind.Dep in
+      let e = over_places parts kind.Arr in
+      let f = over_places parts kind.Sector in
+      let g = over_all_nodes parts (occupy_names parts) in
+      let h = over_all_nodes parts (enter_names parts) in
+      let i = over_all_nodes parts (leave_names parts) in
+      let j = over_connections parts in
+      let one = joined a (b ++ (d ++ (e ++ (f ++ (g ++ (h ++ (i ++ j))))))) in
+      let two = joined b (d ++ (e ++ (f ++ (g ++ (h ++ (i ++ j)))))) in
+      let three = joined d (e ++ (f ++ (g ++ (h ++ (i ++ j))))) in
+      let four = joined e (f ++ (g ++ (h ++ (i ++ j)))) in
+      let five = joined f (g ++ (h ++ (i ++ j))) in
+      let six = joined g (h ++ (i ++ j)) in
+      let seven = joined h (i ++ j) in
+      let eight = joined i j in
+      omega (
+        arith,
+        one,
+        two,
+        three,
+        four,
+        five,
+        six,
+        seven,
+        eight,
+        mono_few,
+        top_few,
+        places_few kind.Dep,
+        places_few kind.Arr,
+        places_few kind.Sector,
+        occupy_few,
+        enter_few,
+        leave_few,
+        connections_few,
+      )
+
+pub names_are : (parts : Parts) (names : List RowName) → names ≡ rows_of parts
+    → All (λ name. is_row parts name ≡ true) names
+names_are parts names are =
+    subst (λ list. All (λ name. is_row parts name ≡ true) list) (sym are)
+    (every (λ name. is_row parts name ≡ true) (rows_of parts)
+    (λ name any. (rows_each parts name).0 any))
+
+-- the costs
+module _ (parts : Parts) (box : Box) (values : List ℤ) (paid : ℤ)
+    (have : HaveCosts parts box values paid) where
+  value_size : (list : List ℤ) (k : ℕ) (d : ℤ) → k < length list
+      → unsigned_abs (get_or list k d) ≤ sum_by unsigned_abs list
+  value_size [] k d within = absurd (omega (arith, within))
+  value_size (v ∷ list) zero d within =
+      let all = sum_by-cons unsigned_abs v list in omega (arith, all)
+  value_size (v ∷ list) (suc k) d within =
+      let all = sum_by-cons unsigned_abs v list in
+      let more = value_size list k d (omega (arith, within)) in
+      omega (arith, all, more)
+
+  pub sizes_small : All (λ value. unsigned_abs value < 2 ^ 62) values
+  sizes_small k d within =
+      let one = value_size values k d within in
+      let size = have.size in
+      omega (arith, one, size)
+
+  is_cost : (z : ℤ) → unsigned_abs z < 2 ^ 62 → IsCost (pos (unsigned_abs z))
+  is_cost z small = record { low = omega (arith, ints); near = omega (arith, small) }
+
+  pub sizes_are : (sizes : List ℤ) → sizes ≡ map (λ value. pos (unsigned_abs value)) values
+      → All IsCost sizes
+  sizes_are sizes are =
+      subst (All IsCost) (sym are) (λ k d within.
+      let long = length-map values (λ value. pos (unsigned_abs value)) in
+      let under : k < length values = omega (arith, within, long) in
+      subst IsCost (sym (get_or-map (λ value. pos (unsigned_abs value)) values k (pos 0) d under))
+      (is_cost (get_or values k (pos 0)) (sizes_small k (pos 0) under)))
+
+  pub paid_near : nat_abs paid ≤ most_entry
+  paid_near = let near = have.near in omega (arith, near)
+
+  map_map : {A B : Type 0} (f : ℤ → B) (g : A → ℤ) (xs : List A)
+      → map f (map g xs) ≡ map (λ x. f (g x)) xs
+  map_map f g [] = refl
+  map_map f g (x ∷ xs) = ap (λ list. f (g x) ∷ list) (map_map f g xs)
+
+  pub flips_are : (flips : List Bool) → flips ≡ map (λ value. int_lt value (pos 0)) values
+      → flips ≡ flipped_of parts box
+  flips_are flips are =
+      are ∙ ap (map (λ value. int_lt value (pos 0))) have.values
+      ∙ map_map (λ value. int_lt value (pos 0)) (cost_in parts box) (columns_of parts box)
+
+  pub costs_are : (sizes : List ℤ) → sizes ≡ map (λ value. pos (unsigned_abs value)) values
+      → sizes ≡ (program_of parts box).costs
+  costs_are sizes are =
+      are ∙ ap (map (λ value. pos (unsigned_abs value))) have.values
+      ∙ map_map (λ value. pos (unsigned_abs value)) (cost_in parts box) (columns_of parts box)
+
+  pub costs_long : (sizes : List ℤ) → sizes ≡ map (λ value. pos (unsigned_abs value)) values
+      → length sizes ≡ length (columns_of parts box)
+  costs_long sizes are =
+      ap length are ∙ length-map values (λ value. pos (unsigned_abs value)) ∙ ap length have.values
+      ∙ length-map (columns_of parts box) (cost_in parts box)
+
+  -- the whole
+  pub program_is : (sizes : List ℤ) (first last : Problem)
+      → sizes ≡ map (λ value. pos (unsigned_abs value)) values
+      → first ≡ record { costs = sizes; constant = paid; constraints = [] }
+      → last ≡ with_rows first (program_of parts box).constraints → last ≡ program_of parts box
+  program_is sizes first last are begun whole =
+      whole
+      ∙ ap (λ (p : Problem). with_rows p (program_of parts box).constraints) begun
+      ∙ ap (λ list. record {
+        costs = list;
+        constant = paid;
+        constraints = (program_of parts box).constraints;
+      }) (costs_are sizes are)
+      ∙ ap (λ n. record {
+        costs = (program_of parts box).costs;
+        constant = n;
+        constraints = (program_of parts box).constraints;
+      }) have.constant
+
+pub rows_are : (parts : Parts) (box : Box) (names start kept : List RowName) (count : ℕ)
+    (first second third : Problem) → AddsRows parts box names first second start kept
+    → names ≡ rows_of parts
+    → third ≡ with_rows second (map at_most_one (range_with_len 0 count))
+    → count ≡ length (columns_of parts box)
+    → third ≡ with_rows first (program_of parts box).constraints
+rows_are parts box names start kept count first second third rows named ones long =
+    ones
+    ∙ ap (λ (p : Problem). with_rows p (map at_most_one (range_with_len 0 count))) rows.program
+    ∙ ap (λ list. record {
+      costs = first.costs;
+      constant = first.constant;
+      constraints = list;
+    }) (append_assoc first.constraints (map (kept_row parts box) (kept_among parts box names))
+    (map at_most_one (range_with_len 0 count))
+    ∙ ap (λ list. first.constraints ++ (map (kept_row parts box) (kept_among parts box list)
+    ++ map at_most_one (range_with_len 0 count))) named
+    ∙ ap (λ n. first.constraints ++ (map (kept_row parts box) (kept_of parts box)
+    ++ map at_most_one (range_with_len 0 n))) long)
+
+pub kept_is : (parts : Parts) (box : Box) (names kept : List RowName) (first second : Problem)
+    → AddsRows parts box names first second [] kept → names ≡ rows_of parts
+    → kept ≡ kept_of parts box
+kept_is parts box names kept first second rows named =
+    rows.kept ∙ ap (kept_among parts box) named
+
+-- there is room for all columns and rows
+pub sizes_few : (parts : Parts) (box : Box) (values sizes : List ℤ) (paid : ℤ)
+    → IsScenario parts → HaveCosts parts box values paid
+    → sizes ≡ map (λ value. pos (unsigned_abs value)) values → length sizes ≤ most_indices
+sizes_few parts box values sizes paid scenario have are =
+    let long = costs_long parts box values paid have sizes are in
+    let few = columns_few parts scenario box in
+    omega (arith, long, few)
+
+pub rows_room : (parts : Parts) (box : Box) (names : List RowName) (count : ℕ) (first : Problem)
+    → IsScenario parts → names ≡ rows_of parts → columns first ≡ count
+    → count ≡ length (columns_of parts box) → first.constraints ≡ []
+    → columns first + length first.constraints + length names ≤ most_indices
+rows_room parts box names count first scenario named long count_is none =
+    let rows = rows_few parts scenario in
+    let cols = columns_few parts scenario box in
+    let one = ap length named in
+    let three = ap length none in
+    omega (arith, rows, cols, one, three, long, count_is)
+
+pub ones_room : (parts : Parts) (box : Box) (names start kept : List RowName) (count : ℕ)
+    (first second : Problem) → IsScenario parts → names ≡ rows_of parts
+    → AddsRows parts box names first second start kept → first.constraints ≡ []
+    → columns first ≡ count → count ≡ length (columns_of parts box)
+    → columns second + length second.constraints + count ≤ most_indices
+ones_room parts box names start kept count first second scenario named rows none long count_is =
+    let all = rows_few parts scenario in
+    let cols = columns_few parts scenario box in
+    let one = ap length named in
+    let two = ap (λ (p : Problem). length p.constraints) rows.program in
+    let three = ap columns rows.program in
+    let four = length-append first.constraints
+    (map (kept_row parts box) (kept_among parts box names)) in
+    let five = length-map (kept_among parts box names) (kept_row parts box) in
+    let six = kept_few parts box names in
+    let seven = ap length none in
+    omega (arith, all, cols, one, two, three, four, five, six, seven, long, count_is)

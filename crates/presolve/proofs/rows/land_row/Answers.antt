@@ -1,0 +1,18 @@
+use Rattle.std.proofs.Common.{◌≡◌, ◌∙◌, ◌-ℤ◌, to_z, of_z, w64, subst, arith}
+use Rattle.std.proofs.lemmas.Int.{ints}
+use Rattle.flow_types.specs.Scenario.{parts_of}
+use Rattle.time_windows.specs.Held.{box_of}
+use Rattle.presolve.specs.Gathering.{IsLanded}
+use Rattle.presolve.proofs.RowFacts.{landed}
+use Rattle.presolve.proofs.rows.land_row.Goals as goal
+
+pub returns : goal.returns
+returns c =
+    let less : to_z w64 (of_z w64 c.less.result)
+    ≡ c.fill_with.new.self.limit -ℤ c.land.new.self.fixed =
+    omega (arith, ints, c.less.ensures, c.limit.ensures, c.fixed.ensures) in
+    landed (parts_of c.args.s.now) c.args.name c.fill_with.new.self
+    (c.fill_with.ensures.row (c.fill_with.ensures.told ∙ c.requires.row)) (box_of c.args.boxes.now)
+    c.land.new.self (to_z w64 (of_z w64 c.less.result)) c.args.s.now.valid
+    (subst (λ terms. IsLanded (parts_of c.args.s.now) (box_of c.args.boxes.now) terms
+    c.land.new.self) c.terms.ensures c.in_ok-land.ensures) less

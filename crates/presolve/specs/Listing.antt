@@ -1,0 +1,85 @@
+-- Listing what the program has of its rows. No public clause cites these.
+use Rattle.std.specs.Prelude.{◌≡◌, ◌≢◌, ℕ, ◌^◌, ◌<◌, ◌≤◌, Bool, true, false, List, [], ◌∷◌, ◌++◌, length, map, slice_index_or, sum_by, ℤ, unsigned_abs, if◌then◌else◌}
+use Rattle.std.specs.List.{filter}
+use Rattle.flow_types.specs.declared.parts.Parts.{Parts}
+use Rattle.row_arena.specs.declared.entry.Entry.{Entry}
+use Rattle.scaled_simplex.specs.Program.{Constraint, Problem}
+use Rattle.time_windows.specs.Boxes.{Box}
+use Rattle.time_windows.specs.Held.{Held, box_of}
+use Rattle.bytime_model.specs.declared.names.RowName.{RowName}
+use Rattle.bytime_model.specs.Visits.{AreVisitsOf}
+use Rattle.presolve.specs.declared.frame.Frame.{Frame}
+use Rattle.presolve.specs.Gathering.{IsNumberedFor, size_of}
+use Rattle.presolve.specs.Relaxed.{constant_of, cost_in, flipped_of, kept_row, may_exceed, row_in}
+use Rattle.presolve.specs.Variables.{columns_of}
+
+-- What rows are made by: the numbers of the box's columns, the visits, and which columns are
+-- flipped.
+pub record IsFramed (parts : Parts) (held : Held) (frame : Frame) : Type 0 where
+  pub numbers : IsNumberedFor parts held frame.numbers
+  pub visits : AreVisitsOf parts frame.visits
+  pub flips : frame.flips.items ≡ flipped_of parts (box_of held)
+
+-- how large the factors of a row are together, and how far its limit may be from 0
+abbrev pub most_size : ℕ
+most_size = 2 ^ 52
+
+-- a row that has landed
+pub record IsLandedRow (parts : Parts) (box : Box) (name : RowName) (entries : List Entry)
+    (most : ℤ) : Type 0 where
+  pub terms : entries ≡ (row_in parts box name).terms
+  pub limit : most ≡ (row_in parts box name).limit
+  pub size : size_of entries ≤ most_size
+  pub near : unsigned_abs most ≤ most_size
+
+-- the name, where its row may be exceeded
+abbrev pub kept_if : Parts → Box → RowName → List RowName
+kept_if parts box name = if may_exceed (row_in parts box name) then name ∷ [] else []
+
+-- a program with more rows
+abbrev pub with_rows : Problem → List Constraint → Problem
+with_rows problem rows = record {
+  costs = problem.costs;
+  constant = problem.constant;
+  constraints = problem.constraints ++ rows;
+}
+
+-- at most one row more
+pub record AddsRow (parts : Parts) (box : Box) (name : RowName) (old new : Problem)
+    (before after : List RowName) : Type 0 where
+  pub program : new ≡ with_rows old (map (kept_row parts box) (kept_if parts box name))
+  pub kept : after ≡ before ++ kept_if parts box name
+
+-- the rows of names
+abbrev pub kept_among : Parts → Box → List RowName → List RowName
+kept_among parts box names = filter (λ name. may_exceed (row_in parts box name)) names
+
+pub record AddsRows (parts : Parts) (box : Box) (names : List RowName) (old new : Problem)
+    (before after : List RowName) : Type 0 where
+  pub program : new ≡ with_rows old (map (kept_row parts box) (kept_among parts box names))
+  pub kept : after ≡ before ++ kept_among parts box names
+
+-- how many columns there may be
+abbrev pub most_columns : ℕ
+most_columns = 2 ^ 26
+
+-- The entries before a place are in earlier columns, and the others aren't.
+pub record IsWalked (column : ℕ) (entries : List Entry) (place : ℕ) : Type 0 where
+  pub within : place ≤ length entries
+  pub before : (k : ℕ) (d : Entry) → k < place → (slice_index_or entries k d).column < column
+  pub after : (k : ℕ) (d : Entry) → place ≤ k → k < length entries
+      → column ≤ (slice_index_or entries k d).column
+
+-- whether the entry at the place is the column's
+pub record IsAt (column : ℕ) (entries : List Entry) (place : ℕ) (at : Bool) : Type 0 where
+  pub within : at ≡ true → place < length entries
+  pub here : at ≡ true → (d : Entry) → (slice_index_or entries place d).column ≡ column
+  pub other : at ≡ false → place < length entries → (d : Entry)
+      → (slice_index_or entries place d).column ≢ column
+
+-- what the variables of the columns cost, and what is paid with each column at 0
+pub record HaveCosts (parts : Parts) (box : Box) (costs : List ℤ) (paid : ℤ) : Type 0 where
+  pub values : costs ≡ map (cost_in parts box) (columns_of parts box)
+  pub constant : paid ≡ constant_of parts box
+  pub size : sum_by unsigned_abs costs ≤ 2 ^ 59
+  pub near : unsigned_abs paid ≤ 2 ^ 61

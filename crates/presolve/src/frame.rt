@@ -1,0 +1,32 @@
+//! What the rows of a box's program are made by.
+
+use crate::gather::Gathering;
+use crate::numbers::Numbers;
+use bytime_model::{RowBuffer, Visits};
+use flow_types::OutOfMemory;
+use std::alloc::Global;
+
+/// The numbers of the columns, the visits to each place, and which columns are flipped.
+#[derive(Debug, Drop)]
+pub struct Frame {
+    pub numbers: Numbers,
+    pub visits: Visits,
+    pub flips: Vec<bool>,
+}
+
+/// Room for a row, and for what lands of it.
+#[derive(Debug, Drop)]
+pub struct Room {
+    pub buffer: RowBuffer,
+    pub gathering: Gathering,
+}
+
+impl Room {
+    /// Room for any row: 0.2 MB.
+    pub fn new(alloc: Global) -> Result<Room, OutOfMemory> {
+        Ok(Room {
+            buffer: RowBuffer::new(alloc)?,
+            gathering: Gathering::empty(alloc),
+        })
+    }
+}

@@ -1,0 +1,153 @@
+//! The rows of the program.
+ghost use Rattle.std.specs.Prelude.{◌≡◌, ◌<◌, ◌≤◌, ◌+◌, ◌^◌, ◌-ℤ◌, ◌∷◌, [], All, IfOk, OnOk, length, map, true, unsigned_abs};
+ghost use Rattle.std.specs.List.{range_with_len};
+ghost use Rattle.bytime_model.specs.Rows.{is_row};
+ghost use Rattle.flow_types.specs.Scenario.{parts_of};
+ghost use Rattle.presolve.specs.Gathering.{size_of};
+ghost use Rattle.presolve.specs.Listing.{AddsRow, AddsRows, IsFramed, IsLandedRow, most_size, with_rows};
+ghost use Rattle.presolve.specs.Relaxed.{at_most_one, flipped_row};
+ghost use Rattle.presolve.specs.Variables.{columns_of};
+ghost use Rattle.row_arena.specs.Rows.{IsRow};
+ghost use Rattle.scaled_simplex.specs.Program.{columns, most_indices};
+ghost use Rattle.time_windows.specs.Held.{box_of};
+
+use crate::flips::{flipped_sum, greatest};
+use crate::frame::{Frame, Room};
+use crate::gather::Gathering;
+use bytime_model::{RowName, RowNames};
+use flow_types::{OutOfMemory, Scenario};
+use row_arena::Entry;
+use scaled_simplex::Program;
+use std::alloc::Global;
+use time_windows::Boxes;
+
+// A limit, less what is taken from it.
+fn less(limit: i64, taken: i64) -> i64
+    requires { unsigned_abs limit + unsigned_abs taken < 2 ^ 62 }
+    ensures { result ≡ limit -ℤ taken }
+{
+    limit - taken
+}
+
+// Lands the row of this name, and gives its limit.
+#[tactic(auto, using(crate::proofs::RowFacts::row_there_at, crate::proofs::RowFacts::factors_small, crate::proofs::RowFacts::few_landed, crate::proofs::RowFacts::limit_near, crate::proofs::RowFacts::landed))]
+fn land_row(
+    room: &mut Room,
+    frame: &Frame,
+    s: &Scenario,
+    boxes: &Boxes,
+    name: RowName,
+) -> Result<i64, OutOfMemory>
+    requires framed { IsFramed (parts_of s.now) boxes.now frame.now }
+    requires row { is_row (parts_of s.now) name ≡ true }
+    ensures { IfOk result (IsLandedRow (parts_of s.now) (box_of boxes.now) name
+        room.new.gathering.entries) }
+{
+    room.buffer.fill_with(s, &frame.visits, name);
+    room.gathering
+        .land(&frame.numbers, s, boxes, room.buffer.terms())?;
+    Ok(less(room.buffer.limit(), room.gathering.fixed()))
+}
+
+// Adds the row that has landed, with flipped columns rewritten.
+fn add_landed(
+    program: &mut Program,
+    alloc: Global,
+    row: &mut Gathering,
+    flips: &[bool],
+    limit: i64,
+) -> Result<(), OutOfMemory>
+    requires row { IsRow row.old.entries }
+    requires within { All (λ entry. entry.column < columns program.old) row.old.entries }
+    requires flips { length flips.now ≡ columns program.old }
+    requires size { size_of row.old.entries ≤ most_size }
+    requires near { unsigned_abs limit ≤ most_size }
+    requires few { columns program.old + length program.old.constraints < most_indices }
+    ensures { OnOk result (program.new ≡ with_rows program.old (flipped_row flips.now
+        (record { terms = row.old.entries; limit = limit }) ∷ [])) }
+{
+    let limit = less(limit, flipped_sum(flips, row.entries()));
+    row.flip(flips);
+    program.add_row(alloc, row.entries(), limit)?;
+    Ok(())
+}
+
+// Adds the row of this name, if values of the columns may exceed it.
+#[tactic(auto, using(crate::proofs::RowFacts::landed_row_is, crate::proofs::RowFacts::landed_within, crate::proofs::RowFacts::adds_kept, crate::proofs::RowFacts::adds_none, crate::proofs::RowFacts::greatest_room))]
+fn add_row(
+    program: &mut Program,
+    kept: &mut RowNames,
+    alloc: Global,
+    room: &mut Room,
+    frame: &Frame,
+    s: &Scenario,
+    boxes: &Boxes,
+    name: RowName,
+) -> Result<(), OutOfMemory>
+    requires framed { IsFramed (parts_of s.now) boxes.now frame.now }
+    requires row { is_row (parts_of s.now) name ≡ true }
+    requires columns { columns program.old
+        ≡ length (columns_of (parts_of s.now) (box_of boxes.now)) }
+    requires few { columns program.old + length program.old.constraints < most_indices }
+    ensures { OnOk result (AddsRow (parts_of s.now) (box_of boxes.now) name program.old program.new
+        kept.old kept.new) }
+{
+    let limit = land_row(room, frame, s, boxes, name)?;
+    if limit < greatest(room.gathering.entries()) {
+        add_landed(program, alloc, &mut room.gathering, &frame.flips, limit)?;
+        kept.add(name)?;
+    }
+    Ok(())
+}
+
+/// Adds the rows of these names that values of the columns may exceed.
+#[tactic(auto, using(crate::proofs::RowFacts::rows_none, crate::proofs::RowFacts::rows_room, crate::proofs::RowFacts::rows_columns))]
+pub fn add_rows(
+    program: &mut Program,
+    kept: &mut RowNames,
+    alloc: Global,
+    frame: &Frame,
+    s: &Scenario,
+    boxes: &Boxes,
+    names: &[RowName],
+) -> Result<(), OutOfMemory>
+    requires framed { IsFramed (parts_of s.now) boxes.now frame.now }
+    requires rows { All (λ name. is_row (parts_of s.now) name ≡ true) names.now }
+    requires columns { columns program.old
+        ≡ length (columns_of (parts_of s.now) (box_of boxes.now)) }
+    requires few { columns program.old + length program.old.constraints + length names.now
+        ≤ most_indices }
+    ensures { OnOk result (AddsRows (parts_of s.now) (box_of boxes.now) names.now program.old
+        program.new kept.old kept.new) }
+{
+    let mut room = Room::new(alloc)?;
+    for name in names {
+        add_row(program, kept, alloc, &mut room, frame, s, boxes, *name)?;
+    }
+    Ok(())
+}
+
+// Adds that the column is at most 1.
+#[tactic(auto, using(crate::proofs::RowFacts::one_constraint))]
+fn add_one(program: &mut Program, alloc: Global, column: u32) -> Result<(), OutOfMemory>
+    requires within { column < columns program.old }
+    requires few { columns program.old + length program.old.constraints < most_indices }
+    ensures { OnOk result (program.new ≡ with_rows program.old (at_most_one column ∷ [])) }
+{
+    program.add_row(alloc, &[Entry { column, value: 1 }], 1)?;
+    Ok(())
+}
+
+/// Adds that each column is at most 1.
+#[tactic(auto, using(crate::proofs::RowFacts::ones_none, crate::proofs::RowFacts::ones_room, crate::proofs::RowFacts::ones_within))]
+pub fn add_ones(program: &mut Program, alloc: Global, count: usize) -> Result<(), OutOfMemory>
+    requires count { count ≡ columns program.old }
+    requires few { columns program.old + length program.old.constraints + count ≤ most_indices }
+    ensures { OnOk result (program.new ≡ with_rows program.old
+        (map at_most_one (range_with_len 0 count))) }
+{
+    for column in 0..count {
+        add_one(program, alloc, column as u32)?;
+    }
+    Ok(())
+}
