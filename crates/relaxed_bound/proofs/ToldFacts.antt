@@ -1,0 +1,205 @@
+-- The leaf that a run tells: its numbers are in range, its rows are there, and on a live box it has
+-- no fault.
+use Rattle.std.proofs.Common.{◌≡◌, ℕ, ◌^◌, ◌<◌, ◌≤◌, Bool, true, false, List, [], ◌∷◌, length, All, if◌then◌else◌, Ok, Err, ℤ, pos, negsuc, neg_ℤ, ◌≤ℤ◌, ◌<ℤ◌, nat_abs, unsigned_abs, inl, inr, refl, sym, ap, ◌∙◌, subst, arith}
+use Rattle.std.proofs.lemmas.Int.{ints}
+use Rattle.std.proofs.lemmas.List.{length-append}
+use Rattle.std.proofs.lemmas.List.Elements.{All-append, All-cons, All-nil, All-tail}
+use Rattle.std.specs.Ordering.{int_eq}
+use Rattle.exact_sums.proofs.ItemFacts.{All-item}
+use Rattle.flow_types.specs.declared.parts.Parts.{Parts}
+use Rattle.row_arena.specs.Rows.{most_entry}
+use Rattle.scaled_simplex.specs.declared.solver.Weights.{Weights}
+use Rattle.scaled_simplex.specs.Multipliers.{IsTold, multipliers_of}
+use Rattle.scaled_simplex.specs.Program.{IsProblem, Problem, most_indices}
+use Rattle.scaled_simplex.specs.Run.{Outcome, is_infeasible, value_in, weight_in}
+use Rattle.time_windows.specs.Boxes.{Box}
+use Rattle.bytime_model.specs.declared.names.RowName.{RowName}
+use Rattle.bytime_model.specs.declared.variables.Var.{Var}
+use Rattle.bytime_model.specs.Rows.{is_row}
+use Rattle.branch_tree.specs.declared.leaf.Leaf.{Leaf}
+use Rattle.branch_tree.specs.declared.leaf.Multiplier.{Multiplier}
+use Rattle.branch_tree.specs.Leaves.{HasRange, IsInRange}
+use Rattle.dual_leaf.specs.declared.fault.LeafFault.{LeafFault}
+use Rattle.dual_leaf.specs.declared.fault.LeafFault.TheVariants.{Closed, NotEmpty, NotUnit, UnknownRow, Useless}
+use Rattle.dual_leaf.specs.Dual.{AreKnown, IsChoice, dual_at}
+use Rattle.dual_leaf.specs.Leaf.{IsDualBound, IsDualFault, IsLive}
+use Rattle.presolve.specs.Leaf.{IsBelowLeaf, leaf_rows, unless_never}
+use Rattle.presolve.specs.Relaxed.{kept_of, program_of}
+use Rattle.presolve.proofs.PromiseFacts.{kept_are}
+use Rattle.relaxed_bound.specs.Relaxed.{outcome_leaf, told_leaf}
+use Rattle.relaxed_bound.specs.Telling.{AreWeights, HasBound}
+
+-- a number that isn't far from 0
+near_below : (z : ℤ) → nat_abs z ≤ most_entry → unsigned_abs z < 2 ^ 62
+near_below (pos n) near = omega (arith, near)
+near_below (negsuc n) near = omega (arith, near)
+
+-- what holds of each name and multiplier holds of each row
+module _ (P : Multiplier → Type 0) where
+  kept_one : (name : RowName) (multiplier : ℤ)
+      → P (record { row = name; value = unsigned_abs multiplier })
+      → All P (unless_never name multiplier)
+  kept_one name multiplier own = by (int_eq multiplier (pos 0))
+    where
+      by : (b : Bool) → All P (if b then []
+          else record { row = name; value = unsigned_abs multiplier } ∷ [])
+      by true = All-nil P
+      by false =
+          All-cons P (record { row = name; value = unsigned_abs multiplier }) [] own (All-nil P)
+
+rows_known : (parts : Parts) (names : List RowName) (multipliers : List ℤ)
+    → All (λ name. is_row parts name ≡ true) names
+    → All (λ row. is_row parts row.row ≡ true) (leaf_rows names multipliers)
+rows_known parts [] multipliers known = All-nil (λ row. is_row parts row.row ≡ true)
+rows_known parts (name ∷ names) [] known = All-nil (λ row. is_row parts row.row ≡ true)
+rows_known parts (name ∷ names) (multiplier ∷ multipliers) known =
+    All-append (λ row. is_row parts row.row ≡ true) (unless_never name multiplier)
+    (leaf_rows names multipliers)
+    (kept_one (λ row. is_row parts row.row ≡ true) name multiplier (known 0 name (omega arith)))
+    (rows_known parts names multipliers
+    (All-tail (λ n. is_row parts n ≡ true) name names known))
+
+rows_near : (names : List RowName) (multipliers : List ℤ)
+    → All (λ multiplier. nat_abs multiplier ≤ most_entry) multipliers
+    → All (λ row. row.value < 2 ^ 62) (leaf_rows names multipliers)
+rows_near [] multipliers near = All-nil (λ row. row.value < 2 ^ 62)
+rows_near (name ∷ names) [] near = All-nil (λ row. row.value < 2 ^ 62)
+rows_near (name ∷ names) (multiplier ∷ multipliers) near =
+    All-append (λ row. row.value < 2 ^ 62) (unless_never name multiplier)
+    (leaf_rows names multipliers)
+    (kept_one (λ row. row.value < 2 ^ 62) name multiplier
+    (near_below multiplier (near 0 multiplier (omega arith))))
+    (rows_near names multipliers
+    (All-tail (λ m. nat_abs m ≤ most_entry) multiplier multipliers near))
+
+one_few : (name : RowName) (multiplier : ℤ) → length (unless_never name multiplier) ≤ 1
+one_few name multiplier = by (int_eq multiplier (pos 0))
+  where
+    by : (b : Bool) → length {A = Multiplier} (if b then []
+        else record { row = name; value = unsigned_abs multiplier } ∷ []) ≤ 1
+    by true = omega arith
+    by false = omega arith
+
+rows_few : (names : List RowName) (multipliers : List ℤ)
+    → length (leaf_rows names multipliers) ≤ length multipliers
+rows_few [] multipliers = omega arith
+rows_few (name ∷ names) [] = omega arith
+rows_few (name ∷ names) (multiplier ∷ multipliers) =
+    omega (
+      arith,
+      length-append (unless_never name multiplier) (leaf_rows names multipliers),
+      one_few name multiplier,
+      rows_few names multipliers,
+    )
+
+-- how many multipliers are told
+told_few : (problem : Problem) (outcome : Outcome) → IsProblem problem → IsTold problem outcome
+    → length (multipliers_of problem outcome) ≤ most_indices
+told_few problem outcome valid told = by (is_infeasible outcome.end) refl
+  where
+    by : (b : Bool) → is_infeasible outcome.end ≡ b
+        → length (multipliers_of problem outcome) ≤ most_indices
+    by true is = omega (arith, (told.refutation is).multipliers.count, valid.few)
+    by false is = omega (arith, (told.bound is).multipliers.count, valid.few)
+
+-- the leaf is in range
+pub told_range : (leaf : Leaf) (names : List RowName) (problem : Problem) (outcome : Outcome)
+    (weights : Weights) → AreWeights problem outcome weights
+    → leaf ≡ told_leaf names weights.weight weights.rows → IsInRange leaf
+told_range leaf names problem outcome weights are leaf_is = subst IsInRange (sym leaf_is) range
+  where
+    range : HasRange (unsigned_abs weights.weight) (leaf_rows names weights.rows)
+    range = record {
+      weight_to = near_below weights.weight are.near;
+      values = rows_near names weights.rows are.rows_near;
+      few =
+          let most = told_few problem outcome are.valid are.told in
+          let count = ap length are.rows in
+          omega (arith, rows_few names weights.rows, most, count);
+    }
+
+module _ (parts : Parts) (box : Box) (outcome : Outcome) where
+  abbrev program : Problem
+  program = program_of parts box
+
+  abbrev weight : ℕ
+  weight = unsigned_abs (weight_in program outcome)
+
+  abbrev rows : List Multiplier
+  rows = leaf_rows (kept_of parts box) (multipliers_of program outcome)
+
+  known : AreKnown parts rows
+  known k row at =
+      All-item (λ one. is_row parts one.row ≡ true) rows k row
+      (rows_known parts (kept_of parts box) (multipliers_of program outcome)
+      (kept_are parts box)) at
+
+  module _ (told : IsTold program outcome) (promise : IsBelowLeaf parts box program (kept_of parts box))
+    where
+      -- with the weight 0 the value is above 0
+      positive : weight ≡ 0 → (choice : Var → ℕ) → IsChoice parts.flights box choice
+          → pos 0 <ℤ dual_at parts weight rows choice
+      positive none choice is = by (is_infeasible outcome.end) refl
+        where
+          by : (b : Bool) → is_infeasible outcome.end ≡ b
+              → pos 0 <ℤ dual_at parts weight rows choice
+          by false isnt = absurd (no_weight (weight_in program outcome) (told.bound isnt).weight none)
+            where
+              no_weight : (z : ℤ) → pos 0 <ℤ z → unsigned_abs z ≡ 0 → ⊥
+              no_weight (pos n) above zero = omega (arith, ints, above, zero)
+              no_weight (negsuc n) above zero = omega (arith, ints, above, zero)
+          by true infeasible =
+              let refuted = told.refutation infeasible in
+              let low : neg_ℤ (value_in program outcome) ≤ℤ dual_at parts weight rows choice =
+              subst (λ w. neg_ℤ (value_in program outcome) ≤ℤ dual_at parts w rows choice) (sym none)
+              (promise 0 (multipliers_of program outcome) (neg_ℤ (value_in program outcome))
+              refuted.multipliers choice is) in
+              omega (arith, ints, refuted.positive, low)
+
+      no_fault : (fault : LeafFault) → IsDualBound parts box weight rows (Err fault) → ⊥
+      no_fault fault bound =
+          let reached = bound.least.reached in
+          let above = positive bound.said.0 reached.0 reached.1 in
+          omega (arith, ints, above, reached.2, bound.said.1)
+
+      never : (live : IsLive box) (fault : LeafFault) → IsDualFault parts box rows (Err fault) → ⊥
+      never live NotEmpty none = none
+      never live (NotUnit flight node) none = none
+      never live (Closed flight node) first = live flight node first.here
+      never live (UnknownRow position) (same, first) =
+          let here : is_row parts first.multiplier.row ≡ true =
+          known position first.multiplier first.here in
+          cc (here, first.unknown)
+      never live (Useless value) none = none
+
+      told_bound : HasBound parts box (outcome_leaf parts box outcome)
+      told_bound live (Ok bound) is = refl
+      told_bound live (Err fault) (inl bound) = absurd (no_fault fault bound)
+      told_bound live (Err fault) (inr first) = absurd (never live fault first)
+
+-- it is that of the run of the box's program
+told_is : (parts : Parts) (box : Box) (leaf : Leaf) (names : List RowName) (problem : Problem)
+    (outcome : Outcome) (weights : Weights) → AreWeights problem outcome weights
+    → problem ≡ program_of parts box → names ≡ kept_of parts box
+    → leaf ≡ told_leaf names weights.weight weights.rows
+    → leaf ≡ outcome_leaf parts box outcome
+told_is parts box leaf names problem outcome weights are program_is names_are leaf_is =
+    leaf_is
+    ∙ ap (λ w. told_leaf names w weights.rows) are.weight
+    ∙ ap (λ rows. told_leaf names (weight_in problem outcome) rows) are.rows
+    ∙ ap (λ p. told_leaf names (weight_in p outcome) (multipliers_of p outcome)) program_is
+    ∙ ap (λ ns. told_leaf ns (weight_in (program_of parts box) outcome)
+    (multipliers_of (program_of parts box) outcome)) names_are
+
+-- on a live box it has a bound
+pub told_has : (parts : Parts) (box : Box) (leaf : Leaf) (names : List RowName) (problem : Problem)
+    (outcome : Outcome) (weights : Weights) → AreWeights problem outcome weights
+    → problem ≡ program_of parts box → names ≡ kept_of parts box
+    → IsBelowLeaf parts box problem names
+    → leaf ≡ told_leaf names weights.weight weights.rows → HasBound parts box leaf
+told_has parts box leaf names problem outcome weights are program_is names_are promise leaf_is =
+    subst (HasBound parts box)
+    (sym (told_is parts box leaf names problem outcome weights are program_is names_are leaf_is))
+    (told_bound parts box outcome (subst (λ p. IsTold p outcome) program_is are.told)
+    (subst (IsBelowLeaf parts box (program_of parts box)) names_are
+    (subst (λ p. IsBelowLeaf parts box p names) program_is promise)))

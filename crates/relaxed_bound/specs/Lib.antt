@@ -1,0 +1,3 @@
+pub mod Relaxed
+pub mod Root
+pub mod Telling

@@ -1,0 +1,29 @@
+-- What the end of a run tells, and the leaf that it gives. No public clause cites these.
+use Rattle.std.specs.Prelude.{◌≡◌, ◌≤◌, All, Result, nat_abs}
+use Rattle.std.specs.Result.{IsOk}
+use Rattle.flow_types.specs.declared.bound.Bound.{Bound}
+use Rattle.flow_types.specs.declared.parts.Parts.{Parts}
+use Rattle.row_arena.specs.Rows.{most_entry}
+use Rattle.scaled_simplex.specs.declared.solver.Weights.{Weights}
+use Rattle.scaled_simplex.specs.Multipliers.{IsTold, multipliers_of}
+use Rattle.scaled_simplex.specs.Program.{IsProblem, Problem}
+use Rattle.scaled_simplex.specs.Run.{Outcome, weight_in}
+use Rattle.time_windows.specs.Boxes.{Box}
+use Rattle.branch_tree.specs.declared.leaf.Leaf.{Leaf}
+use Rattle.dual_leaf.specs.declared.fault.LeafFault.{LeafFault}
+use Rattle.dual_leaf.specs.Leaf.{IsLeafBound, IsLive}
+
+-- the weight and the multipliers of an outcome, none of them far from 0, and what they tell
+pub record AreWeights (problem : Problem) (outcome : Outcome) (weights : Weights) : Type 0 where
+  pub weight : weights.weight ≡ weight_in problem outcome
+  pub rows : weights.rows ≡ multipliers_of problem outcome
+  pub near : nat_abs weights.weight ≤ most_entry
+  pub rows_near : All (λ multiplier. nat_abs multiplier ≤ most_entry) weights.rows
+  pub valid : IsProblem problem
+  pub told : IsTold problem outcome
+
+-- on a live box the leaf has no fault
+abbrev pub HasBound : Parts → Box → Leaf → Type 0
+HasBound parts box leaf =
+    IsLive box → (answer : Result Bound LeafFault) → IsLeafBound parts box leaf answer
+    → IsOk answer
