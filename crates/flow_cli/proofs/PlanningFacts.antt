@@ -10,9 +10,9 @@ use Rattle.flow_types.specs.Feasible.{IsFeasible}
 use Rattle.time_windows.specs.declared.access.Access.{Access}
 use Rattle.time_windows.specs.Boxes.{Box, IsInBox, IsWindowWithin, IsWithin}
 use Rattle.time_windows.specs.Tight.{IsTightened}
-use Rattle.greedy_plan.specs.FirstBound.{IsBoundIn}
+use Rattle.dual_leaf.specs.Leaf.{IsBoundOn}
 use Rattle.flow_cli.specs.declared.outcome.Costed.{Costed}
-use Rattle.flow_cli.specs.Planning.{IsCosted, plan_in}
+use Rattle.flow_cli.specs.Planning.{IsCosted, cost_kept, plan_in}
 
 within_same : (inner box other : Box) → ((f n : ℕ) → other f n ≡ box f n) → IsWithin inner other
     → IsWithin inner box
@@ -40,16 +40,16 @@ kept_feasible parts (Some kept) is = is.feasible
 
 pub kept_cost : (parts : Parts) (kept : Option Costed)
     → IfSome kept (λ k. IsCosted parts k.plan k.cost)
-    → option_map (λ (k : Costed). k.cost) kept
+    → cost_kept kept
     ≡ option_map (plan_cost parts.tables parts.flights) (plan_in kept)
 kept_cost parts None is = refl
 kept_cost parts (Some kept) is = ap Some is.price
 
 -- what bounds the plans in a box bounds all of them, where every feasible plan is in it
-pub bound_of_all : (parts : Parts) (box : Box) (bound : Bound) → IsBoundIn parts box bound
+pub bound_of_all : (parts : Parts) (box : Box) (bound : Bound) → IsBoundOn parts box bound
     → ((plan : List (List Stop)) → IsFeasible parts plan → IsInBox box plan)
     → IsBound parts bound
 bound_of_all parts box NoPlan is inside =
-    λ plan feasible. is plan feasible.trips (inside plan feasible)
+    λ plan feasible. is plan feasible (inside plan feasible)
 bound_of_all parts box (AtLeast least) is inside =
-    λ plan feasible. is plan feasible.trips (inside plan feasible)
+    λ plan feasible. is plan feasible (inside plan feasible)

@@ -8,8 +8,9 @@ use Rattle.flow_types.specs.declared.plan.Stop.{Stop}
 use Rattle.flow_types.specs.Bounds.{IsBound}
 use Rattle.flow_types.specs.Costs.{plan_cost}
 use Rattle.flow_types.specs.Feasible.{IsFeasible}
-use Rattle.greedy_plan.specs.FirstBound.{IsFirstBound}
 use Rattle.greedy_plan.specs.Greedy.{IsGreedy, IsStuck}
+use Rattle.relaxed_bound.specs.declared.limits.Limits.{Limits}
+use Rattle.relaxed_bound.specs.Root.{IsRootBound}
 use Rattle.time_windows.specs.Boxes.{Box, root_box}
 use Rattle.time_windows.specs.Tight.{IsTightened}
 use Rattle.flow_cli.specs.declared.outcome.Costed.{Costed}
@@ -38,6 +39,15 @@ IsFirstPlan parts box None =
     (kept : List (List Stop)) × (flight : ℕ) × IsStuck parts box kept flight
 IsFirstPlan parts box (Some plan) = IsGreedy parts box plan
 
+-- what it costs
+abbrev pub cost_kept : Option Costed → Option ℤ
+cost_kept None = None
+cost_kept (Some kept) = Some kept.cost
+
+-- how far the run of the relaxation may go
+abbrev pub root_limits : Limits
+root_limits = record { pivots = 20000; cells = 2000000 }
+
 -- What is printed of a day: a plan that keeps every rule, if there is a plan, at its cost, and a
 -- bound that no plan is cheaper than. Both are those of the tight root box.
 pub record IsPlannedDay (parts : Parts) (answer : Printed) : Type 0 where
@@ -51,7 +61,8 @@ pub record IsPlannedDay (parts : Parts) (answer : Printed) : Type 0 where
   pub within : Box
   pub tight : IsTightened parts (root_box parts) within
   pub first_plan : IsFirstPlan parts within plan
-  pub first_bound : IsFirstBound parts within bound
+  pub root_bound : IsRootBound parts within root_limits
+      (option_map (plan_cost parts.tables parts.flights) plan) bound
 
 -- the name holds a day, which is planned
 pub record IsPlanned (held : Option Held) (name : List ℕ) (answer : Printed) : Type 0 where

@@ -1,15 +1,18 @@
 //! What planning a day comes to.
 ghost use Rattle.std.specs.Prelude.{◌≡◌, IfOk, IfSome};
 ghost use Rattle.flow_types.specs.Scenario.{parts_of};
-ghost use Rattle.greedy_plan.specs.FirstBound.{IsFirstBound};
+ghost use Rattle.dual_leaf.specs.Leaf.{IsBoundOn};
 ghost use Rattle.greedy_plan.specs.Greedy.{IfPlanned, IsGreedyAnswer};
 ghost use Rattle.flow_types.specs.Feasible.{IsFeasible};
 ghost use Rattle.time_windows.specs.Held.{IsMadeFor, box_of};
-ghost use Rattle.flow_cli.specs.Planning.{IsCosted, IsFirstPlan, plan_in, plan_kept};
+ghost use Rattle.time_windows.specs.Tight.{IsTight};
+ghost use Rattle.relaxed_bound.specs.Root.{IsRootBound};
+ghost use Rattle.flow_cli.specs.Planning.{IsCosted, IsFirstPlan, cost_kept, plan_in, plan_kept, root_limits};
 
 use flow_types::{Bound, OutOfMemory, Plan, Scenario};
-use greedy_plan::{Greedy, first_bound, first_plan};
+use greedy_plan::{Greedy, first_plan};
 use plan_rules::cost;
+use relaxed_bound::{Limits, root_bound};
 use std::alloc::Global;
 use time_windows::Boxes;
 
@@ -27,19 +30,38 @@ pub struct Outcome {
     pub bound: Bound,
 }
 
-/// The greedy plan in the box, and the bound that goes with it.
+// How far the run of the relaxation may go.
+const ROOT_LIMITS: Limits = Limits {
+    pivots: 20_000,
+    cells: 2_000_000,
+};
+
+/// The greedy plan in the box, and the box's bound, for which the plan's cost is the cutoff.
 pub fn outcome_in(alloc: Global, s: &Scenario, boxes: &Boxes) -> Result<Outcome, OutOfMemory>
-    requires { IsMadeFor (parts_of s.now) boxes.now }
+    requires made { IsMadeFor (parts_of s.now) boxes.now }
+    requires tight { IsTight (parts_of s.now) (box_of boxes.now) }
     ensures kept { IfOk result
         (λ outcome. IfSome outcome.kept (λ kept. IsCosted (parts_of s.now) kept.plan kept.cost)) }
     ensures first_plan { IfOk result
         (λ outcome. IsFirstPlan (parts_of s.now) (box_of boxes.now) (plan_kept outcome)) }
-    ensures first_bound { IfOk result
-        (λ outcome. IsFirstBound (parts_of s.now) (box_of boxes.now) outcome.bound) }
+    ensures root_bound { IfOk result (λ outcome. IsRootBound (parts_of s.now) (box_of boxes.now)
+        root_limits (cost_kept outcome.kept) outcome.bound) }
+    ensures sound { IfOk result
+        (λ outcome. IsBoundOn (parts_of s.now) (box_of boxes.now) outcome.bound) }
 {
-    let bound = first_bound(alloc, s, boxes)?;
     let kept = kept_of(s, boxes, first_plan(alloc, s, boxes)?);
+    let bound = root_bound(alloc, s, boxes, ROOT_LIMITS, cost_kept(&kept))?;
     Ok(Outcome { kept, bound })
+}
+
+/// The cost of the plan that was kept, if one was.
+pub fn cost_kept(kept: &Option<Costed>) -> Option<i64>
+    ensures { result ≡ cost_kept kept.now }
+{
+    match kept {
+        None => None,
+        Some(kept) => Some(kept.cost),
+    }
 }
 
 // The greedy plan with its cost, nothing where it is stuck.

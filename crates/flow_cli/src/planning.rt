@@ -8,12 +8,11 @@ ghost use Rattle.flow_cli.specs.Planning.{IsOfPlan, IsPlannedDay};
 ghost use Rattle.flow_cli.specs.Reading.{IsQuiet};
 
 use crate::answer::{Answer, EarlyEnd};
-use crate::outcome::outcome_in;
+use crate::outcome::{cost_kept, outcome_in};
 use crate::reading::day_of;
-use crate::report::{cost_of, plan_report, status_of};
+use crate::report::{plan_report, status_of};
 use flow_outside::Files;
 use flow_types::{OutOfMemory, Scenario};
-use greedy_plan::first_bounds_are_bounds;
 use std::alloc::Global;
 use time_windows::{Boxes, trips_are_in_the_root_box};
 
@@ -35,10 +34,9 @@ fn plan_day(alloc: Global, s: &Scenario) -> Result<Answer, OutOfMemory>
     let mut boxes = Boxes::root(alloc, s)?;
     boxes.tighten(s);
     let outcome = outcome_in(alloc, s, &boxes)?;
-    first_bounds_are_bounds();
     trips_are_in_the_root_box();
     Ok(Answer::of(
         plan_report(alloc, s, &outcome, 1)?,
-        status_of(cost_of(&outcome), outcome.bound),
+        status_of(cost_kept(&outcome.kept), outcome.bound),
     ))
 }

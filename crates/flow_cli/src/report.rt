@@ -2,7 +2,6 @@
 ghost use Rattle.std.specs.Prelude.{◌≡◌, ◌++◌, Option, None, Some, IfOk, IfSome, OnOk, codes, option_map};
 ghost use Rattle.std.specs.Fmt.{decimal};
 ghost use Rattle.flow_cli.specs.Planning.{IsCosted, plan_kept};
-ghost use Rattle.flow_cli.specs.declared.outcome.Costed.{Costed};
 ghost use Rattle.flow_types.specs.Scenario.{parts_of};
 ghost use Rattle.flow_cli.specs.Lines.{line_text};
 ghost use Rattle.flow_cli.specs.Status.{status_of};
@@ -115,16 +114,6 @@ fn put_trips(
         put(out, &trip_line(alloc, s, at as u32, trips[at].items())?)?;
     }
     Ok(())
-}
-
-/// The cost of the plan that was kept, if one was.
-pub fn cost_of(outcome: &Outcome) -> Option<i64>
-    ensures { result ≡ option_map (λ (kept : Costed). kept.cost) outcome.now.kept }
-{
-    match &outcome.kept {
-        None => None,
-        Some(kept) => Some(kept.cost),
-    }
 }
 
 /// The text that is printed for an outcome: the status, the cost, the bound and the number of

@@ -5,10 +5,10 @@ use std::alloc::Global;
 use std::test::Fail;
 use worked_days::{ON_TIME, TWO_FLIGHTS};
 
-// One may leave in a period: the second flight waits, where each alone would cost nothing.
-const REPORT: &str = "status,open
+// One may leave in a period: the second flight waits, and no plan costs less.
+const REPORT: &str = "status,optimal
 cost,1
-bound,0
+bound,1
 nodes,1
 trip,F1,ORIG,0,S,0,DEST,2
 trip,F2,ORIG,1,S,1,DEST,3
@@ -34,10 +34,10 @@ fn a_call_that_fails_is_answered(rt: HostRuntime) -> Result<(), Fail> {
     // stands written, and the status. Each text is asked for its size once and read once, and 16
     // bytes are written in a call.
     let rows = [
-        ("plan day.csv", 0, 0, REPORT, Status::OpenGap),
+        ("plan day.csv", 0, 0, REPORT, Status::Done),
         ("plan day.csv", 1, 0, FAULT, Status::ReadFault),
         ("plan day.csv", 2, 0, FAULT, Status::ReadFault),
-        ("plan day.csv", 3, 0, REPORT, Status::OpenGap),
+        ("plan day.csv", 3, 0, REPORT, Status::Done),
         ("plan day.csv", 0, 1, "", Status::WriteFault),
         ("plan day.csv", 0, 3, &REPORT[..32], Status::WriteFault),
         ("judge day.csv plan.csv", 0, 0, VERDICT, Status::Broken),

@@ -1,9 +1,10 @@
-use Rattle.std.proofs.Common.{◌∙◌, ap}
+use Rattle.std.proofs.Common.{◌∙◌, ap, subst}
 use Rattle.flow_types.specs.Scenario.{parts_of}
 use Rattle.time_windows.specs.Boxes.{root_box}
 use Rattle.time_windows.specs.Held.{box_of}
 use Rattle.flow_cli.specs.Outside.{Printed}
-use Rattle.flow_cli.specs.Planning.{plan_kept}
+use Rattle.flow_cli.specs.Planning.{plan_kept, root_limits}
+use Rattle.relaxed_bound.specs.Root.{IsRootBound}
 use Rattle.flow_cli.specs.Status.{status_of}
 use Rattle.time_windows.proofs.BoxFacts.{in_box_same}
 use Rattle.flow_cli.proofs.PlanningFacts.{bound_of_all, kept_cost, kept_feasible, tightened_same}
@@ -20,11 +21,9 @@ returns c =
       text = ap (λ (p : Printed). p.text) c.of.ensures ∙ c.in_ok-plan_report.ensures;
       ends = ap (λ (p : Printed). p.status) c.of.ensures ∙ c.status_of.ensures
           ∙ ap (λ cost. status_of cost outcome.bound)
-          (c.cost_of.ensures ∙ kept_cost parts outcome.kept c.in_ok-outcome.ensures.kept);
+          (c.cost_kept.ensures ∙ kept_cost parts outcome.kept c.in_ok-outcome.ensures.kept);
       feasible = kept_feasible parts outcome.kept c.in_ok-outcome.ensures.kept;
-      below = bound_of_all parts within outcome.bound
-          (c.first_bounds_are_bounds.ensures parts within outcome.bound
-          c.in_ok-outcome.ensures.first_bound)
+      below = bound_of_all parts within outcome.bound c.in_ok-outcome.ensures.sound
           (λ plan feasible. c.tighten.ensures.kept plan feasible.trips feasible.turns
           (in_box_same (root_box parts) (box_of c.in_ok-boxes.boxes) plan c.in_ok-boxes.ensures.root
           (c.trips_are_in_the_root_box.ensures.plans parts plan c.args.s.now.valid
@@ -33,5 +32,7 @@ returns c =
       tight = tightened_same parts (root_box parts) (box_of c.in_ok-boxes.boxes) within
           c.in_ok-boxes.ensures.root c.tighten.ensures.tight;
       first_plan = c.in_ok-outcome.ensures.first_plan;
-      first_bound = c.in_ok-outcome.ensures.first_bound;
+      root_bound = subst (λ cost. IsRootBound parts within root_limits cost outcome.bound)
+          (kept_cost parts outcome.kept c.in_ok-outcome.ensures.kept)
+          c.in_ok-outcome.ensures.root_bound;
     }
