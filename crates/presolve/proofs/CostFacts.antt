@@ -118,7 +118,8 @@ module _ (factor : Var → ℤ) where
       (entries_from factor (from + 1) columns) from in
       let here = unless_same from (factor column) from refl in
       let none = none_later from (entries_from factor (from + 1) columns)
-      (λ k d below. let past = from_le factor columns (from + 1) k d below in omega (arith, past)) in
+      (λ k d below.
+      let past = from_le factor columns (from + 1) k d below in omega (arith, past)) in
       omega (arith, linear, both, here, none)
 
   entry_past : (column : Var) (columns : List Var) (from k : ℕ) → from + 1 ≤ k

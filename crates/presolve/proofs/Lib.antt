@@ -1,5 +1,6 @@
 pub mod ColumnFacts
 pub mod CostFacts
+pub mod CountFacts
 pub mod DualityFacts
 pub mod FlipFacts
 pub mod FreeFacts

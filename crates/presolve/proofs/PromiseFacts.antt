@@ -64,7 +64,8 @@ module _ (parts : Parts) where
       → All Has (unless_zero (step delay) (By f n (from + delay)))
   steps_there step f n from delay = by (int_eq (step delay) (pos 0))
     where
-      by : (b : Bool) → All Has (if b then [] else term_of (step delay) (By f n (from + delay)) ∷ [])
+      by : (b : Bool)
+          → All Has (if b then [] else term_of (step delay) (By f n (from + delay)) ∷ [])
       by true = All-nil Has
       by false = All-cons Has (term_of (step delay) (By f n (from + delay))) [] tt (All-nil Has)
 

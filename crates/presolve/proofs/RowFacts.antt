@@ -203,8 +203,8 @@ module _ (flips : List Bool) where
     ascending = λ i j d less below.
         let long = length-map entries (flipped_entry flips) in
         let under : j < length entries = omega (arith, below, long) in
-        let one = ap (λ (e : Entry). e.column) (flipped_get entries i d (omega (arith, less, under)))
-        in
+        let one = ap (λ (e : Entry). e.column)
+        (flipped_get entries i d (omega (arith, less, under))) in
         let two = ap (λ (e : Entry). e.column) (flipped_get entries j d under) in
         let order = is.ascending i j d less under in
         omega (arith, one, two, order);

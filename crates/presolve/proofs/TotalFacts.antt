@@ -133,21 +133,25 @@ pub below_total : (values : List ℤ)
     → unsigned_abs (total below_part values) ≤ sum_by unsigned_abs values
 below_total values = total_small below_part unsigned_abs below_small values
 
-pub greatest_step : (entries : List Entry) (i : ℕ) (d : Entry) (sum part new : ℤ) → sum ≡ greatest (take i entries)
+pub greatest_step : (entries : List Entry) (i : ℕ) (d : Entry) (sum part new : ℤ)
+    → sum ≡ greatest (take i entries)
     → part ≡ int_max (pos 0) (get_or entries i d).value → i < length entries → new ≡ sum +ℤ part
     → new ≡ greatest (take (i + 1) entries)
 greatest_step entries i d sum part new is here within added =
     let more = greatest_more entries i d within in
     added ∙ ap (λ n. n +ℤ part) is ∙ ap (λ n. greatest (take i entries) +ℤ n) here ∙ sym more
 
-pub flipped_step : (flips : List Bool) (entries : List Entry) (i : ℕ) (d : Entry) (sum part new : ℤ) → sum ≡ flipped_sum flips (take i entries)
+pub flipped_step : (flips : List Bool) (entries : List Entry) (i : ℕ) (d : Entry)
+    (sum part new : ℤ) → sum ≡ flipped_sum flips (take i entries)
     → part ≡ flipped_part flips (get_or entries i d) → i < length entries → new ≡ sum +ℤ part
     → new ≡ flipped_sum flips (take (i + 1) entries)
 flipped_step flips entries i d sum part new is here within added =
     let more = flipped_more flips entries i d within in
-    added ∙ ap (λ n. n +ℤ part) is ∙ ap (λ n. flipped_sum flips (take i entries) +ℤ n) here ∙ sym more
+    added ∙ ap (λ n. n +ℤ part) is ∙ ap (λ n. flipped_sum flips (take i entries) +ℤ n) here
+    ∙ sym more
 
-pub below_step : (values : List ℤ) (i : ℕ) (d : ℤ) (sum part new : ℤ) → sum ≡ total below_part (take i values)
+pub below_step : (values : List ℤ) (i : ℕ) (d : ℤ) (sum part new : ℤ)
+    → sum ≡ total below_part (take i values)
     → part ≡ int_min (pos 0) (get_or values i d) → i < length values → new ≡ sum +ℤ part
     → new ≡ total below_part (take (i + 1) values)
 below_step values i d sum part new is here within added =

@@ -1,25 +1,37 @@
 //! The columns of a box.
-ghost use Rattle.std.specs.Prelude.{◌≡◌, ◌++◌, IfOk, OnOk, true};
+ghost use Rattle.std.specs.Prelude.{◌≡◌, ◌+◌, ◌++◌, IfErr, IfOk, OnOk, true};
 ghost use Rattle.std.specs.List.{flat_map, range_with_len};
 ghost use Rattle.bytime_model.specs.AllRows.{node_count, periods_of};
 ghost use Rattle.bytime_model.specs.declared.variables.Var.TheVariants.{By, Inside};
 ghost use Rattle.flow_types.specs.Scenario.{flight_at, parts_of};
+ghost use Rattle.presolve.specs.Counting.{IfWide, IsCounted, IsPast, column_entries, flight_entries};
 ghost use Rattle.presolve.specs.Variables.{by_columns, columns_of, flight_columns, if_free, inside_columns, is_free, node_columns};
 ghost use Rattle.time_windows.specs.Held.{IsMadeFor, box_of};
 
+use crate::tally::{Refused, Tally};
 use bytime_model::{Left, Var, Vars, has_inside, left_of};
 use flow_types::{OutOfMemory, Scenario};
 use std::alloc::Global;
 use time_windows::Boxes;
 
-/// The variables that the box leaves free.
-pub fn columns_of(alloc: Global, s: &Scenario, boxes: &Boxes) -> Result<Vars, OutOfMemory>
+/// The variables that the box leaves free. The entries of the rows that say that they are at most 1
+/// are counted, flight by flight.
+pub fn columns_of(
+    alloc: Global,
+    s: &Scenario,
+    boxes: &Boxes,
+    tally: &mut Tally,
+) -> Result<Vars, Refused>
     requires { IsMadeFor (parts_of s.now) boxes.now }
-    ensures { IfOk result (λ columns. columns
+    ensures columns { IfOk result (λ columns. columns
         ≡ columns_of (parts_of s.now) (box_of boxes.now)) }
+    ensures counted { OnOk result (IsCounted
+        (column_entries (parts_of s.now) (box_of boxes.now)) tally.old tally.new) }
+    ensures wide { IfErr result (λ refused. IfWide refused (IsPast tally.old.cells
+        (tally.old.entries + column_entries (parts_of s.now) (box_of boxes.now)))) }
 {
     let mut columns = Vars::empty(alloc);
-    add_all(&mut columns, s, boxes)?;
+    add_all(&mut columns, tally, s, boxes)?;
     Ok(columns)
 }
 
@@ -153,15 +165,44 @@ fn add_flight(
     Ok(())
 }
 
-// Adds those of all flights.
-#[tactic(auto, using(crate::proofs::ListFacts::listed_none))]
-fn add_all(columns: &mut Vars, s: &Scenario, boxes: &Boxes) -> Result<(), OutOfMemory>
+// Adds those of the flight, and counts what they have.
+fn add_counted(
+    columns: &mut Vars,
+    tally: &mut Tally,
+    s: &Scenario,
+    boxes: &Boxes,
+    flight: u32,
+) -> Result<(), Refused>
     requires { IsMadeFor (parts_of s.now) boxes.now }
-    ensures { OnOk result (columns.new ≡ columns.old
+    ensures columns { OnOk result (columns.new ≡ columns.old
+        ++ flight_columns (parts_of s.now) (box_of boxes.now) flight) }
+    ensures counted { OnOk result (IsCounted
+        (flight_entries (parts_of s.now) (box_of boxes.now) flight) tally.old tally.new) }
+    ensures wide { IfErr result (λ refused. IfWide refused (IsPast tally.old.cells
+        (tally.old.entries + flight_entries (parts_of s.now) (box_of boxes.now) flight))) }
+{
+    let before = columns.items().len();
+    add_flight(columns, s, boxes, flight)?;
+    tally.add(columns.items().len() - before, 3)
+}
+
+// Adds those of all flights.
+fn add_all(
+    columns: &mut Vars,
+    tally: &mut Tally,
+    s: &Scenario,
+    boxes: &Boxes,
+) -> Result<(), Refused>
+    requires { IsMadeFor (parts_of s.now) boxes.now }
+    ensures columns { OnOk result (columns.new ≡ columns.old
         ++ columns_of (parts_of s.now) (box_of boxes.now)) }
+    ensures counted { OnOk result (IsCounted
+        (column_entries (parts_of s.now) (box_of boxes.now)) tally.old tally.new) }
+    ensures wide { IfErr result (λ refused. IfWide refused (IsPast tally.old.cells
+        (tally.old.entries + column_entries (parts_of s.now) (box_of boxes.now)))) }
 {
     for flight in 0..s.flights().len() {
-        add_flight(columns, s, boxes, flight as u32)?;
+        add_counted(columns, tally, s, boxes, flight as u32)?;
     }
     Ok(())
 }

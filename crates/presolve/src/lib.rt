@@ -1,5 +1,5 @@
-//! The linear program of a box, for the dual simplex: the relaxation of the by-time program, with what
-//! the box fixes replaced.
+//! The linear program of a box, for the dual simplex: the relaxation of the by-time program, with
+//! what the box fixes replaced.
 //!
 //! A caller makes it of a tight box, and hands it on. What the run gives back, a weight and a
 //! multiplier for each row, becomes a Dual leaf:
@@ -17,23 +17,28 @@
 //! The columns are the variables that the box leaves free, flight by flight, node by node. A column
 //! stands for its variable, or for 1 less the variable where the variable's cost is negative, so no
 //! cost of the program is. A row of the by-time program has the factors of what lands on a column
-//! added up, and what is fixed taken from its limit; rows that no values from 0 to 1 exceed are left
-//! out. After them stands a row for each column that says that it is at most 1.
+//! added up, and what is fixed taken from its limit; rows that no values from 0 to 1 exceed are
+//! left out. After them stands a row for each column that says that it is at most 1.
+//!
+//! Where a run has room for so many entries, `program_within` gives the program up as soon as its
+//! first tableau is known to have more.
 //!
 //! The definitions stand in `specs/`: `Variables` (the columns), `Landed` (where a sum of terms
-//! lands), `Relaxed` (the program) and `Leaf` (the leaf that multipliers give, and what they
-//! promise). `Gathering` and `Listing` serve the proofs. `proofs/WorkedProgram.antt` has the
-//! program of a narrow box of a day of two flights.
+//! lands), `Relaxed` (the program), `Leaf` (the leaf that multipliers give, and what they promise)
+//! and `Presolved` (what callers get). `Counting`, `Gathering` and `Listing` serve the proofs.
+//! `proofs/WorkedProgram.antt` has the program of a narrow box of a day of two flights.
 //!
-//! Proved: `program` gives exactly the definition's program, columns, names and marks (`program`,
-//! `columns`, `kept`, `flipped`). Whatever multipliers of it there are, of the run or of anyone
-//! else, the Dual leaf that `leaf_of` makes of them has a value of no less than theirs (`promise`).
-//! `leaf_of` gives exactly the definition's rows.
+//! Proved: `program` and `program_within` give exactly the definition's program, columns, names and
+//! marks (`presolved`), and `program_within` gives none only where its first tableau has more
+//! entries than there is room for (`wide`). Whatever multipliers of it there are, of the run or of
+//! anyone else, the Dual leaf that `leaf_of` makes of them has a value of no less than theirs (in
+//! `presolved`, `promise`). `leaf_of` gives exactly the definition's rows.
 //!
 //! Memory: 12 bytes for each row's name while it runs, 4 for each variable that the tight root box
 //! leaves free, 25 for each column, and what the program takes: 16 bytes for each factor and some
-//! 40 for each row; lists take up to twice that, since they grow. Time: for each variable of the
-//! day what the box leaves of it, and for each row its terms.
+//! 40 for each row; lists take up to twice that, since they grow. A program that is given up takes
+//! no more of this than one that has just room, and no names where its columns alone are too many.
+//! Time: for each variable of the day what the box leaves of it, and for each row its terms.
 #![tactic(auto)]
 
 mod columns;
@@ -45,6 +50,8 @@ mod leaf;
 mod numbers;
 mod presolved;
 mod rows;
+mod tally;
 
 pub use leaf::leaf_of;
-pub use presolved::{Flags, Presolved, program};
+pub use presolved::{Flags, Presolved, program, program_within};
+pub use tally::Refused;

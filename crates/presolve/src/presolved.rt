@@ -1,9 +1,11 @@
 //! The program of a box.
-ghost use Rattle.std.specs.Prelude.{◌≡◌, [], IfOk, OnOk, length, map, pos, unsigned_abs};
+ghost use Rattle.std.specs.Prelude.{◌≡◌, ◌<◌, ◌+◌, [], IfErr, IfOk, OnOk, length, map, pos, sum_by, unsigned_abs};
+ghost use Rattle.bytime_model.specs.AllRows.{rows_of};
 ghost use Rattle.flow_types.specs.Scenario.{parts_of};
-ghost use Rattle.presolve.specs.Leaf.{IsBelowLeaf};
+ghost use Rattle.presolve.specs.Counting.{IfWide, IsPast, row_entries};
 ghost use Rattle.presolve.specs.Listing.{HaveCosts, IsFramed, with_rows};
-ghost use Rattle.presolve.specs.Relaxed.{flipped_of, kept_of, program_of};
+ghost use Rattle.presolve.specs.Presolved.{IsPresolved, entries_of};
+ghost use Rattle.presolve.specs.Relaxed.{kept_of, program_of};
 ghost use Rattle.presolve.specs.Variables.{columns_of};
 ghost use Rattle.scaled_simplex.specs.Program.{columns};
 ghost use Rattle.time_windows.specs.Held.{IsMadeFor, box_of};
@@ -13,7 +15,8 @@ use crate::columns::columns_of;
 use crate::costs::{Costs, costs_of, negatives_of, sizes_of};
 use crate::frame::Frame;
 use crate::numbers::Numbers;
-use crate::rows::{add_ones, add_rows};
+use crate::rows::{Draft, add_ones, add_rows};
+use crate::tally::{Refused, Tally};
 use bytime_model::{RowNames, Var, Vars, Visits, rows_of};
 use flow_types::{OutOfMemory, Scenario, Sequence};
 use scaled_simplex::Program;
@@ -85,27 +88,69 @@ fn begun(alloc: Global, s: &Scenario, boxes: &Boxes, costs: &Costs) -> Result<Pr
 
 // Adds all rows to a program without any.
 fn add_all(
-    program: &mut Program,
-    kept: &mut RowNames,
+    draft: &mut Draft,
     alloc: Global,
     frame: &Frame,
     s: &Scenario,
     boxes: &Boxes,
     count: usize,
-) -> Result<(), OutOfMemory>
+) -> Result<(), Refused>
     requires framed { IsFramed (parts_of s.now) boxes.now frame.now }
-    requires none { kept.old ≡ [] }
-    requires rows { program.old.constraints ≡ [] }
-    requires columns { columns program.old ≡ count }
+    requires none { draft.old.kept ≡ [] }
+    requires rows { draft.old.program.constraints ≡ [] }
+    requires columns { columns draft.old.program ≡ count }
     requires count { count ≡ length (columns_of (parts_of s.now) (box_of boxes.now)) }
-    ensures program { OnOk result (program.new ≡ with_rows program.old
+    ensures program { OnOk result (draft.new.program ≡ with_rows draft.old.program
         (program_of (parts_of s.now) (box_of boxes.now)).constraints) }
-    ensures kept { OnOk result (kept.new ≡ kept_of (parts_of s.now) (box_of boxes.now)) }
+    ensures kept { OnOk result (draft.new.kept ≡ kept_of (parts_of s.now) (box_of boxes.now)) }
+    ensures wide { IfErr result (λ refused. IfWide refused (IsPast draft.old.tally.cells
+        (draft.old.tally.entries
+        + sum_by (row_entries (parts_of s.now) (box_of boxes.now)) (rows_of (parts_of s.now))))) }
 {
     let names = rows_of(alloc, s)?;
-    add_rows(program, kept, alloc, frame, s, boxes, names.items())?;
-    add_ones(program, alloc, count)?;
+    add_rows(draft, alloc, frame, s, boxes, names.items())?;
+    add_ones(&mut draft.program, alloc, count)?;
     Ok(())
+}
+
+// The program of the box, unless the tally says that its tableau has too many entries.
+fn tallied(
+    alloc: Global,
+    s: &Scenario,
+    boxes: &Boxes,
+    cells: Option<u32>,
+) -> Result<Presolved, Refused>
+    requires made { IsMadeFor (parts_of s.now) boxes.now }
+    requires tight { IsTight (parts_of s.now) (box_of boxes.now) }
+    ensures presolved { IfOk result (IsPresolved (parts_of s.now) (box_of boxes.now)) }
+    ensures wide { IfErr result (λ refused. IfWide refused (IsPast cells
+        (entries_of (parts_of s.now) (box_of boxes.now)))) }
+{
+    let mut tally = Tally::new(cells);
+    let columns = columns_of(alloc, s, boxes, &mut tally)?;
+    let Base { frame, costs } = base_of(alloc, s, boxes, columns.items())?;
+    let mut draft = Draft {
+        program: begun(alloc, s, boxes, &costs)?,
+        kept: RowNames::empty(alloc),
+        tally,
+    };
+    add_all(&mut draft, alloc, &frame, s, boxes, columns.items().len())?;
+    let Draft {
+        program,
+        kept,
+        tally: _,
+    } = draft;
+    let Frame {
+        numbers: _,
+        visits: _,
+        flips,
+    } = frame;
+    Ok(Presolved {
+        program,
+        columns,
+        kept,
+        flipped: Sequence::from_vec(flips),
+    })
 }
 
 /// The program of the box, which is a tight one of the scenario. No cut has a row yet, whatever the
@@ -126,33 +171,30 @@ pub fn program(
 ) -> Result<Presolved, OutOfMemory>
     requires made { IsMadeFor (parts_of s.now) boxes.now }
     requires tight { IsTight (parts_of s.now) (box_of boxes.now) }
-    ensures program { IfOk result (λ presolved. presolved.program
-        ≡ program_of (parts_of s.now) (box_of boxes.now)) }
-    ensures columns { IfOk result (λ presolved. presolved.columns
-        ≡ columns_of (parts_of s.now) (box_of boxes.now)) }
-    ensures kept { IfOk result (λ presolved. presolved.kept
-        ≡ kept_of (parts_of s.now) (box_of boxes.now)) }
-    ensures flipped { IfOk result (λ presolved. presolved.flipped
-        ≡ flipped_of (parts_of s.now) (box_of boxes.now)) }
-    ensures promise { IfOk result (λ presolved. IsBelowLeaf (parts_of s.now) (box_of boxes.now)
-        presolved.program presolved.kept) }
+    ensures presolved { IfOk result (IsPresolved (parts_of s.now) (box_of boxes.now)) }
 {
-    let columns = columns_of(alloc, s, boxes)?;
-    let base = base_of(alloc, s, boxes, columns.items())?;
-    let mut program = begun(alloc, s, boxes, &base.costs)?;
-    let mut kept = RowNames::empty(alloc);
-    let count = columns.items().len();
-    add_all(&mut program, &mut kept, alloc, &base.frame, s, boxes, count)?;
-    let Base { frame, costs: _ } = base;
-    let Frame {
-        numbers: _,
-        visits: _,
-        flips,
-    } = frame;
-    Ok(Presolved {
-        program,
-        columns,
-        kept,
-        flipped: Sequence::from_vec(flips),
-    })
+    match tallied(alloc, s, boxes, None) {
+        Ok(presolved) => Ok(presolved),
+        Err(Refused::OutOfMemory) => Err(OutOfMemory),
+        Err(Refused::Wide) => unreachable!(),
+    }
+}
+
+/// The same, for a run that has room for so many entries. `Refused::Wide` comes only where the first
+/// tableau has more. It comes as soon as that is seen, so the program takes no more than one that
+/// has just room.
+pub fn program_within(
+    alloc: Global,
+    s: &Scenario,
+    boxes: &Boxes,
+    _pool: &Pool,
+    cells: u32,
+) -> Result<Presolved, Refused>
+    requires made { IsMadeFor (parts_of s.now) boxes.now }
+    requires tight { IsTight (parts_of s.now) (box_of boxes.now) }
+    ensures presolved { IfOk result (IsPresolved (parts_of s.now) (box_of boxes.now)) }
+    ensures wide { IfErr result (λ refused. IfWide refused
+        (cells < entries_of (parts_of s.now) (box_of boxes.now))) }
+{
+    tallied(alloc, s, boxes, Some(cells))
 }

@@ -1,8 +1,9 @@
 //! The rows of the program.
-ghost use Rattle.std.specs.Prelude.{◌≡◌, ◌<◌, ◌≤◌, ◌+◌, ◌^◌, ◌-ℤ◌, ◌∷◌, [], All, IfOk, OnOk, length, map, true, unsigned_abs};
+ghost use Rattle.std.specs.Prelude.{◌≡◌, ◌<◌, ◌≤◌, ◌+◌, ◌^◌, ◌-ℤ◌, ◌∷◌, [], All, IfErr, IfOk, OnOk, length, map, sum_by, true, unsigned_abs};
 ghost use Rattle.std.specs.List.{range_with_len};
 ghost use Rattle.bytime_model.specs.Rows.{is_row};
 ghost use Rattle.flow_types.specs.Scenario.{parts_of};
+ghost use Rattle.presolve.specs.Counting.{IfWide, IsCounted, IsPast, row_entries};
 ghost use Rattle.presolve.specs.Gathering.{size_of};
 ghost use Rattle.presolve.specs.Listing.{AddsRow, AddsRows, IsFramed, IsLandedRow, most_size, with_rows};
 ghost use Rattle.presolve.specs.Relaxed.{at_most_one, flipped_row};
@@ -14,6 +15,7 @@ ghost use Rattle.time_windows.specs.Held.{box_of};
 use crate::flips::{flipped_sum, greatest};
 use crate::frame::{Frame, Room};
 use crate::gather::Gathering;
+use crate::tally::{Refused, Tally};
 use bytime_model::{RowName, RowNames};
 use flow_types::{OutOfMemory, Scenario};
 use row_arena::Entry;
@@ -72,30 +74,43 @@ fn add_landed(
     Ok(())
 }
 
+/// A program while its rows are added, their names, and how many entries its tableau has.
+#[derive(Debug, Drop)]
+pub struct Draft {
+    pub program: Program,
+    pub kept: RowNames,
+    pub tally: Tally,
+}
+
 // Adds the row of this name, if values of the columns may exceed it.
-#[tactic(auto, using(crate::proofs::RowFacts::landed_row_is, crate::proofs::RowFacts::landed_within, crate::proofs::RowFacts::adds_kept, crate::proofs::RowFacts::adds_none, crate::proofs::RowFacts::greatest_room))]
+#[tactic(auto, using(crate::proofs::RowFacts::landed_row_is, crate::proofs::RowFacts::landed_within, crate::proofs::RowFacts::adds_kept, crate::proofs::RowFacts::adds_none, crate::proofs::RowFacts::greatest_room, crate::proofs::CountFacts::row_counted, crate::proofs::CountFacts::row_uncounted, crate::proofs::CountFacts::row_wide))]
 fn add_row(
-    program: &mut Program,
-    kept: &mut RowNames,
+    draft: &mut Draft,
     alloc: Global,
     room: &mut Room,
     frame: &Frame,
     s: &Scenario,
     boxes: &Boxes,
     name: RowName,
-) -> Result<(), OutOfMemory>
+) -> Result<(), Refused>
     requires framed { IsFramed (parts_of s.now) boxes.now frame.now }
     requires row { is_row (parts_of s.now) name ≡ true }
-    requires columns { columns program.old
+    requires columns { columns draft.old.program
         ≡ length (columns_of (parts_of s.now) (box_of boxes.now)) }
-    requires few { columns program.old + length program.old.constraints < most_indices }
-    ensures { OnOk result (AddsRow (parts_of s.now) (box_of boxes.now) name program.old program.new
-        kept.old kept.new) }
+    requires few { columns draft.old.program + length draft.old.program.constraints
+        < most_indices }
+    ensures row { OnOk result (AddsRow (parts_of s.now) (box_of boxes.now) name draft.old.program
+        draft.new.program draft.old.kept draft.new.kept) }
+    ensures counted { OnOk result (IsCounted (row_entries (parts_of s.now) (box_of boxes.now) name)
+        draft.old.tally draft.new.tally) }
+    ensures wide { IfErr result (λ refused. IfWide refused (IsPast draft.old.tally.cells
+        (draft.old.tally.entries + row_entries (parts_of s.now) (box_of boxes.now) name))) }
 {
     let limit = land_row(room, frame, s, boxes, name)?;
     if limit < greatest(room.gathering.entries()) {
-        add_landed(program, alloc, &mut room.gathering, &frame.flips, limit)?;
-        kept.add(name)?;
+        draft.tally.add(room.gathering.entries().len() + 1, 1)?;
+        add_landed(&mut draft.program, alloc, &mut room.gathering, &frame.flips, limit)?;
+        draft.kept.add(name)?;
     }
     Ok(())
 }
@@ -103,26 +118,28 @@ fn add_row(
 /// Adds the rows of these names that values of the columns may exceed.
 #[tactic(auto, using(crate::proofs::RowFacts::rows_none, crate::proofs::RowFacts::rows_room, crate::proofs::RowFacts::rows_columns))]
 pub fn add_rows(
-    program: &mut Program,
-    kept: &mut RowNames,
+    draft: &mut Draft,
     alloc: Global,
     frame: &Frame,
     s: &Scenario,
     boxes: &Boxes,
     names: &[RowName],
-) -> Result<(), OutOfMemory>
+) -> Result<(), Refused>
     requires framed { IsFramed (parts_of s.now) boxes.now frame.now }
     requires rows { All (λ name. is_row (parts_of s.now) name ≡ true) names.now }
-    requires columns { columns program.old
+    requires columns { columns draft.old.program
         ≡ length (columns_of (parts_of s.now) (box_of boxes.now)) }
-    requires few { columns program.old + length program.old.constraints + length names.now
-        ≤ most_indices }
-    ensures { OnOk result (AddsRows (parts_of s.now) (box_of boxes.now) names.now program.old
-        program.new kept.old kept.new) }
+    requires few { columns draft.old.program + length draft.old.program.constraints
+        + length names.now ≤ most_indices }
+    ensures rows { OnOk result (AddsRows (parts_of s.now) (box_of boxes.now) names.now
+        draft.old.program draft.new.program draft.old.kept draft.new.kept) }
+    ensures wide { IfErr result (λ refused. IfWide refused (IsPast draft.old.tally.cells
+        (draft.old.tally.entries
+        + sum_by (row_entries (parts_of s.now) (box_of boxes.now)) names.now))) }
 {
     let mut room = Room::new(alloc)?;
     for name in names {
-        add_row(program, kept, alloc, &mut room, frame, s, boxes, *name)?;
+        add_row(draft, alloc, &mut room, frame, s, boxes, *name)?;
     }
     Ok(())
 }

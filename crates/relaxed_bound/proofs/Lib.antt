@@ -1,1 +1,2 @@
+pub mod BareFacts
 pub mod ToldFacts

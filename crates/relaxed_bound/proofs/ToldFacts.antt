@@ -1,6 +1,6 @@
 -- The leaf that a run tells: its numbers are in range, its rows are there, and on a live box it has
 -- no fault.
-use Rattle.std.proofs.Common.{◌≡◌, ℕ, ◌^◌, ◌<◌, ◌≤◌, Bool, true, false, List, [], ◌∷◌, length, All, if◌then◌else◌, Ok, Err, ℤ, pos, negsuc, neg_ℤ, ◌≤ℤ◌, ◌<ℤ◌, nat_abs, unsigned_abs, inl, inr, refl, sym, ap, ◌∙◌, subst, arith}
+use Rattle.std.proofs.Common.{◌≡◌, ℕ, ◌^◌, ◌<◌, ◌≤◌, Bool, true, false, Option, List, [], ◌∷◌, length, All, if◌then◌else◌, Ok, Err, ℤ, pos, negsuc, neg_ℤ, ◌≤ℤ◌, ◌<ℤ◌, nat_abs, unsigned_abs, inl, inr, refl, sym, ap, ◌∙◌, subst, arith}
 use Rattle.std.proofs.lemmas.Int.{ints}
 use Rattle.std.proofs.lemmas.List.{length-append}
 use Rattle.std.proofs.lemmas.List.Elements.{All-append, All-cons, All-nil, All-tail}
@@ -11,7 +11,7 @@ use Rattle.row_arena.specs.Rows.{most_entry}
 use Rattle.scaled_simplex.specs.declared.solver.Weights.{Weights}
 use Rattle.scaled_simplex.specs.Multipliers.{IsTold, multipliers_of}
 use Rattle.scaled_simplex.specs.Program.{IsProblem, Problem, most_indices}
-use Rattle.scaled_simplex.specs.Run.{Outcome, is_infeasible, value_in, weight_in}
+use Rattle.scaled_simplex.specs.Run.{Outcome, is_infeasible, simplex_run, value_in, weight_in}
 use Rattle.time_windows.specs.Boxes.{Box}
 use Rattle.bytime_model.specs.declared.names.RowName.{RowName}
 use Rattle.bytime_model.specs.declared.variables.Var.{Var}
@@ -23,11 +23,14 @@ use Rattle.dual_leaf.specs.declared.fault.LeafFault.{LeafFault}
 use Rattle.dual_leaf.specs.declared.fault.LeafFault.TheVariants.{Closed, NotEmpty, NotUnit, UnknownRow, Useless}
 use Rattle.dual_leaf.specs.Dual.{AreKnown, IsChoice, dual_at}
 use Rattle.dual_leaf.specs.Leaf.{IsDualBound, IsDualFault, IsLive}
+use Rattle.presolve.specs.declared.presolved.Presolved.{Presolved}
 use Rattle.presolve.specs.Leaf.{IsBelowLeaf, leaf_rows, unless_never}
+use Rattle.presolve.specs.Presolved.{IsPresolved}
 use Rattle.presolve.specs.Relaxed.{kept_of, program_of}
 use Rattle.presolve.proofs.PromiseFacts.{kept_are}
-use Rattle.relaxed_bound.specs.Relaxed.{outcome_leaf, told_leaf}
-use Rattle.relaxed_bound.specs.Telling.{AreWeights, HasBound}
+use Rattle.relaxed_bound.specs.declared.limits.Limits.{Limits}
+use Rattle.relaxed_bound.specs.Relaxed.{outcome_leaf, relaxed_leaf, told_leaf}
+use Rattle.relaxed_bound.specs.Telling.{AreWeights, HasBound, IsRunLeaf}
 
 -- a number that isn't far from 0
 near_below : (z : ℤ) → nat_abs z ≤ most_entry → unsigned_abs z < 2 ^ 62
@@ -103,7 +106,7 @@ told_few problem outcome valid told = by (is_infeasible outcome.end) refl
     by false is = omega (arith, (told.bound is).multipliers.count, valid.few)
 
 -- the leaf is in range
-pub told_range : (leaf : Leaf) (names : List RowName) (problem : Problem) (outcome : Outcome)
+told_range : (leaf : Leaf) (names : List RowName) (problem : Problem) (outcome : Outcome)
     (weights : Weights) → AreWeights problem outcome weights
     → leaf ≡ told_leaf names weights.weight weights.rows → IsInRange leaf
 told_range leaf names problem outcome weights are leaf_is = subst IsInRange (sym leaf_is) range
@@ -134,8 +137,8 @@ module _ (parts : Parts) (box : Box) (outcome : Outcome) where
       (rows_known parts (kept_of parts box) (multipliers_of program outcome)
       (kept_are parts box)) at
 
-  module _ (told : IsTold program outcome) (promise : IsBelowLeaf parts box program (kept_of parts box))
-    where
+  module _ (told : IsTold program outcome)
+      (promise : IsBelowLeaf parts box program (kept_of parts box)) where
       -- with the weight 0 the value is above 0
       positive : weight ≡ 0 → (choice : Var → ℕ) → IsChoice parts.flights box choice
           → pos 0 <ℤ dual_at parts weight rows choice
@@ -143,7 +146,8 @@ module _ (parts : Parts) (box : Box) (outcome : Outcome) where
         where
           by : (b : Bool) → is_infeasible outcome.end ≡ b
               → pos 0 <ℤ dual_at parts weight rows choice
-          by false isnt = absurd (no_weight (weight_in program outcome) (told.bound isnt).weight none)
+          by false isnt =
+              absurd (no_weight (weight_in program outcome) (told.bound isnt).weight none)
             where
               no_weight : (z : ℤ) → pos 0 <ℤ z → unsigned_abs z ≡ 0 → ⊥
               no_weight (pos n) above zero = omega (arith, ints, above, zero)
@@ -151,7 +155,8 @@ module _ (parts : Parts) (box : Box) (outcome : Outcome) where
           by true infeasible =
               let refuted = told.refutation infeasible in
               let low : neg_ℤ (value_in program outcome) ≤ℤ dual_at parts weight rows choice =
-              subst (λ w. neg_ℤ (value_in program outcome) ≤ℤ dual_at parts w rows choice) (sym none)
+              subst (λ w. neg_ℤ (value_in program outcome) ≤ℤ dual_at parts w rows choice)
+              (sym none)
               (promise 0 (multipliers_of program outcome) (neg_ℤ (value_in program outcome))
               refuted.multipliers choice is) in
               omega (arith, ints, refuted.positive, low)
@@ -177,29 +182,41 @@ module _ (parts : Parts) (box : Box) (outcome : Outcome) where
       told_bound live (Err fault) (inl bound) = absurd (no_fault fault bound)
       told_bound live (Err fault) (inr first) = absurd (never live fault first)
 
--- it is that of the run of the box's program
-told_is : (parts : Parts) (box : Box) (leaf : Leaf) (names : List RowName) (problem : Problem)
-    (outcome : Outcome) (weights : Weights) → AreWeights problem outcome weights
-    → problem ≡ program_of parts box → names ≡ kept_of parts box
-    → leaf ≡ told_leaf names weights.weight weights.rows
-    → leaf ≡ outcome_leaf parts box outcome
-told_is parts box leaf names problem outcome weights are program_is names_are leaf_is =
-    leaf_is
-    ∙ ap (λ w. told_leaf names w weights.rows) are.weight
-    ∙ ap (λ rows. told_leaf names (weight_in problem outcome) rows) are.rows
-    ∙ ap (λ p. told_leaf names (weight_in p outcome) (multipliers_of p outcome)) program_is
-    ∙ ap (λ ns. told_leaf ns (weight_in (program_of parts box) outcome)
-    (multipliers_of (program_of parts box) outcome)) names_are
+-- what a run gives
+pub run_leaf : (leaf : Leaf) (names : List RowName) (problem : Problem) (outcome : Outcome)
+    (weights : Weights) → AreWeights problem outcome weights
+    → leaf ≡ told_leaf names weights.weight weights.rows → IsRunLeaf problem names outcome leaf
+run_leaf leaf names problem outcome weights are leaf_is = record {
+  is = leaf_is
+      ∙ ap (λ w. told_leaf names w weights.rows) are.weight
+      ∙ ap (λ rows. told_leaf names (weight_in problem outcome) rows) are.rows;
+  range = told_range leaf names problem outcome weights are leaf_is;
+  told = are.told;
+}
 
--- on a live box it has a bound
-pub told_has : (parts : Parts) (box : Box) (leaf : Leaf) (names : List RowName) (problem : Problem)
-    (outcome : Outcome) (weights : Weights) → AreWeights problem outcome weights
-    → problem ≡ program_of parts box → names ≡ kept_of parts box
-    → IsBelowLeaf parts box problem names
-    → leaf ≡ told_leaf names weights.weight weights.rows → HasBound parts box leaf
-told_has parts box leaf names problem outcome weights are program_is names_are promise leaf_is =
-    subst (HasBound parts box)
-    (sym (told_is parts box leaf names problem outcome weights are program_is names_are leaf_is))
-    (told_bound parts box outcome (subst (λ p. IsTold p outcome) program_is are.told)
-    (subst (IsBelowLeaf parts box (program_of parts box)) names_are
-    (subst (λ p. IsBelowLeaf parts box p names) program_is promise)))
+module _ (parts : Parts) (box : Box) (presolved : Presolved)
+    (whole : IsPresolved parts box presolved) (limits : Limits) (cutoff : Option ℤ) (leaf : Leaf)
+    (run : IsRunLeaf presolved.program presolved.kept
+    (simplex_run presolved.program limits.pivots limits.cells cutoff) leaf) where
+  abbrev ended : Problem → Outcome
+  ended problem = simplex_run problem limits.pivots limits.cells cutoff
+
+  abbrev ran_leaf : List RowName → Problem → Leaf
+  ran_leaf names problem =
+      told_leaf names (weight_in problem (ended problem)) (multipliers_of problem (ended problem))
+
+  -- it is that of the run of the box's program
+  pub run_is : leaf ≡ relaxed_leaf parts box limits cutoff
+  run_is =
+      run.is
+      ∙ ap (ran_leaf presolved.kept) whole.program
+      ∙ ap (λ names. ran_leaf names (program_of parts box)) whole.kept
+
+  -- on a live box it has a bound
+  pub run_has : HasBound parts box leaf
+  run_has =
+      subst (HasBound parts box) (sym run_is)
+      (told_bound parts box (ended (program_of parts box))
+      (subst (λ p. IsTold p (ended p)) whole.program run.told)
+      (subst (IsBelowLeaf parts box (program_of parts box)) whole.kept
+      (subst (λ p. IsBelowLeaf parts box p presolved.kept) whole.program whole.promise)))

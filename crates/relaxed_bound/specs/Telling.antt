@@ -1,5 +1,5 @@
 -- What the end of a run tells, and the leaf that it gives. No public clause cites these.
-use Rattle.std.specs.Prelude.{◌≡◌, ◌≤◌, All, Result, nat_abs}
+use Rattle.std.specs.Prelude.{◌≡◌, ◌≤◌, List, All, Result, nat_abs}
 use Rattle.std.specs.Result.{IsOk}
 use Rattle.flow_types.specs.declared.bound.Bound.{Bound}
 use Rattle.flow_types.specs.declared.parts.Parts.{Parts}
@@ -9,9 +9,12 @@ use Rattle.scaled_simplex.specs.Multipliers.{IsTold, multipliers_of}
 use Rattle.scaled_simplex.specs.Program.{IsProblem, Problem}
 use Rattle.scaled_simplex.specs.Run.{Outcome, weight_in}
 use Rattle.time_windows.specs.Boxes.{Box}
+use Rattle.bytime_model.specs.declared.names.RowName.{RowName}
 use Rattle.branch_tree.specs.declared.leaf.Leaf.{Leaf}
+use Rattle.branch_tree.specs.Leaves.{IsInRange}
 use Rattle.dual_leaf.specs.declared.fault.LeafFault.{LeafFault}
 use Rattle.dual_leaf.specs.Leaf.{IsLeafBound, IsLive}
+use Rattle.relaxed_bound.specs.Relaxed.{told_leaf}
 
 -- the weight and the multipliers of an outcome, none of them far from 0, and what they tell
 pub record AreWeights (problem : Problem) (outcome : Outcome) (weights : Weights) : Type 0 where
@@ -20,6 +23,13 @@ pub record AreWeights (problem : Problem) (outcome : Outcome) (weights : Weights
   pub near : nat_abs weights.weight ≤ most_entry
   pub rows_near : All (λ multiplier. nat_abs multiplier ≤ most_entry) weights.rows
   pub valid : IsProblem problem
+  pub told : IsTold problem outcome
+
+-- what a run of a program gives, whose first rows have these names
+pub record IsRunLeaf (problem : Problem) (names : List RowName) (outcome : Outcome) (leaf : Leaf)
+    : Type 0 where
+  pub is : leaf ≡ told_leaf names (weight_in problem outcome) (multipliers_of problem outcome)
+  pub range : IsInRange leaf
   pub told : IsTold problem outcome
 
 -- on a live box the leaf has no fault

@@ -6,5 +6,6 @@ use Rattle.presolve.proofs.columns.add_flight.Goals as goal
 
 pub loop-node-preserved : goal.loop-node-preserved
 loop-node-preserved c =
-    listed_more (node_columns (parts_of c.args.s.now) (box_of c.args.boxes.now) c.args.flight) c.loop-node.node c.args.columns.now
+    listed_more (node_columns (parts_of c.args.s.now) (box_of c.args.boxes.now) c.args.flight)
+    c.loop-node.node c.args.columns.now
     c.loop-node.columns c.add_node.new.columns c.loop-node.invariant c.in_ok-add_node.ensures

@@ -6,4 +6,5 @@ use Rattle.presolve.proofs.columns.add_flight.Given as goal
 
 abbrev pub invariant-loop-node : goal.invariant-loop-node
 invariant-loop-node l =
-    AreListed (node_columns (parts_of l.s) (box_of l.boxes) l.flight) l.node l.initial.columns l.columns
+    AreListed (node_columns (parts_of l.s) (box_of l.boxes) l.flight) l.node
+    l.initial.columns l.columns

@@ -7,4 +7,5 @@ use Rattle.presolve.proofs.columns.add_staying.Given as goal
 
 abbrev pub invariant-loop-time : goal.invariant-loop-time
 invariant-loop-time l =
-    AreListed (λ t. if_free (parts_of l.s) (box_of l.boxes) (Inside l.flight l.node t)) l.time l.initial.columns l.columns
+    AreListed (λ t. if_free (parts_of l.s) (box_of l.boxes) (Inside l.flight l.node t)) l.time
+    l.initial.columns l.columns

@@ -25,7 +25,8 @@ values_of-requires c =
 
 pub sum-constant-requires : goal.sum-constant-requires
 sum-constant-requires c =
-    let lows = c.below_of.ensures ∙ ap (total (λ value. int_min (pos 0) value)) c.deref.ensures.value
+    let lows = c.below_of.ensures
+    ∙ ap (total (λ value. int_min (pos 0) value)) c.deref.ensures.value
     in
     let dense = c.in_ok-values.ensures
     ∙ ap (λ list. map (entry_at list) (range_with_len 0 c.args.count)) c.entries.ensures in
@@ -39,7 +40,8 @@ sum-constant-requires c =
 
 pub returns : goal.returns
 returns c =
-    let lows = c.below_of.ensures ∙ ap (total (λ value. int_min (pos 0) value)) c.deref.ensures.value
+    let lows = c.below_of.ensures
+    ∙ ap (total (λ value. int_min (pos 0) value)) c.deref.ensures.value
     in
     let dense = c.in_ok-values.ensures
     ∙ ap (λ list. map (entry_at list) (range_with_len 0 c.args.count)) c.entries.ensures in

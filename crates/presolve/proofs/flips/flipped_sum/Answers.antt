@@ -5,7 +5,8 @@ use Rattle.presolve.proofs.flips.flipped_sum.Goals as goal
 
 pub plus-total-requires : goal.plus-total-requires
 plus-total-requires c =
-    let room = flipped_room c.args.flips.now c.args.entries.now c.loop-entry.entry-index _ _ c.if_flipped.result (2 ^ 62)
+    let room = flipped_room c.args.flips.now c.args.entries.now c.loop-entry.entry-index _ _
+    c.if_flipped.result (2 ^ 62)
     c.loop-entry.invariant c.if_flipped.ensures c.loop-entry-test.true c.requires.small in
     omega (arith, ints, room)
 

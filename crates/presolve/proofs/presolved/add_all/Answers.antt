@@ -7,21 +7,21 @@ use Rattle.presolve.proofs.presolved.add_all.Goals as goal
 pub add_rows-requires-clause-few : goal.add_rows-requires-clause-few
 add_rows-requires-clause-few c =
     rows_room (parts_of c.args.s.now) (box_of c.args.boxes.now) c.items.result.now c.args.count
-    c.args.program.now c.args.s.now.valid
-    (c.items.ensures ∙ c.in_ok-names.ensures.names) c.requires.columns
-    c.requires.count c.requires.rows
+    c.args.draft.now.program c.args.s.now.valid (c.items.ensures ∙ c.in_ok-names.ensures.names)
+    c.requires.columns c.requires.count c.requires.rows
 
 pub add_ones-requires-clause-few : goal.add_ones-requires-clause-few
 add_ones-requires-clause-few c =
     ones_room (parts_of c.args.s.now) (box_of c.args.boxes.now) c.items.result.now
-    c.args.kept.now c.add_rows.new.kept c.args.count c.args.program.now c.add_rows.new.program
-    c.args.s.now.valid (c.items.ensures ∙ c.in_ok-names.ensures.names)
-    c.in_ok-add_rows.ensures c.requires.rows c.requires.columns c.requires.count
+    c.args.draft.now.kept c.add_rows.new.draft.kept c.args.count c.args.draft.now.program
+    c.add_rows.new.draft.program c.args.s.now.valid
+    (c.items.ensures ∙ c.in_ok-names.ensures.names) c.in_ok-add_rows.ensures.rows
+    c.requires.rows c.requires.columns c.requires.count
 
 pub returns-clause-program : goal.returns-clause-program
 returns-clause-program c =
-    rows_are (parts_of c.args.s.now) (box_of c.args.boxes.now) c.items.result.now c.args.kept.now
-    c.add_rows.new.kept c.args.count c.args.program.now c.add_rows.new.program
-    c.add_ones.new.program c.in_ok-add_rows.ensures
+    rows_are (parts_of c.args.s.now) (box_of c.args.boxes.now) c.items.result.now
+    c.args.draft.now.kept c.add_rows.new.draft.kept c.args.count c.args.draft.now.program
+    c.add_rows.new.draft.program c.add_ones.new.program c.in_ok-add_rows.ensures.rows
     (c.items.ensures ∙ c.in_ok-names.ensures.names) c.in_ok-add_ones.ensures
     c.requires.count

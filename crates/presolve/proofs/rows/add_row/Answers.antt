@@ -12,5 +12,5 @@ add_landed-requires-clause-row c =
 pub add_landed-requires-clause-within : goal.add_landed-requires-clause-within
 add_landed-requires-clause-within c =
     landed_within (parts_of c.args.s.now) (box_of c.args.boxes.now) c.args.name
-    c.land_row.new.room.gathering.entries c.in_ok-limit.limit (columns c.args.program.now)
+    c.land_row.new.room.gathering.entries c.in_ok-limit.limit (columns c.args.draft.now.program)
     c.in_ok-limit.ensures c.requires.columns

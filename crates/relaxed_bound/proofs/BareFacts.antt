@@ -1,0 +1,96 @@
+-- The leaf of a run whose first tableau has no room: one unit of the cost, and no rows.
+use Rattle.std.proofs.Common.{◌≡◌, ℕ, zero, suc, ◌+◌, ◌^◌, ◌<◌, List, [], ◌∷◌, ◌++◌, length, map, slice_get, All, Option, Some, Ok, Err, ℤ, pos, neg_ℤ, unsigned_abs, nat_lt, if◌then◌else◌, inl, inr, refl, sym, ap, ◌∙◌, subst, arith}
+use Rattle.std.proofs.lemmas.Bool.{lt-ltb}
+use Rattle.std.proofs.lemmas.List.Elements.{All-nil}
+use Rattle.std.specs.List.{range_with_len}
+use Rattle.std.specs.Ordering.{int_eq}
+use Rattle.flow_types.specs.declared.parts.Parts.{Parts}
+use Rattle.scaled_simplex.specs.declared.end.End.TheVariants.{Wide}
+use Rattle.scaled_simplex.specs.Multipliers.{multipliers_of}
+use Rattle.scaled_simplex.specs.Program.{Problem, columns}
+use Rattle.scaled_simplex.specs.Run.{Outcome, multiplier_in, run_from, weight_in}
+use Rattle.scaled_simplex.specs.Tableau.{bare_row, first_tableau}
+use Rattle.scaled_simplex.proofs.FirstTableau.{bare_below, bare_weight}
+use Rattle.time_windows.specs.Boxes.{Box}
+use Rattle.bytime_model.specs.declared.names.RowName.{RowName}
+use Rattle.branch_tree.specs.declared.leaf.Leaf.{Leaf}
+use Rattle.branch_tree.specs.declared.leaf.Leaf.TheVariants.{Dual}
+use Rattle.branch_tree.specs.declared.leaf.Multiplier.{Multiplier}
+use Rattle.branch_tree.specs.Leaves.{IsInRange}
+use Rattle.dual_leaf.specs.declared.fault.LeafFault.{LeafFault}
+use Rattle.dual_leaf.specs.declared.fault.LeafFault.TheVariants.{Closed, NotEmpty, NotUnit, UnknownRow, Useless}
+use Rattle.dual_leaf.specs.Leaf.{IsDualBound, IsDualFault, IsLive}
+use Rattle.presolve.specs.Leaf.{leaf_rows, unless_never}
+use Rattle.presolve.specs.Presolved.{entries_of}
+use Rattle.presolve.specs.Relaxed.{kept_of, program_of}
+use Rattle.relaxed_bound.specs.declared.limits.Limits.{Limits}
+use Rattle.relaxed_bound.specs.Relaxed.{outcome_leaf, relaxed_leaf}
+use Rattle.relaxed_bound.specs.Telling.{HasBound}
+
+no_item : (position : ℕ) (multiplier : Multiplier) → slice_get [] position ≡ Some multiplier → ⊥
+no_item position multiplier at = cc at
+
+-- multipliers that are all 0 give no rows
+zeros_none : (names : List RowName) (multiplier : ℕ → ℤ) (from count : ℕ)
+    → ((k : ℕ) → k < from + count → multiplier k ≡ pos 0)
+    → leaf_rows names (map multiplier (range_with_len from count)) ≡ []
+zeros_none [] multiplier from count zeros = refl
+zeros_none (name ∷ names) multiplier from zero zeros = refl
+zeros_none (name ∷ names) multiplier from (suc count) zeros =
+    ap (λ z. unless_never name z
+    ++ leaf_rows names (map multiplier (range_with_len (from + 1) count)))
+    (zeros from (omega arith))
+    ∙ zeros_none names multiplier (from + 1) count (λ k below. zeros k (omega (arith, below)))
+
+module _ (parts : Parts) (box : Box) where
+  abbrev program : Problem
+  program = program_of parts box
+
+  abbrev wide : Outcome
+  wide = record { end = Wide; row = bare_row program }
+
+  no_multiplier : (k : ℕ) → k < 0 + length program.constraints
+      → multiplier_in program wide k ≡ pos 0
+  no_multiplier k below =
+      ap neg_ℤ (bare_below program (columns program + k) (omega (arith, below)))
+
+  no_rows : leaf_rows (kept_of parts box) (multipliers_of program wide) ≡ []
+  no_rows =
+      zeros_none (kept_of parts box) (multiplier_in program wide) 0 (length program.constraints)
+      no_multiplier
+
+  wide_leaf : Dual 1 [] ≡ outcome_leaf parts box wide
+  wide_leaf =
+      ap (λ w. Dual (unsigned_abs w) []) (sym (bare_weight program))
+      ∙ ap (λ rows. Dual (unsigned_abs (weight_in program wide)) rows) (sym no_rows)
+
+  pub bare_is : (limits : Limits) (cutoff : Option ℤ) (leaf : Leaf) → leaf ≡ Dual 1 []
+      → limits.cells < entries_of parts box → leaf ≡ relaxed_leaf parts box limits cutoff
+  bare_is limits cutoff leaf is past =
+      is ∙ wide_leaf
+      ∙ ap (λ b. outcome_leaf parts box (if b then wide
+      else run_from program limits.cells cutoff limits.pivots (first_tableau program)))
+      (sym (lt-ltb limits.cells (entries_of parts box) past))
+
+  no_fault : (live : IsLive box) (fault : LeafFault) → IsDualFault parts box [] (Err fault) → ⊥
+  no_fault live NotEmpty none = none
+  no_fault live (NotUnit flight node) none = none
+  no_fault live (Closed flight node) first = live flight node first.here
+  no_fault live (UnknownRow position) (same, first) =
+      absurd (no_item position first.multiplier first.here)
+  no_fault live (Useless value) none = none
+
+  bare_bound : HasBound parts box (Dual 1 [])
+  bare_bound live (Ok bound) is = refl
+  bare_bound live (Err fault) (inl bound) = absurd (let none = bound.said.0 in omega (arith, none))
+  bare_bound live (Err fault) (inr first) = absurd (no_fault live fault first)
+
+  pub bare_has : (leaf : Leaf) → leaf ≡ Dual 1 [] → HasBound parts box leaf
+  bare_has leaf is = subst (HasBound parts box) (sym is) bare_bound
+
+pub bare_range : (leaf : Leaf) → leaf ≡ Dual 1 [] → IsInRange leaf
+bare_range leaf is = subst IsInRange (sym is) (record {
+  weight_to = omega arith;
+  values = All-nil (λ (row : Multiplier). row.value < 2 ^ 62);
+  few = omega arith;
+})
