@@ -1,1 +1,3 @@
+pub mod Forests
 pub mod Leaves
+pub mod Trees

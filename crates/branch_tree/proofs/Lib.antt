@@ -1,0 +1,2 @@
+pub mod ForestFacts
+pub mod TreeFacts
