@@ -1,6 +1,7 @@
--- The bound of a box: what an Empty or a Unit leaf says of it, or else the greater one of what the
--- relaxation says and of what all flights would cost if each were alone.
-use Rattle.std.specs.Prelude.{◌≡◌, ◌⊎◌, ℕ, Option, None, Some, ℤ, Ok}
+-- The bound of a box: what an Empty or a Unit leaf says of it. Else what all flights would cost if
+-- each were alone, where that is the cutoff or more, or one of them has no trip; else the greater
+-- one of that and of what the relaxation says.
+use Rattle.std.specs.Prelude.{◌≡◌, ◌⊎◌, ℕ, Bool, false, true, not, int_lt, Option, None, Some, ℤ, Ok}
 use Rattle.std.specs.Int.{int_max}
 use Rattle.flow_types.specs.declared.bound.Bound.{Bound}
 use Rattle.flow_types.specs.declared.bound.Bound.TheVariants.{AtLeast, NoPlan}
@@ -17,6 +18,27 @@ greater NoPlan second = NoPlan
 greater (AtLeast first) NoPlan = NoPlan
 greater (AtLeast first) (AtLeast second) = AtLeast (int_max first second)
 
+-- nothing is left to be gained: a flight has no trip, or no plan costs less than the cutoff
+abbrev pub is_reached : Option ℤ → Bound → Bool
+is_reached cutoff NoPlan = true
+is_reached None (AtLeast first) = false
+is_reached (Some cutoff) (AtLeast first) = not (int_lt first cutoff)
+
+pub record IsGreaterBound (parts : Parts) (box : Box) (limits : Limits) (cutoff : Option ℤ)
+    (first bound : Bound) : Type 0 where
+  pub relaxed : Bound
+  pub relaxed_is : IsRelaxedBound parts box limits cutoff relaxed
+  pub both : bound ≡ greater relaxed first
+
+-- what is known of a box with some choice
+pub record IsBetterBound (parts : Parts) (box : Box) (limits : Limits) (cutoff : Option ℤ)
+    (bound : Bound) : Type 0 where
+  pub first : Bound
+  pub first_is : IsFirstBound parts box first
+  pub reached : is_reached cutoff first ≡ true → bound ≡ first
+  pub unreached : is_reached cutoff first ≡ false
+      → IsGreaterBound parts box limits cutoff first bound
+
 -- a box with some choice
 pub record IsOpenBound (parts : Parts) (box : Box) (limits : Limits) (cutoff : Option ℤ)
     (bound : Bound) : Type 0 where
@@ -24,11 +46,7 @@ pub record IsOpenBound (parts : Parts) (box : Box) (limits : Limits) (cutoff : O
   pub flight : ℕ
   pub node : ℕ
   pub choice : IsNotUnit box flight node
-  pub relaxed : Bound
-  pub first : Bound
-  pub relaxed_is : IsRelaxedBound parts box limits cutoff relaxed
-  pub first_is : IsFirstBound parts box first
-  pub both : bound ≡ greater relaxed first
+  pub better : IsBetterBound parts box limits cutoff bound
 
 -- a box with none, which has one plan at the most
 pub record IsPlainBound (parts : Parts) (box : Box) (bound : Bound) : Type 0 where

@@ -1,5 +1,5 @@
 //! A row in a block of its own.
-ghost use Rattle.std.specs.Prelude.{◌≡◌, ◌≤◌, [], None, length, nat_abs, vec_capacity};
+ghost use Rattle.std.specs.Prelude.{◌≡◌, ◌≤◌, [], None, length, nat_abs, true, vec_capacity};
 ghost use Rattle.std.specs.List.{find};
 ghost use Rattle.row_arena.specs.Arena.{is_far};
 ghost use Rattle.row_arena.specs.Products.{IsPlaceOf, entries_of, entry_of, far_of};
@@ -49,19 +49,19 @@ impl Row {
         &self.entries
     }
 
-    /// Puts others in their place, in the block that is there if they fit into it.
+    /// Puts others in their place, in the block that is there if it fits them.
     pub fn write(&mut self, alloc: Global, wides: &[WideEntry]) -> Result<(), OutOfMemory>
         requires { find is_far (entries_of wides.now) ≡ None }
         ensures ok { OnOk result (self.new ≡ entries_of wides.now) }
         ensures err { OnErr result (self.new ≡ self.old) }
     {
-        if self.entries.capacity() < wides.len() {
+        if fits(self.entries.capacity(), wides.len()) {
+            self.entries.clear();
+            write_all(&mut self.entries, wides);
+        } else {
             let mut block = Vec::with_capacity(alloc, wides.len())?;
             write_all(&mut block, wides);
             self.entries = block;
-        } else {
-            self.entries.clear();
-            write_all(&mut self.entries, wides);
         }
         Ok(())
     }
@@ -73,6 +73,13 @@ impl Row {
     {
         negate_all(&mut self.entries);
     }
+}
+
+// Whether a block of this capacity has room for so many entries, and isn't far too long for them.
+fn fits(capacity: usize, count: usize) -> bool
+    ensures { result ≡ true → count ≤ capacity }
+{
+    count <= capacity && capacity / 4 <= count
 }
 
 // Writes the entries into a block that has room for them, and none yet.
