@@ -31,7 +31,7 @@ empty: not empty
 unit: not unit 0 0
 ";
 
-fn day_of(alloc: Global, text: &[u8]) -> Result<Scenario, Fail> {
+pub fn day_of(alloc: Global, text: &[u8]) -> Result<Scenario, Fail> {
     if text.len() > MOST_BYTES {
         return Err(Fail::from("a long text"));
     }

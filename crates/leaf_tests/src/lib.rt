@@ -1,7 +1,7 @@
-//! A test of `dual_leaf`: the bounds of leaves and their faults, against what an independent
-//! program says of them.
+//! Tests of `dual_leaf` and `relaxed_bound`: the bounds of leaves and their faults, and those of
+//! runs that end early, against what an independent program says of them.
 //!
-//! It stands above the leaves and the reader, so that neither is proved a second time with it. The
+//! It stands above these and the reader, so that none is proved a second time with it. The
 //! clauses of `dual_leaf` say that a bound is that of its definition; the test, that the definition
 //! is the bound that another program gives. A line of the table is a step to the next box, or a
 //! leaf and what is said of it:
@@ -12,6 +12,8 @@
 //! `tools/leaves_table` makes the table, and tells what its lines are.
 #![tactic(auto)]
 
+#[cfg(test)]
+mod bounds;
 #[cfg(test)]
 mod leaves;
 #[cfg(test)]

@@ -20,13 +20,13 @@ use valid_cuts::Pool;
 ///
 /// A run of the box's program, within the limits and up to the cutoff, tells a weight of the cost
 /// and a multiplier for each row, however it ends; the bound is that of the Dual leaf with these.
-/// It is no less than the value at which the run ended. Where there is no room for the first
-/// tableau no row counts, and the bound is what the variables cost at the least.
+/// Where there is no room for the first tableau no row counts, and the bound is what the variables
+/// cost at the least.
 ///
-/// First it takes what `program` takes, and beside the program 20 bytes for each entry of the
-/// tableau, or some times that, since rows keep the longest block that they had; when all of this is
-/// free again, it takes what `LeafWork::new` takes. Time: for each pivot the rows that have an entry
-/// in its column, and then as a Dual leaf.
+/// First it takes what `program_within` takes, and beside the program 20 bytes for each entry of
+/// the tableau, or some times that, since lists grow and rows keep blocks that are up to four times
+/// too long; when all of this is free again, it takes what `LeafWork::new` takes. Time: for each
+/// pivot the rows that have an entry in its column, and then as a Dual leaf.
 pub fn relaxed_bound(
     alloc: Global,
     s: &Scenario,

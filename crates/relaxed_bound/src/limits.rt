@@ -5,6 +5,6 @@
 pub struct Limits {
     /// How many pivots it makes.
     pub pivots: u64,
-    /// How many entries its tableau has, of 16 bytes each.
+    /// How many entries its tableau has. Each takes some times 20 bytes.
     pub cells: u32,
 }

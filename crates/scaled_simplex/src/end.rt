@@ -3,7 +3,8 @@
 /// How a run of the dual simplex ends. Each end tells a bound that is true.
 #[derive(Clone, Copy, Debug, PartialEq, Eq)]
 pub enum End {
-    /// No cheaper values of the columns keep the constraints, and those of the tableau do.
+    /// No right side is negative. No values of the columns that keep the constraints cost less than
+    /// the tableau's value.
     Optimal,
     /// The value, rounded up, has reached the cutoff.
     Cut,

@@ -1,6 +1,6 @@
-//! The least cost of columns that are 0 or more and keep every constraint: the dual simplex in whole
-//! numbers (Lemke 1954; rows scaled to whole numbers as in Edmonds 1967 and Bareiss 1968). Nothing is
-//! ever rounded, every run ends, and each of its ends tells a bound that is true.
+//! The least cost of columns that are 0 or more and keep every constraint: the dual simplex in
+//! whole numbers (Lemke 1954; rows scaled to whole numbers as in Edmonds 1967 and Bareiss 1968).
+//! Nothing is ever rounded, every run ends, and each of its ends tells a bound that is true.
 //!
 //! A caller makes a program, and runs it in room for so many entries:
 //!
@@ -10,7 +10,7 @@
 //!     let run = Solver::new(alloc, &program, 1000)?.run(100, None)?;
 //!     if run.end() == End::Optimal {
 //!         let value = run.value();
-//!         println!("the least cost is {} / {}", value.numerator, value.denominator);
+//!         println!("nothing costs less than {} / {}", value.numerator, value.denominator);
 //!     }
 //!     let weights = run.multipliers(alloc)?;
 //!
@@ -31,8 +31,9 @@
 //! when it has become long.
 //!
 //! Memory: a program takes 8 bytes for each column, 16 for each factor and some 40 for each row; a
-//! run 16 for each entry, 4 for each row in the lists (at most some four times the entries), 24 for
-//! each index, and 32 for each entry of the longest row, or up to twice that, since the lists grow.
+//! run 16 for each entry, up to four times that where rows have become shorter, 4 for each row in
+//! the lists (at most some four times the entries), 24 for each index, and 32 for each entry of the
+//! longest row, or up to twice that, since the lists grow.
 #![tactic(auto)]
 
 mod basis;

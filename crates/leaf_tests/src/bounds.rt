@@ -1,0 +1,85 @@
+//! Bounds of a box by runs with little room, few pivots or a cutoff.
+
+use crate::leaves::day_of;
+use flow_types::{Bound, Scenario};
+use relaxed_bound::{Limits, relaxed_bound};
+use std::alloc::Global;
+use std::process::Abort;
+use std::test::Fail;
+use time_windows::{Boxes, Tight};
+use worked_days::TWO_FLIGHTS;
+
+// How far a run goes: its room, its pivots and its cutoff.
+#[derive(Clone, Copy, Debug)]
+struct Case {
+    cells: u32,
+    pivots: u64,
+    cutoff: Option<i64>,
+}
+
+// A run that has room, and no cutoff.
+fn after(pivots: u64) -> Case {
+    Case {
+        cells: 1_000_000,
+        pivots,
+        cutoff: None,
+    }
+}
+
+// A run that has pivots, and no cutoff.
+fn within(cells: u32) -> Case {
+    Case {
+        cells,
+        pivots: 100,
+        cutoff: None,
+    }
+}
+
+// A run that has room and pivots.
+fn up_to(cutoff: i64) -> Case {
+    Case {
+        cells: 1_000_000,
+        pivots: 100,
+        cutoff: Some(cutoff),
+    }
+}
+
+// What is said of each run on the tight root box, by an independent program.
+fn try_case(
+    rt: &impl Abort,
+    alloc: Global,
+    s: &Scenario,
+    case: Case,
+    least: i128,
+) -> Result<(), Fail> {
+    let mut boxes = Boxes::root(alloc, s)?;
+    match boxes.tighten(s) {
+        Tight::Empty(..) => Err(Fail::from("no plan")),
+        Tight::Live => {
+            let Case {
+                cells,
+                pivots,
+                cutoff,
+            } = case;
+            let bound = relaxed_bound(alloc, s, &boxes, Limits { pivots, cells }, cutoff)?;
+            assert_eq!(rt; bound, Bound::AtLeast(least), "{case:?}");
+            Ok(())
+        }
+    }
+}
+
+#[test]
+fn bounds_on_the_day_of_two_flights(rt: HostRuntime) -> Result<(), Fail> {
+    let alloc = rt.alloc();
+    let s = day_of(alloc, TWO_FLIGHTS)?;
+    for (pivots, least) in [(0, -8), (1, -7), (10, -5), (24, -1), (25, 0), (29, 0), (30, 1)] {
+        try_case(&rt, alloc, &s, after(pivots), least)?;
+    }
+    for (cells, least) in [(10, -8), (283, -8), (400, -5), (500, -2), (700, 0), (100_000, 1)] {
+        try_case(&rt, alloc, &s, within(cells), least)?;
+    }
+    for (cutoff, least) in [(-8, -8), (0, 0), (1, 1), (2, 1)] {
+        try_case(&rt, alloc, &s, up_to(cutoff), least)?;
+    }
+    Ok(())
+}
