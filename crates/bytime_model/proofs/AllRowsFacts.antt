@@ -11,9 +11,9 @@ use Rattle.flow_types.specs.Capacities.{has_kind}
 use Rattle.flow_types.proofs.PlaceFacts.{has_kind-within}
 use Rattle.bytime_model.specs.declared.names.RowName.{RowName}
 use Rattle.bytime_model.specs.declared.names.RowName.TheVariants.{Arr, Connect, Cut, Dep, Enter, Leave, Mono, Occupy, Sector, Top}
-use Rattle.bytime_model.specs.AllRows.{capacity_name, capacity_names, connect_names, enter_names, leave_names, mono_names, node_count, occupy_names, over_all_nodes, over_connections, over_nodes, over_places, rows_of, top_names}
+use Rattle.bytime_model.specs.AllRows.{capacity_name, capacity_names, connect_names, enter_names, leave_names, mono_names, node_count, node_names, occupy_names, over_all_nodes, over_connections, over_nodes, over_places, rows_of, top_names}
+use Rattle.bytime_model.specs.declared.all_rows.NodeKind.{NodeKind}
 use Rattle.bytime_model.specs.declared.all_rows.NodeKind.TheVariants as of
-use Rattle.bytime_model.specs.Listing.{node_names}
 use Rattle.bytime_model.specs.Rows.{goes_on, is_capacity, is_node, is_row}
 use Rattle.bytime_model.specs.Values.{has_inside}
 use Rattle.bytime_model.proofs.NameLists.{Each, any_first, any_flat, any_if, any_map, any_second, each_any, each_append, each_flat, each_if, each_map}
@@ -49,7 +49,7 @@ flight_within (flight ∷ flights) (suc f) n within =
     omega (arith, flight_within flights f n within)
 
 module _ (parts : Parts) where
-  abbrev Is : RowName → Type 0
+  abbrev pub Is : RowName → Type 0
   Is name = is_row parts name ≡ true
 
   -- each name is a row's
@@ -94,13 +94,20 @@ module _ (parts : Parts) where
   leaves_are = nodes_are (leave_names parts) (λ f n within.
       each_if Is (goes_on (slice_get parts.flights f) n) (Leave f n ∷ []) (λ on. (on, tt)))
 
+  pub nodes_each : (kind : NodeKind) → Each Is (over_all_nodes parts (node_names parts kind))
+  nodes_each of.Mono = monos_are
+  nodes_each of.Top = tops_are
+  nodes_each of.Occupy = occupies_are
+  nodes_each of.Enter = enters_are
+  nodes_each of.Leave = leaves_are
+
   capacity_is : (kind : CapKind) (p t : ℕ)
       → is_row parts (capacity_name kind p t) ≡ is_capacity parts kind p t
   capacity_is kind.Dep p t = refl
   capacity_is kind.Arr p t = refl
   capacity_is kind.Sector p t = refl
 
-  places_are : (kind : CapKind) → Each Is (over_places parts kind)
+  pub places_are : (kind : CapKind) → Each Is (over_places parts kind)
   places_are kind = each_flat Is (capacity_names parts kind) 0 (length parts.places) (λ p _ _.
       each_if Is (has_kind kind (slice_get parts.places p))
       (map (capacity_name kind p) (range_with_len 0 parts.day.periods)) (λ has.
@@ -109,7 +116,7 @@ module _ (parts : Parts) where
       ∙ and_from (has_kind kind (slice_get parts.places p)) (nat_lt t parts.day.periods) has
       (lt-ltb t parts.day.periods (omega (arith, before))))))
 
-  connects_are : Each Is (over_connections parts)
+  pub connects_are : Each Is (over_connections parts)
   connects_are = each_flat Is (connect_names parts) 0 (length parts.connections) (λ c _ within.
       each_map Is (Connect c) 0 parts.day.periods (λ t past before.
       and_from (nat_lt c (length parts.connections)) (nat_lt t parts.day.periods)

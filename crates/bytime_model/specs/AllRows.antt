@@ -6,6 +6,8 @@ use Rattle.flow_types.specs.declared.parts.Parts.{Parts}
 use Rattle.flow_types.specs.declared.place.CapKind.{CapKind}
 use Rattle.flow_types.specs.declared.place.CapKind.TheVariants as kind
 use Rattle.flow_types.specs.Capacities.{has_kind}
+use Rattle.bytime_model.specs.declared.all_rows.NodeKind.{NodeKind}
+use Rattle.bytime_model.specs.declared.all_rows.NodeKind.TheVariants as of
 use Rattle.bytime_model.specs.declared.names.RowName.{RowName}
 use Rattle.bytime_model.specs.declared.names.RowName.TheVariants.{Arr, Connect, Dep, Enter, Leave, Mono, Occupy, Sector, Top}
 use Rattle.bytime_model.specs.Rows.{goes_on}
@@ -34,6 +36,13 @@ enter_names parts f n = if nat_lt 0 n then map (Enter f n) (periods_of parts) el
 
 abbrev pub leave_names : Parts → ℕ → ℕ → List RowName
 leave_names parts f n = if goes_on (slice_get parts.flights f) n then Leave f n ∷ [] else []
+
+abbrev pub node_names : Parts → NodeKind → ℕ → ℕ → List RowName
+node_names parts of.Mono = mono_names parts
+node_names parts of.Top = top_names
+node_names parts of.Occupy = occupy_names parts
+node_names parts of.Enter = enter_names parts
+node_names parts of.Leave = leave_names parts
 
 -- those of a place
 abbrev pub capacity_name : CapKind → ℕ → ℕ → RowName

@@ -2,7 +2,6 @@ pub mod AllRows
 pub mod CostRow
 pub mod Filling
 pub mod Left
-pub mod Listing
 pub mod Order
 pub mod Rows
 pub mod Values

@@ -1,10 +1,9 @@
-//! The names of all rows of a day.
+//! The names of all rows of a day, together or part by part.
 ghost use Rattle.std.specs.Prelude.{◌≡◌, ◌++◌, ◌↔◌, [], true, AllPairs, IfOk, OnOk, map};
 ghost use Rattle.std.specs.List.{Any};
 ghost use Rattle.flow_types.specs.Scenario.{flight_at, parts_of};
 ghost use Rattle.bytime_model.specs.declared.names.RowName.TheVariants.{Connect, Enter, Leave, Mono, Occupy, Top};
-ghost use Rattle.bytime_model.specs.AllRows.{capacity_name, capacity_names, connect_names, enter_names, leave_names, mono_names, node_count, occupy_names, over_all_nodes, over_connections, over_nodes, over_places, periods_of, rows_of, top_names};
-ghost use Rattle.bytime_model.specs.Listing.{node_names};
+ghost use Rattle.bytime_model.specs.AllRows.{capacity_name, capacity_names, connect_names, enter_names, leave_names, mono_names, node_count, node_names, occupy_names, over_all_nodes, over_connections, over_nodes, over_places, periods_of, rows_of, top_names};
 ghost use Rattle.bytime_model.specs.Rows.{goes_on, is_row};
 ghost use Rattle.bytime_model.specs.declared.names.RowName.{RowName};
 ghost use Rattle.bytime_model.specs.Order.{IsBefore};
@@ -30,7 +29,55 @@ pub fn rows_of(alloc: Global, s: &Scenario) -> Result<RowNames, OutOfMemory>
     Ok(names)
 }
 
-// The same to a list that has none.
+/// The names of this kind that are of the flight, node by node. Those of all flights, one after the
+/// other, are the names of this kind in `rows_of`. It takes 12 bytes for each name, or up to twice
+/// that, since the list grows. There are 16,384 at the most.
+pub fn flight_rows(
+    alloc: Global,
+    s: &Scenario,
+    kind: NodeKind,
+    flight: u32,
+) -> Result<RowNames, OutOfMemory>
+    ensures { IfOk result (λ names. names
+        ≡ over_nodes (parts_of s.now) (node_names (parts_of s.now) kind) flight) }
+{
+    let mut names = RowNames::empty(alloc);
+    add_nodes(&mut names, s, kind, flight)?;
+    Ok(names)
+}
+
+/// The names of a capacity of the place in each period, if it has such capacities. Those of all
+/// places, one after the other, are the names of this kind in `rows_of`. It takes 12 bytes for each
+/// name, or up to twice that, since the list grows. There are 512 at the most.
+pub fn place_rows(
+    alloc: Global,
+    s: &Scenario,
+    kind: CapKind,
+    place: u32,
+) -> Result<RowNames, OutOfMemory>
+    ensures { IfOk result (λ names. names ≡ capacity_names (parts_of s.now) kind place) }
+{
+    let mut names = RowNames::empty(alloc);
+    add_place(&mut names, s, kind, place)?;
+    Ok(names)
+}
+
+/// The names of the connection in each period. Those of all connections, one after the other, are
+/// the last names in `rows_of`. It takes 12 bytes for each name, or up to twice that, since the
+/// list grows. There are 512 at the most.
+pub fn connection_rows(
+    alloc: Global,
+    s: &Scenario,
+    connection: u32,
+) -> Result<RowNames, OutOfMemory>
+    ensures { IfOk result (λ names. names ≡ connect_names (parts_of s.now) connection) }
+{
+    let mut names = RowNames::empty(alloc);
+    add_connection(&mut names, s, connection)?;
+    Ok(names)
+}
+
+// All names to a list that has none.
 #[tactic(auto, using(crate::proofs::AllRowsFacts::rows_then))]
 fn add_all(names: &mut RowNames, s: &Scenario) -> Result<(), OutOfMemory>
     requires { names.old ≡ [] }
@@ -48,13 +95,18 @@ fn add_all(names: &mut RowNames, s: &Scenario) -> Result<(), OutOfMemory>
     Ok(())
 }
 
-// A kind of rows that are of a node of a flight.
-#[derive(Clone, Copy)]
-enum NodeKind {
+/// A kind of rows that are of a node of a flight, as in `RowName`.
+#[derive(Clone, Copy, Debug, PartialEq, Eq)]
+pub enum NodeKind {
+    /// What is entered by a period is entered by the next one.
     Mono,
+    /// The node is entered once at the most.
     Top,
+    /// Whoever has entered the node is inside, or has entered a next one.
     Occupy,
+    /// Whoever has entered the node has entered one before it.
     Enter,
+    /// Whoever has entered the node enters a next one.
     Leave,
 }
 

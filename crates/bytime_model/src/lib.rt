@@ -20,6 +20,11 @@
 //! calls `fill_with(&s, &visits, name)`: then a row of a capacity goes over the flights alone that
 //! have a node at the place.
 //!
+//! Whoever has no room for the names of all rows at once takes them part by part:
+//! `flight_rows(alloc, &s, kind, flight)` gives those of one flight, of a `NodeKind`,
+//! `place_rows(alloc, &s, kind, place)` those of a place, of a kind of capacity, and
+//! `connection_rows(alloc, &s, connection)` those of a connection.
+//!
 //! Whoever adds up what plans cost without a list of terms goes over the flights. For each `delay`
 //! below `most_late(&s, flight)`, `late_step(&s, flight, delay)` is the factor of having entered
 //! the last node so long after the scheduled arrival; `most_wait` and `wait_step` are the same for
@@ -27,11 +32,12 @@
 //! and `wait_term` give such a factor with its variable.
 //!
 //! The definitions stand in `specs/`: `Values` (the values of the variables at a plan), `Rows` (the
-//! rows, by their names), `AllRows` (the names of all rows), `Order` (their order), `Visits` (who
-//! has a node at a place), `CostRow` (what a plan costs, as a sum of terms) and `Left` (what a box
-//! leaves of a variable). `Filling` and `Listing` serve the proofs alone. `proofs/SmallFacts.antt`
-//! is for the proofs of crates above: how large factors, limits and steps are, and how long a row
-//! is; they stand on the other files of proofs too.
+//! rows, by their names), `AllRows` (the names of all rows, and its parts), `Order` (their order),
+//! `Visits` (who has a node at a place), `CostRow` (what a plan costs, as a sum of terms) and
+//! `Left` (what a box leaves of a variable). `Filling` serves the proofs alone.
+//! `proofs/SmallFacts.antt` and `proofs/AllRowsFacts.antt` are for the proofs of crates above: how
+//! large factors, limits and steps are, how long a row is, and of which names there are rows; they
+//! stand on the other files of proofs too.
 //!
 //! Proved: `fill` and `fill_with` tell whether there is a row of that name (`told`) and hold
 //! exactly it (`row`), which no plan that keeps every rule breaks (`valid`), or no terms (`none`);
@@ -39,7 +45,8 @@
 //! (`collected`): no two are of one variable, and no factor is 0. `rows_of` gives the names of
 //! all rows (`names`): a name is among them exactly where there is such a row (`each`), and each
 //! comes before all later ones (`order`), as `is_before` tells, so that no name comes twice
-//! (`rows_are_in_one_order`). `Visits::at` gives the flights that have a node at the place, in
+//! (`rows_are_in_one_order`). `flight_rows`, `place_rows` and `connection_rows` give exactly the
+//! definition's parts of these. `Visits::at` gives the flights that have a node at the place, in
 //! their order. `linear_cost` gives the cost row (`row`), whose value at a plan is the plan's cost
 //! (`cost`); the calls for one step or term, for how many there are and for the constant give what
 //! the definition has for them, and so does `has_inside`. `left_of` tells what the box leaves of a
@@ -47,13 +54,13 @@
 //!
 //! Memory: `RowBuffer` takes 0.2 MB once, `Visits` 8 bytes for each node of a flight and for each
 //! place, `linear_cost` 24 bytes for each period that a flight may be late or wait, `row_of` 24 for
-//! each term, and `rows_of` 12 for each name; these take up to twice that, since the lists grow.
-//! While it runs `row_of` takes a `RowBuffer` more, and `Visits::new` up to 28 bytes for each node
-//! and 4 for each place. The others take none. Time: for a row of a capacity, `fill` goes over the
-//! flights of the day, and `fill_with` over those that have a node at the place; for that of a
-//! sector, `fill` also goes over the nodes of each flight, and both over the legs of each flight
-//! that has a node there. For any other row both go over the legs of its flight. `Visits::new` goes
-//! over the nodes of all flights and over the places.
+//! each term, and `rows_of` and the calls for its parts 12 for each name; these take up to twice
+//! that, since the lists grow. While it runs `row_of` takes a `RowBuffer` more, and `Visits::new`
+//! up to 28 bytes for each node and 4 for each place. The others take none. Time: for a row of a
+//! capacity, `fill` goes over the flights of the day, and `fill_with` over those that have a node
+//! at the place; for that of a sector, `fill` also goes over the nodes of each flight, and both
+//! over the legs of each flight that has a node there. For any other row both go over the legs of
+//! its flight. `Visits::new` goes over the nodes of all flights and over the places.
 #![tactic(auto)]
 
 mod all_rows;
@@ -68,7 +75,7 @@ mod variables;
 mod visited;
 mod visits;
 
-pub use all_rows::rows_of;
+pub use all_rows::{NodeKind, connection_rows, flight_rows, place_rows, rows_of};
 pub use buffer::{MOST_TERMS, RowBuffer};
 pub use cost_row::{
     CostRow, constant_of, late_step, late_term, linear_cost, most_late, most_wait, wait_step,

@@ -1,6 +1,5 @@
 use Rattle.flow_types.specs.Scenario.{parts_of}
-use Rattle.bytime_model.specs.AllRows.{over_nodes}
-use Rattle.bytime_model.specs.Listing.{node_names}
+use Rattle.bytime_model.specs.AllRows.{node_names, over_nodes}
 use Rattle.bytime_model.proofs.ListingFacts.{listed_more}
 use Rattle.bytime_model.proofs.all_rows.add_all_nodes.Goals as goal
 
