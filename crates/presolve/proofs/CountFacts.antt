@@ -1,16 +1,15 @@
 -- Counting the entries of the program's first tableau.
 use Rattle.std.proofs.Common.{◌≡◌, ℕ, zero, suc, ◌+◌, ◌*◌, ◌<◌, ◌≤◌, Bool, true, false, List, [], ◌∷◌, ◌++◌, length, map, get_or, take, sum_by, if◌then◌else◌, int_lt, ℤ, Option, None, Some, refl, sym, ap, ◌∙◌, subst, arith}
 use Rattle.std.proofs.lemmas.List.{length-append, length-map, take_more}
-use Rattle.std.proofs.lemmas.List.Concat.{length-flat_map}
 use Rattle.std.proofs.lemmas.List.FromFn.{length-range_with_len}
 use Rattle.std.proofs.lemmas.List.Sums.{sum_by-append, sum_by-cons, sum_by-take-le}
-use Rattle.std.specs.List.{filter, flat_map, range_with_len}
+use Rattle.std.specs.List.{flat_map, range_with_len}
 use Rattle.flow_types.specs.declared.parts.Parts.{Parts}
 use Rattle.row_arena.specs.declared.entry.Entry.{Entry}
 use Rattle.row_arena.specs.Arena.{live}
 use Rattle.row_arena.specs.Rows.{unless_zero}
-use Rattle.scaled_simplex.specs.Program.{Constraint, Problem, columns}
-use Rattle.scaled_simplex.specs.Tableau.{constraint_row, constraint_rows, cost_row, first_tableau, one_at, right_side}
+use Rattle.scaled_simplex.specs.Program.{Problem, columns}
+use Rattle.scaled_simplex.specs.Tableau.{constraint_row, constraint_rows, cost_row, one_at, right_side}
 use Rattle.time_windows.specs.Boxes.{Box}
 use Rattle.bytime_model.specs.declared.names.RowName.{RowName}
 use Rattle.bytime_model.specs.AllRows.{rows_of}

@@ -8,6 +8,7 @@ pub mod GatherFacts
 pub mod LandedFacts
 pub mod LeafFacts
 pub mod ListFacts
+pub mod NamesFacts
 pub mod NumberFacts
 pub mod ProgramFacts
 pub mod PromiseFacts

@@ -17,14 +17,12 @@ use Rattle.time_windows.specs.Boxes.{Box}
 use Rattle.bytime_model.specs.declared.names.RowName.{RowName}
 use Rattle.bytime_model.specs.declared.names.RowName.TheVariants.{Connect, Enter, Leave, Mono, Occupy}
 use Rattle.bytime_model.specs.AllRows.{capacity_name, capacity_names, connect_names, enter_names, leave_names, mono_names, node_count, occupy_names, over_all_nodes, over_connections, over_nodes, over_places, rows_of, top_names}
-use Rattle.bytime_model.specs.Rows.{goes_on, is_row}
+use Rattle.bytime_model.specs.Rows.{goes_on}
 use Rattle.bytime_model.specs.Values.{has_inside}
-use Rattle.bytime_model.proofs.AllRowsFacts.{rows_each}
-use Rattle.presolve.specs.Listing.{AddsRows, HaveCosts, kept_among, with_rows}
+use Rattle.presolve.specs.Listing.{AddsRows, HaveCosts, with_rows}
 use Rattle.presolve.specs.Relaxed.{at_most_one, cost_in, flipped_of, kept_of, kept_row, program_of}
 use Rattle.presolve.specs.Variables.{columns_of}
 use Rattle.presolve.proofs.FreeFacts.{columns_few, flat_few, nodes_few}
-use Rattle.presolve.proofs.PromiseFacts.{every}
 use Rattle.presolve.proofs.RowFacts.{kept_few}
 
 -- how many rows there are at most
@@ -144,13 +142,6 @@ module _ (parts : Parts) (scenario : IsScenario parts) where
         connections_few,
       )
 
-pub names_are : (parts : Parts) (names : List RowName) → names ≡ rows_of parts
-    → All (λ name. is_row parts name ≡ true) names
-names_are parts names are =
-    subst (λ list. All (λ name. is_row parts name ≡ true) list) (sym are)
-    (every (λ name. is_row parts name ≡ true) (rows_of parts)
-    (λ name any. (rows_each parts name).0 any))
-
 -- the costs
 module _ (parts : Parts) (box : Box) (values : List ℤ) (paid : ℤ)
     (have : HaveCosts parts box values paid) where
@@ -227,31 +218,28 @@ module _ (parts : Parts) (box : Box) (values : List ℤ) (paid : ℤ)
         constraints = (program_of parts box).constraints;
       }) have.constant
 
-pub rows_are : (parts : Parts) (box : Box) (names start kept : List RowName) (count : ℕ)
-    (first second third : Problem) → AddsRows parts box names first second start kept
-    → names ≡ rows_of parts
+pub rows_are : (parts : Parts) (box : Box) (start kept : List RowName) (count : ℕ)
+    (first second third : Problem) → AddsRows parts box (rows_of parts) first second start kept
     → third ≡ with_rows second (map at_most_one (range_with_len 0 count))
     → count ≡ length (columns_of parts box)
     → third ≡ with_rows first (program_of parts box).constraints
-rows_are parts box names start kept count first second third rows named ones long =
+rows_are parts box start kept count first second third rows ones long =
     ones
     ∙ ap (λ (p : Problem). with_rows p (map at_most_one (range_with_len 0 count))) rows.program
     ∙ ap (λ list. record {
       costs = first.costs;
       constant = first.constant;
       constraints = list;
-    }) (append_assoc first.constraints (map (kept_row parts box) (kept_among parts box names))
+    }) (append_assoc first.constraints (map (kept_row parts box) (kept_of parts box))
     (map at_most_one (range_with_len 0 count))
-    ∙ ap (λ list. first.constraints ++ (map (kept_row parts box) (kept_among parts box list)
-    ++ map at_most_one (range_with_len 0 count))) named
     ∙ ap (λ n. first.constraints ++ (map (kept_row parts box) (kept_of parts box)
     ++ map at_most_one (range_with_len 0 n))) long)
 
-pub kept_is : (parts : Parts) (box : Box) (names kept : List RowName) (first second : Problem)
-    → AddsRows parts box names first second [] kept → names ≡ rows_of parts
+pub kept_is : (parts : Parts) (box : Box) (start kept : List RowName) (first second : Problem)
+    → AddsRows parts box (rows_of parts) first second start kept → start ≡ []
     → kept ≡ kept_of parts box
-kept_is parts box names kept first second rows named =
-    rows.kept ∙ ap (kept_among parts box) named
+kept_is parts box start kept first second rows none =
+    rows.kept ∙ ap (λ list. list ++ kept_of parts box) none
 
 -- there is room for all columns and rows
 pub sizes_few : (parts : Parts) (box : Box) (values sizes : List ℤ) (paid : ℤ)
@@ -262,31 +250,27 @@ sizes_few parts box values sizes paid scenario have are =
     let few = columns_few parts scenario box in
     omega (arith, long, few)
 
-pub rows_room : (parts : Parts) (box : Box) (names : List RowName) (count : ℕ) (first : Problem)
-    → IsScenario parts → names ≡ rows_of parts → columns first ≡ count
-    → count ≡ length (columns_of parts box) → first.constraints ≡ []
-    → columns first + length first.constraints + length names ≤ most_indices
-rows_room parts box names count first scenario named long count_is none =
+pub rows_room : (parts : Parts) (box : Box) (count : ℕ) (first : Problem) → IsScenario parts
+    → columns first ≡ count → count ≡ length (columns_of parts box) → first.constraints ≡ []
+    → columns first + length first.constraints + length (rows_of parts) ≤ most_indices
+rows_room parts box count first scenario long count_is none =
     let rows = rows_few parts scenario in
     let cols = columns_few parts scenario box in
-    let one = ap length named in
     let three = ap length none in
-    omega (arith, rows, cols, one, three, long, count_is)
+    omega (arith, rows, cols, three, long, count_is)
 
-pub ones_room : (parts : Parts) (box : Box) (names start kept : List RowName) (count : ℕ)
-    (first second : Problem) → IsScenario parts → names ≡ rows_of parts
-    → AddsRows parts box names first second start kept → first.constraints ≡ []
+pub ones_room : (parts : Parts) (box : Box) (start kept : List RowName) (count : ℕ)
+    (first second : Problem) → IsScenario parts
+    → AddsRows parts box (rows_of parts) first second start kept → first.constraints ≡ []
     → columns first ≡ count → count ≡ length (columns_of parts box)
     → columns second + length second.constraints + count ≤ most_indices
-ones_room parts box names start kept count first second scenario named rows none long count_is =
+ones_room parts box start kept count first second scenario rows none long count_is =
     let all = rows_few parts scenario in
     let cols = columns_few parts scenario box in
-    let one = ap length named in
     let two = ap (λ (p : Problem). length p.constraints) rows.program in
     let three = ap columns rows.program in
-    let four = length-append first.constraints
-    (map (kept_row parts box) (kept_among parts box names)) in
-    let five = length-map (kept_among parts box names) (kept_row parts box) in
-    let six = kept_few parts box names in
+    let four = length-append first.constraints (map (kept_row parts box) (kept_of parts box)) in
+    let five = length-map (kept_of parts box) (kept_row parts box) in
+    let six = kept_few parts box (rows_of parts) in
     let seven = ap length none in
-    omega (arith, all, cols, one, two, three, four, five, six, seven, long, count_is)
+    omega (arith, all, cols, two, three, four, five, six, seven, long, count_is)

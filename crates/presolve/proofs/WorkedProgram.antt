@@ -1,11 +1,10 @@
 -- The program of a narrow box of the day of two flights: each departs in one of two periods and
 -- arrives in one of two.
-use Rattle.std.proofs.Common.{◌≡◌, ℕ, ◌==◌, Bool, true, false, nat_lt, Some, List, [], ◌∷◌, length, map, if◌then◌else◌, ℤ, pos, neg_ℤ, refl}
+use Rattle.std.proofs.Common.{◌≡◌, ℕ, ◌==◌, Bool, true, false, Some, [], ◌∷◌, length, if◌then◌else◌, pos, neg_ℤ, refl}
 use Rattle.flow_types.specs.declared.parts.Parts.{Parts}
-use Rattle.scaled_simplex.specs.Program.{Constraint, Problem}
 use Rattle.time_windows.specs.declared.access.Access.{Access}
-use Rattle.time_windows.specs.Boxes.{Box, closed}
-use Rattle.bytime_model.specs.declared.names.RowName.TheVariants.{Arr, Dep, Enter, Leave, Mono, Sector, Top}
+use Rattle.time_windows.specs.Boxes.{Box}
+use Rattle.bytime_model.specs.declared.names.RowName.TheVariants.{Dep, Enter, Leave, Mono, Sector, Top}
 use Rattle.bytime_model.specs.declared.variables.Var.TheVariants.{By}
 use Rattle.presolve.specs.Leaf.{leaf_rows}
 use Rattle.presolve.specs.Relaxed.{kept_of, kept_row, flipped_of, may_exceed, program_of, row_in}

@@ -1,5 +1,6 @@
 pub mod Counting
 pub mod Gathering
+pub mod Kinds
 pub mod Landed
 pub mod Leaf
 pub mod Listing

@@ -9,6 +9,8 @@ use Rattle.time_windows.specs.Held.{Held, box_of}
 use Rattle.bytime_model.specs.declared.names.RowName.{RowName}
 use Rattle.bytime_model.specs.Visits.{AreVisitsOf}
 use Rattle.presolve.specs.declared.frame.Frame.{Frame}
+use Rattle.presolve.specs.declared.rows.Draft.{Draft}
+use Rattle.presolve.specs.Counting.{IsCounted, row_entries}
 use Rattle.presolve.specs.Gathering.{IsNumberedFor, size_of}
 use Rattle.presolve.specs.Relaxed.{constant_of, cost_in, flipped_of, kept_row, may_exceed, row_in}
 use Rattle.presolve.specs.Variables.{columns_of}
@@ -58,6 +60,12 @@ pub record AddsRows (parts : Parts) (box : Box) (names : List RowName) (old new 
     (before after : List RowName) : Type 0 where
   pub program : new ≡ with_rows old (map (kept_row parts box) (kept_among parts box names))
   pub kept : after ≡ before ++ kept_among parts box names
+
+-- the same of a draft, whose entries are counted
+pub record AddsNames (parts : Parts) (box : Box) (names : List RowName) (old new : Draft)
+    : Type 0 where
+  pub rows : AddsRows parts box names old.program new.program old.kept new.kept
+  pub counted : IsCounted (sum_by (row_entries parts box) names) old.tally new.tally
 
 -- how many columns there may be
 abbrev pub most_columns : ℕ

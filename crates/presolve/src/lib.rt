@@ -25,8 +25,8 @@
 //!
 //! The definitions stand in `specs/`: `Variables` (the columns), `Landed` (where a sum of terms
 //! lands), `Relaxed` (the program), `Leaf` (the leaf that multipliers give, and what they promise)
-//! and `Presolved` (what callers get). `Counting`, `Gathering` and `Listing` serve the proofs.
-//! `proofs/WorkedProgram.antt` has the program of a narrow box of a day of two flights.
+//! and `Presolved` (what callers get). `Counting`, `Gathering`, `Kinds` and `Listing` serve the
+//! proofs. `proofs/WorkedProgram.antt` has the program of a narrow box of a day of two flights.
 //!
 //! Proved: `program` and `program_within` give exactly the definition's program, columns, names and
 //! marks (`presolved`), and `program_within` gives none only where its first tableau has more
@@ -34,11 +34,13 @@
 //! anyone else, the Dual leaf that `leaf_of` makes of them has a value of no less than theirs (in
 //! `presolved`, `promise`). `leaf_of` gives exactly the definition's rows.
 //!
-//! Memory: 12 bytes for each row's name while it runs, 4 for each variable that the tight root box
-//! leaves free, 25 for each column, and what the program takes: 16 bytes for each factor and some
-//! 40 for each row; lists take up to twice that, since they grow. A program that is given up takes
-//! no more of this than one that has just room, and no names where its columns alone are too many.
-//! Time: for each variable of the day what the box leaves of it, and for each row its terms.
+//! Memory: 4 bytes for each variable that the tight root box leaves free, 25 for each column, and
+//! what the program takes: 16 bytes for each factor and some 40 for each row; lists take up to twice
+//! that, since they grow. While it runs, it takes the memory of a root box, the visits to the
+//! places, room for one row (0.2 MB), and 12 bytes for each row's name of one flight and kind, one
+//! place or one connection at a time (0.2 MB at the most). A program that is given up takes no more
+//! of this than one that has just room. Time: for each variable of the day what the box leaves of
+//! it, and for each row its terms.
 #![tactic(auto)]
 
 mod columns;
@@ -46,6 +48,7 @@ mod costs;
 mod flips;
 mod frame;
 mod gather;
+mod kinds;
 mod leaf;
 mod numbers;
 mod presolved;

@@ -14,10 +14,11 @@ ghost use Rattle.time_windows.specs.Tight.{IsTight};
 use crate::columns::columns_of;
 use crate::costs::{Costs, costs_of, negatives_of, sizes_of};
 use crate::frame::Frame;
+use crate::kinds::add_all_kinds;
 use crate::numbers::Numbers;
-use crate::rows::{Draft, add_ones, add_rows};
+use crate::rows::{Draft, add_ones};
 use crate::tally::{Refused, Tally};
-use bytime_model::{RowNames, Var, Vars, Visits, rows_of};
+use bytime_model::{RowNames, Var, Vars, Visits};
 use flow_types::{OutOfMemory, Scenario, Sequence};
 use scaled_simplex::Program;
 use std::alloc::Global;
@@ -107,8 +108,7 @@ fn add_all(
         (draft.old.tally.entries
         + sum_by (row_entries (parts_of s.now) (box_of boxes.now)) (rows_of (parts_of s.now))))) }
 {
-    let names = rows_of(alloc, s)?;
-    add_rows(draft, alloc, frame, s, boxes, names.items())?;
+    add_all_kinds(draft, alloc, frame, s, boxes)?;
     add_ones(&mut draft.program, alloc, count)?;
     Ok(())
 }
@@ -161,8 +161,9 @@ fn tallied(
 /// the constant less each multiplier times the row's limit is no more than the value of the Dual
 /// leaf with that weight and the rows that `leaf_of` gives.
 ///
-/// While it runs it takes the memory of a root box, 12 bytes for each row's name, and 4 for each
-/// variable that the tight root box leaves free.
+/// While it runs it takes the memory of a root box, 4 bytes for each variable that the tight root
+/// box leaves free, the visits to the places, room for one row, and the names of the rows of one
+/// flight and kind, one place or one connection at a time.
 pub fn program(
     alloc: Global,
     s: &Scenario,

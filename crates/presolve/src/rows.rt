@@ -5,7 +5,7 @@ ghost use Rattle.bytime_model.specs.Rows.{is_row};
 ghost use Rattle.flow_types.specs.Scenario.{parts_of};
 ghost use Rattle.presolve.specs.Counting.{IfWide, IsCounted, IsPast, row_entries};
 ghost use Rattle.presolve.specs.Gathering.{size_of};
-ghost use Rattle.presolve.specs.Listing.{AddsRow, AddsRows, IsFramed, IsLandedRow, most_size, with_rows};
+ghost use Rattle.presolve.specs.Listing.{AddsNames, AddsRow, IsFramed, IsLandedRow, most_size, with_rows};
 ghost use Rattle.presolve.specs.Relaxed.{at_most_one, flipped_row};
 ghost use Rattle.presolve.specs.Variables.{columns_of};
 ghost use Rattle.row_arena.specs.Rows.{IsRow};
@@ -109,7 +109,13 @@ fn add_row(
     let limit = land_row(room, frame, s, boxes, name)?;
     if limit < greatest(room.gathering.entries()) {
         draft.tally.add(room.gathering.entries().len() + 1, 1)?;
-        add_landed(&mut draft.program, alloc, &mut room.gathering, &frame.flips, limit)?;
+        add_landed(
+            &mut draft.program,
+            alloc,
+            &mut room.gathering,
+            &frame.flips,
+            limit,
+        )?;
         draft.kept.add(name)?;
     }
     Ok(())
@@ -120,6 +126,7 @@ fn add_row(
 pub fn add_rows(
     draft: &mut Draft,
     alloc: Global,
+    room: &mut Room,
     frame: &Frame,
     s: &Scenario,
     boxes: &Boxes,
@@ -131,15 +138,14 @@ pub fn add_rows(
         ≡ length (columns_of (parts_of s.now) (box_of boxes.now)) }
     requires few { columns draft.old.program + length draft.old.program.constraints
         + length names.now ≤ most_indices }
-    ensures rows { OnOk result (AddsRows (parts_of s.now) (box_of boxes.now) names.now
-        draft.old.program draft.new.program draft.old.kept draft.new.kept) }
+    ensures adds { OnOk result (AddsNames (parts_of s.now) (box_of boxes.now) names.now
+        draft.old draft.new) }
     ensures wide { IfErr result (λ refused. IfWide refused (IsPast draft.old.tally.cells
         (draft.old.tally.entries
         + sum_by (row_entries (parts_of s.now) (box_of boxes.now)) names.now))) }
 {
-    let mut room = Room::new(alloc)?;
     for name in names {
-        add_row(draft, alloc, &mut room, frame, s, boxes, *name)?;
+        add_row(draft, alloc, room, frame, s, boxes, *name)?;
     }
     Ok(())
 }

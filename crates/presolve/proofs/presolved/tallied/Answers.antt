@@ -1,11 +1,8 @@
-use Rattle.std.proofs.Common.{◌≡◌, ◌+◌, ◌∙◌, ap, arith, map, pos, refl, sum_by, sym, subst, unsigned_abs}
+use Rattle.std.proofs.Common.{◌≡◌, ◌∙◌, map, pos, refl, sym, subst, unsigned_abs}
 use Rattle.std.proofs.lemmas.Result.{err_from_is_err_and}
-use Rattle.bytime_model.specs.AllRows.{rows_of}
 use Rattle.flow_types.specs.Scenario.{parts_of}
 use Rattle.time_windows.specs.Held.{box_of}
-use Rattle.presolve.specs.Counting.{column_entries, row_entries}
 use Rattle.presolve.specs.Leaf.{IsBelowLeaf}
-use Rattle.presolve.specs.Presolved.{entries_of}
 use Rattle.presolve.specs.Relaxed.{program_of}
 use Rattle.presolve.proofs.CountFacts.{columns_wide, rows_wide}
 use Rattle.presolve.proofs.ProgramFacts.{program_is}

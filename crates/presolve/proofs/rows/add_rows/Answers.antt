@@ -20,8 +20,7 @@ returns-in_err-add_row-clause-wide c =
     let part = row_entries (parts_of c.args.s.now) (box_of c.args.boxes.now) in
     let names = c.args.names.now in
     let i = c.loop-name.name-index in
-    let p = err_from_is_err_and c.from_residual-in_err-add_row.result
-    c.from_residual-in_err-add_row.ensures.1 in
+    let p = err_from_is_err_and c.from_residual.result c.from_residual.ensures.1 in
     rw (p.1, p.2)
     (wide_both (sum_by part (take i names)) (part (get_or names i _)) (sum_by part names)
     c.args.draft.now.tally c.loop-name.draft.tally c.in_err-add_row.field-0.0

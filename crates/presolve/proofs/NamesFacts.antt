@@ -1,0 +1,197 @@
+-- Adding the rows of all names, part by part.
+use Rattle.std.proofs.Common.{◌≡◌, ℕ, zero, suc, ◌+◌, ◌<◌, ◌≤◌, true, List, [], ◌∷◌, ◌++◌, length, map, get_or, take, drop, sum_by, All, refl, sym, ap, ◌∙◌, subst, arith}
+use Rattle.std.proofs.lemmas.Grind.{flat_map-append}
+use Rattle.std.proofs.lemmas.List.{append-nil, append_assoc, length-append, length-map, map-append, take-append-drop, take_more}
+use Rattle.std.proofs.lemmas.List.Elements.{filter-append}
+use Rattle.std.proofs.lemmas.List.Sums.{sum_by-append}
+use Rattle.std.specs.List.{flat_map, range_with_len}
+use Rattle.flow_types.specs.declared.parts.Parts.{Parts}
+use Rattle.flow_types.specs.declared.place.CapKind.TheVariants as cap
+use Rattle.scaled_simplex.specs.Program.{Problem, columns}
+use Rattle.time_windows.specs.Boxes.{Box}
+use Rattle.bytime_model.specs.declared.all_rows.NodeKind.TheVariants as node
+use Rattle.bytime_model.specs.declared.names.RowName.{RowName}
+use Rattle.bytime_model.specs.AllRows.{over_connections, rows_of}
+use Rattle.bytime_model.specs.Rows.{is_row}
+use Rattle.bytime_model.proofs.AllRowsFacts.{connects_are, nodes_each, places_are}
+use Rattle.bytime_model.proofs.ListingFacts.{range_more}
+use Rattle.bytime_model.proofs.NameLists.{Each, any_flat, each_any}
+use Rattle.presolve.specs.declared.kinds.Kind.{Kind}
+use Rattle.presolve.specs.declared.kinds.Kind.TheVariants as of
+use Rattle.presolve.specs.declared.rows.Draft.{Draft}
+use Rattle.presolve.specs.declared.tally.Refused.{Refused}
+use Rattle.presolve.specs.Counting.{IfWide, IsPast, row_entries}
+use Rattle.presolve.specs.Kinds.{count_of, kind_names, kinds_names, names_at}
+use Rattle.presolve.specs.Listing.{AddsNames, kept_among, with_rows}
+use Rattle.presolve.specs.Relaxed.{kept_row, may_exceed, row_in}
+use Rattle.presolve.proofs.CountFacts.{counted_both, none_counted, wide_both}
+use Rattle.presolve.proofs.PromiseFacts.{every}
+use Rattle.presolve.proofs.RowFacts.{kept_few, rows_none}
+
+-- the names so far are a front of all
+pub record IsFront (front all : List RowName) : Type 0 where
+  pub rest : List RowName
+  pub is : all ≡ front ++ rest
+
+pub front_ranged : (part : ℕ → List RowName) (from few many : ℕ) → few ≤ many
+    → IsFront (flat_map part (range_with_len from few)) (flat_map part (range_with_len from many))
+front_ranged part from zero many less = record {
+  rest = flat_map part (range_with_len from many);
+  is = refl;
+}
+front_ranged part from (suc few) zero less = absurd (omega (arith, less))
+front_ranged part from (suc few) (suc many) less =
+    let front = front_ranged part (from + 1) few many (omega (arith, less)) in
+    record {
+      rest = front.rest;
+      is = ap (λ names. part from ++ names) front.is
+          ∙ sym (append_assoc (part from) (flat_map part (range_with_len (from + 1) few))
+          front.rest);
+    }
+
+pub front_taken : {X : Type 0} (part : X → List RowName) (xs : List X) (i : ℕ)
+    → IsFront (flat_map part (take i xs)) (flat_map part xs)
+front_taken part xs i = record {
+  rest = flat_map part (drop i xs);
+  is = sym (ap (flat_map part) (take-append-drop i xs))
+      ∙ flat_map-append part (take i xs) (drop i xs);
+}
+
+-- one part more
+pub next_ranged : (part : ℕ → List RowName) (n : ℕ) (more : List RowName) → more ≡ part n
+    → flat_map part (range_with_len 0 (n + 1)) ≡ flat_map part (range_with_len 0 n) ++ more
+next_ranged part n more are =
+    let next : n + 1 ≡ suc n = omega arith in
+    let here : 0 + n ≡ n = omega arith in
+    ap (λ m. flat_map part (range_with_len 0 m)) next ∙ range_more part 0 n
+    ∙ ap (λ names. flat_map part (range_with_len 0 n) ++ names) (ap part here ∙ sym are)
+
+pub next_taken : {X : Type 0} (part : X → List RowName) (xs : List X) (i : ℕ) (d : X)
+    → i < length xs
+    → flat_map part (take (i + 1) xs) ≡ flat_map part (take i xs) ++ part (get_or xs i d)
+next_taken part xs i d within =
+    ap (flat_map part) (take_more xs i d within)
+    ∙ flat_map-append part (take i xs) (get_or xs i d ∷ [])
+    ∙ ap (λ names. flat_map part (take i xs) ++ names) (append-nil (part (get_or xs i d)))
+
+-- names after others
+module _ (parts : Parts) (box : Box) where
+  pub adds_none : (draft : Draft) → AddsNames parts box [] draft draft
+  adds_none draft = record {
+    rows = rows_none parts box draft.program draft.kept;
+    counted = none_counted draft.tally;
+  }
+
+  kept_both : (few more : List RowName)
+      → kept_among parts box (few ++ more) ≡ kept_among parts box few ++ kept_among parts box more
+  kept_both few more = filter-append (λ name. may_exceed (row_in parts box name)) few more
+
+  pub adds_both : (few more all : List RowName) (first old new : Draft)
+      → AddsNames parts box few first old → AddsNames parts box more old new → all ≡ few ++ more
+      → AddsNames parts box all first new
+  adds_both few more all first old new some next both =
+      subst (λ names. AddsNames parts box names first new) (sym both) (record {
+        rows = record {
+          program = next.rows.program
+              ∙ ap (λ (p : Problem). with_rows p (map (kept_row parts box) later)) some.rows.program
+              ∙ ap (λ list. record {
+                costs = first.program.costs;
+                constant = first.program.constant;
+                constraints = list;
+              }) (append_assoc first.program.constraints (map (kept_row parts box) before)
+              (map (kept_row parts box) later)
+              ∙ ap (λ list. first.program.constraints ++ list)
+              (sym (map-append (kept_row parts box) before later))
+              ∙ ap (λ list. first.program.constraints ++ map (kept_row parts box) list)
+              (sym (kept_both few more)));
+          kept = next.rows.kept ∙ ap (λ list. list ++ later) some.rows.kept
+              ∙ append_assoc first.kept before later
+              ∙ ap (λ list. first.kept ++ list) (sym (kept_both few more));
+        };
+        counted = counted_both (sum_by (row_entries parts box) few)
+            (sum_by (row_entries parts box) more) (sum_by (row_entries parts box) (few ++ more))
+            first.tally old.tally new.tally some.counted next.counted
+            (sym (sum_by-append (row_entries parts box) few more));
+      })
+    where
+      before : List RowName
+      before = kept_among parts box few
+
+      later : List RowName
+      later = kept_among parts box more
+
+  pub adds_columns : (names : List RowName) (first now : Draft) (count : ℕ)
+      → AddsNames parts box names first now → columns first.program ≡ count
+      → columns now.program ≡ count
+  adds_columns names first now count adds same = ap columns adds.rows.program ∙ same
+
+  -- there is room for the next names
+  pub adds_room : (few more next all : List RowName) (first now : Draft) (most : ℕ)
+      → AddsNames parts box few first now → next ≡ few ++ more → IsFront next all
+      → columns first.program + length first.program.constraints + length all ≤ most
+      → columns now.program + length now.program.constraints + length more ≤ most
+  adds_room few more next all first now most adds both front room =
+      let cols = ap columns adds.rows.program in
+      let long = ap (λ (p : Problem). length p.constraints) adds.rows.program in
+      let sum = length-append first.program.constraints
+      (map (kept_row parts box) (kept_among parts box few)) in
+      let mapped = length-map (kept_among parts box few) (kept_row parts box) in
+      let less = kept_few parts box few in
+      let whole = ap length front.is in
+      let two = length-append next front.rest in
+      let one = ap length both in
+      let three = length-append few more in
+      omega (arith, cols, long, sum, mapped, less, whole, two, one, three, room)
+
+  -- where these have more entries than there is room for, all have
+  pub adds_wide : (few more next all : List RowName) (first now : Draft) (reason : Refused)
+      → AddsNames parts box few first now → next ≡ few ++ more → IsFront next all
+      → IfWide reason (IsPast now.tally.cells
+      (now.tally.entries + sum_by (row_entries parts box) more))
+      → IfWide reason (IsPast first.tally.cells
+      (first.tally.entries + sum_by (row_entries parts box) all))
+  adds_wide few more next all first now reason adds both front why =
+      let part = row_entries parts box in
+      wide_both (sum_by part few) (sum_by part more) (sum_by part all) first.tally now.tally reason
+      adds.counted
+      (let whole = ap (sum_by part) front.is in
+      let two = sum_by-append part next front.rest in
+      let one = ap (sum_by part) both in
+      let three = sum_by-append part few more in
+      omega (arith, whole, two, one, three))
+      why
+
+-- each name of a part is of a row
+kind_each : (parts : Parts) (kind : Kind)
+    → Each (λ name. is_row parts name ≡ true) (kind_names parts kind)
+kind_each parts (of.Nodes kind) = nodes_each parts kind
+kind_each parts (of.Places kind) = places_are parts kind
+kind_each parts of.Connections = connects_are parts
+
+pub part_are : (parts : Parts) (kind : Kind) (position : ℕ) (names : List RowName)
+    → names ≡ names_at parts kind position → position < count_of parts kind
+    → All (λ name. is_row parts name ≡ true) names
+part_are parts kind position names are within =
+    subst (λ list. All (λ name. is_row parts name ≡ true) list) (sym are)
+    (every (λ name. is_row parts name ≡ true) (names_at parts kind position) (λ name any.
+    each_any (λ other. is_row parts other ≡ true) name (kind_names parts kind)
+    (kind_each parts kind)
+    (any_flat (λ other. other ≡ name) (names_at parts kind) 0 (count_of parts kind) position
+    (omega arith) (omega (arith, within)) any)))
+
+-- the kinds in the order of their names
+pub kinds_are : (parts : Parts) → kinds_names parts
+    (of.Nodes node.Mono ∷ of.Nodes node.Top ∷ of.Places cap.Dep ∷ of.Places cap.Arr
+    ∷ of.Places cap.Sector ∷ of.Nodes node.Occupy ∷ of.Nodes node.Enter ∷ of.Nodes node.Leave
+    ∷ of.Connections ∷ [])
+    ≡ rows_of parts
+kinds_are parts =
+    ap (λ last.
+    kind_names parts (of.Nodes node.Mono)
+    ++ (kind_names parts (of.Nodes node.Top)
+    ++ (kind_names parts (of.Places cap.Dep)
+    ++ (kind_names parts (of.Places cap.Arr)
+    ++ (kind_names parts (of.Places cap.Sector)
+    ++ (kind_names parts (of.Nodes node.Occupy)
+    ++ (kind_names parts (of.Nodes node.Enter)
+    ++ (kind_names parts (of.Nodes node.Leave) ++ last)))))))) (append-nil (over_connections parts))
