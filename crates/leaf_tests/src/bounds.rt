@@ -72,10 +72,25 @@ fn try_case(
 fn bounds_on_the_day_of_two_flights(rt: HostRuntime) -> Result<(), Fail> {
     let alloc = rt.alloc();
     let s = day_of(alloc, TWO_FLIGHTS)?;
-    for (pivots, least) in [(0, -8), (1, -7), (10, -5), (24, -1), (25, 0), (29, 0), (30, 1)] {
+    for (pivots, least) in [
+        (0, -8),
+        (1, -7),
+        (10, -5),
+        (24, -1),
+        (25, 0),
+        (29, 0),
+        (30, 1),
+    ] {
         try_case(&rt, alloc, &s, after(pivots), least)?;
     }
-    for (cells, least) in [(10, -8), (283, -8), (400, -5), (500, -2), (700, 0), (100_000, 1)] {
+    for (cells, least) in [
+        (10, -8),
+        (283, -8),
+        (400, -5),
+        (500, -2),
+        (700, 0),
+        (100_000, 1),
+    ] {
         try_case(&rt, alloc, &s, within(cells), least)?;
     }
     for (cutoff, least) in [(-8, -8), (0, 0), (1, 1), (2, 1)] {

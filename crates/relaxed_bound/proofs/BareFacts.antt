@@ -1,9 +1,8 @@
 -- The leaf of a run whose first tableau has no room: one unit of the cost, and no rows.
-use Rattle.std.proofs.Common.{◌≡◌, ℕ, zero, suc, ◌+◌, ◌^◌, ◌<◌, List, [], ◌∷◌, ◌++◌, length, map, slice_get, All, Option, Some, Ok, Err, ℤ, pos, neg_ℤ, unsigned_abs, nat_lt, if◌then◌else◌, inl, inr, refl, sym, ap, ◌∙◌, subst, arith}
+use Rattle.std.proofs.Common.{◌≡◌, ℕ, zero, suc, ◌+◌, ◌^◌, ◌<◌, List, [], ◌∷◌, ◌++◌, length, map, slice_get, Option, Some, Ok, Err, ℤ, pos, neg_ℤ, unsigned_abs, if◌then◌else◌, inl, inr, refl, sym, ap, ◌∙◌, subst, arith}
 use Rattle.std.proofs.lemmas.Bool.{lt-ltb}
 use Rattle.std.proofs.lemmas.List.Elements.{All-nil}
 use Rattle.std.specs.List.{range_with_len}
-use Rattle.std.specs.Ordering.{int_eq}
 use Rattle.flow_types.specs.declared.parts.Parts.{Parts}
 use Rattle.scaled_simplex.specs.declared.end.End.TheVariants.{Wide}
 use Rattle.scaled_simplex.specs.Multipliers.{multipliers_of}
@@ -19,7 +18,7 @@ use Rattle.branch_tree.specs.declared.leaf.Multiplier.{Multiplier}
 use Rattle.branch_tree.specs.Leaves.{IsInRange}
 use Rattle.dual_leaf.specs.declared.fault.LeafFault.{LeafFault}
 use Rattle.dual_leaf.specs.declared.fault.LeafFault.TheVariants.{Closed, NotEmpty, NotUnit, UnknownRow, Useless}
-use Rattle.dual_leaf.specs.Leaf.{IsDualBound, IsDualFault, IsLive}
+use Rattle.dual_leaf.specs.Leaf.{IsDualFault, IsLive}
 use Rattle.presolve.specs.Leaf.{leaf_rows, unless_never}
 use Rattle.presolve.specs.Presolved.{entries_of}
 use Rattle.presolve.specs.Relaxed.{kept_of, program_of}

@@ -139,48 +139,48 @@ module _ (parts : Parts) (box : Box) (outcome : Outcome) where
 
   module _ (told : IsTold program outcome)
       (promise : IsBelowLeaf parts box program (kept_of parts box)) where
-      -- with the weight 0 the value is above 0
-      positive : weight ≡ 0 → (choice : Var → ℕ) → IsChoice parts.flights box choice
-          → pos 0 <ℤ dual_at parts weight rows choice
-      positive none choice is = by (is_infeasible outcome.end) refl
-        where
-          by : (b : Bool) → is_infeasible outcome.end ≡ b
-              → pos 0 <ℤ dual_at parts weight rows choice
-          by false isnt =
-              absurd (no_weight (weight_in program outcome) (told.bound isnt).weight none)
-            where
-              no_weight : (z : ℤ) → pos 0 <ℤ z → unsigned_abs z ≡ 0 → ⊥
-              no_weight (pos n) above zero = omega (arith, ints, above, zero)
-              no_weight (negsuc n) above zero = omega (arith, ints, above, zero)
-          by true infeasible =
-              let refuted = told.refutation infeasible in
-              let low : neg_ℤ (value_in program outcome) ≤ℤ dual_at parts weight rows choice =
-              subst (λ w. neg_ℤ (value_in program outcome) ≤ℤ dual_at parts w rows choice)
-              (sym none)
-              (promise 0 (multipliers_of program outcome) (neg_ℤ (value_in program outcome))
-              refuted.multipliers choice is) in
-              omega (arith, ints, refuted.positive, low)
+    -- with the weight 0 the value is above 0
+    positive : weight ≡ 0 → (choice : Var → ℕ) → IsChoice parts.flights box choice
+        → pos 0 <ℤ dual_at parts weight rows choice
+    positive none choice is = by (is_infeasible outcome.end) refl
+      where
+        by : (b : Bool) → is_infeasible outcome.end ≡ b
+            → pos 0 <ℤ dual_at parts weight rows choice
+        by false isnt =
+            absurd (no_weight (weight_in program outcome) (told.bound isnt).weight none)
+          where
+            no_weight : (z : ℤ) → pos 0 <ℤ z → unsigned_abs z ≡ 0 → ⊥
+            no_weight (pos n) above zero = omega (arith, ints, above, zero)
+            no_weight (negsuc n) above zero = omega (arith, ints, above, zero)
+        by true infeasible =
+            let refuted = told.refutation infeasible in
+            let low : neg_ℤ (value_in program outcome) ≤ℤ dual_at parts weight rows choice =
+            subst (λ w. neg_ℤ (value_in program outcome) ≤ℤ dual_at parts w rows choice)
+            (sym none)
+            (promise 0 (multipliers_of program outcome) (neg_ℤ (value_in program outcome))
+            refuted.multipliers choice is) in
+            omega (arith, ints, refuted.positive, low)
 
-      no_fault : (fault : LeafFault) → IsDualBound parts box weight rows (Err fault) → ⊥
-      no_fault fault bound =
-          let reached = bound.least.reached in
-          let above = positive bound.said.0 reached.0 reached.1 in
-          omega (arith, ints, above, reached.2, bound.said.1)
+    no_fault : (fault : LeafFault) → IsDualBound parts box weight rows (Err fault) → ⊥
+    no_fault fault bound =
+        let reached = bound.least.reached in
+        let above = positive bound.said.0 reached.0 reached.1 in
+        omega (arith, ints, above, reached.2, bound.said.1)
 
-      never : (live : IsLive box) (fault : LeafFault) → IsDualFault parts box rows (Err fault) → ⊥
-      never live NotEmpty none = none
-      never live (NotUnit flight node) none = none
-      never live (Closed flight node) first = live flight node first.here
-      never live (UnknownRow position) (same, first) =
-          let here : is_row parts first.multiplier.row ≡ true =
-          known position first.multiplier first.here in
-          cc (here, first.unknown)
-      never live (Useless value) none = none
+    never : (live : IsLive box) (fault : LeafFault) → IsDualFault parts box rows (Err fault) → ⊥
+    never live NotEmpty none = none
+    never live (NotUnit flight node) none = none
+    never live (Closed flight node) first = live flight node first.here
+    never live (UnknownRow position) (same, first) =
+        let here : is_row parts first.multiplier.row ≡ true =
+        known position first.multiplier first.here in
+        cc (here, first.unknown)
+    never live (Useless value) none = none
 
-      told_bound : HasBound parts box (outcome_leaf parts box outcome)
-      told_bound live (Ok bound) is = refl
-      told_bound live (Err fault) (inl bound) = absurd (no_fault fault bound)
-      told_bound live (Err fault) (inr first) = absurd (never live fault first)
+    told_bound : HasBound parts box (outcome_leaf parts box outcome)
+    told_bound live (Ok bound) is = refl
+    told_bound live (Err fault) (inl bound) = absurd (no_fault fault bound)
+    told_bound live (Err fault) (inr first) = absurd (never live fault first)
 
 -- what a run gives
 pub run_leaf : (leaf : Leaf) (names : List RowName) (problem : Problem) (outcome : Outcome)
