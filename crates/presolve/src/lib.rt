@@ -35,8 +35,8 @@
 //! `presolved`, `promise`). `leaf_of` gives exactly the definition's rows.
 //!
 //! Memory: 4 bytes for each variable that the tight root box leaves free, 25 for each column, and
-//! what the program takes: 16 bytes for each factor and some 40 for each row; lists take up to twice
-//! that, since they grow. While it runs, it takes the memory of a root box, the visits to the
+//! what the program takes: 16 bytes for each factor and some 40 for each row; lists take up to
+//! twice that, since they grow. While it runs, it takes the memory of a root box, the visits to the
 //! places, room for one row (0.2 MB), and 12 bytes for each row's name of one flight and kind, one
 //! place or one connection at a time (0.2 MB at the most). A program that is given up takes no more
 //! of this than one that has just room. Time: for each variable of the day what the box leaves of
