@@ -1,12 +1,14 @@
-//! Bounds of a box by runs with little room, few pivots or a cutoff.
+//! Bounds of a box by runs with little room, few pivots or a cutoff, and programs that have no room.
 
 use crate::leaves::day_of;
 use flow_types::{Bound, Scenario};
+use presolve::{Refused, program_within};
 use relaxed_bound::{Limits, relaxed_bound};
 use std::alloc::Global;
 use std::process::Abort;
 use std::test::Fail;
 use time_windows::{Boxes, Tight};
+use valid_cuts::Pool;
 use worked_days::TWO_FLIGHTS;
 
 // How far a run goes: its room, its pivots and its cutoff.
@@ -95,6 +97,28 @@ fn bounds_on_the_day_of_two_flights(rt: HostRuntime) -> Result<(), Fail> {
     }
     for (cutoff, least) in [(-8, -8), (0, 0), (1, 1), (2, 1)] {
         try_case(&rt, alloc, &s, up_to(cutoff), least)?;
+    }
+    Ok(())
+}
+
+// Whether the program of the tight root box is given up in room for so many entries. Its first
+// tableau has 284.
+fn is_given_up(alloc: Global, s: &Scenario, cells: u32) -> Result<bool, Fail> {
+    let mut boxes = Boxes::root(alloc, s)?;
+    boxes.tighten(s);
+    match program_within(alloc, s, &boxes, &Pool::empty(alloc), cells) {
+        Ok(_) => Ok(false),
+        Err(Refused::Wide) => Ok(true),
+        Err(Refused::OutOfMemory) => Err(Fail::from("no memory")),
+    }
+}
+
+#[test]
+fn programs_without_room_are_given_up(rt: HostRuntime) -> Result<(), Fail> {
+    let alloc = rt.alloc();
+    let s = day_of(alloc, TWO_FLIGHTS)?;
+    for (cells, given_up) in [(10, true), (89, true), (200, true), (284, false)] {
+        assert_eq!(rt; is_given_up(alloc, &s, cells)?, given_up, "{cells}");
     }
     Ok(())
 }

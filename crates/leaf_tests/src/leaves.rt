@@ -6,8 +6,9 @@ ghost use Rattle.time_windows.specs.Splits.{IsBranching};
 ghost use Rattle.time_windows.specs.Tight.{IsTight};
 ghost use Rattle.dual_leaf.specs.Work.{IsRoomFor};
 
+use crate::days::DAYS;
 use crate::lines::{at_in, leaf_of, text_of};
-use crate::table::DAYS;
+use crate::mixed_days::MIXED_DAYS;
 use dual_leaf::LeafWork;
 use flow_types::Scenario;
 use scenario_reader::read_scenario;
@@ -136,6 +137,14 @@ fn leaves_on_the_day_of_two_flights(rt: HostRuntime) -> Result<(), Fail> {
 #[test]
 fn leaves_on_days(rt: HostRuntime) -> Result<(), Fail> {
     for (day, lines) in DAYS {
+        try_lines(&rt, rt.alloc(), day, lines)?;
+    }
+    Ok(())
+}
+
+#[test]
+fn leaves_on_mixed_days(rt: HostRuntime) -> Result<(), Fail> {
+    for (day, lines) in MIXED_DAYS {
         try_lines(&rt, rt.alloc(), day, lines)?;
     }
     Ok(())
