@@ -15,3 +15,4 @@ pub mod UnitBoxFacts
 pub mod UnitFitFacts
 pub mod UnitSumFacts
 pub mod ValueFacts
+pub mod LeafFacts

@@ -29,7 +29,7 @@ use Rattle.dual_leaf.proofs.UnitBoxFacts.{one_trip}
 use Rattle.dual_leaf.proofs.UnitFitFacts.{trip_fits}
 
 -- lists that agree where both have items
-same_first : {A : Type 0} (xs ys : List A) → length xs ≤ length ys
+pub same_first : {A : Type 0} (xs ys : List A) → length xs ≤ length ys
     → ((k : ℕ) (x y : A) → slice_get xs k ≡ Some x → slice_get ys k ≡ Some y → x ≡ y)
     → take (length xs) ys ≡ xs
 same_first [] ys few each = refl
@@ -55,6 +55,19 @@ plan_cost_push tables (flight ∷ flights) [] trip =
 plan_cost_push tables (flight ∷ flights) (t ∷ trips) trip =
     omega (arith, ints, plan_cost_push tables flights trips trip)
 
+-- the trips of a plan in the box
+pub trip_in : (parts : Parts) (box : Box) (plan : List (List Stop)) → IsFeasible parts plan
+    → IsInBox box plan → (k : ℕ) (trip : List Stop) → slice_get plan k ≡ Some trip
+    → IsTripIn parts box k trip
+trip_in parts box plan feasible inside k trip at =
+    let flight = planned_flight parts.day.periods parts.flights plan k trip feasible.trips at in
+    record {
+      flight = flight.0;
+      there = flight.1;
+      trip = flight.2;
+      inside = inside k trip at;
+    }
+
 module _ (parts : Parts) (valid : IsScenario parts) (box : Box) (unit : IsUnitBox box) where
   -- the first trips of a plan in the box that keeps every rule
   plan_first : (trips plan : List (List Stop)) → AreChosen parts box trips
@@ -63,17 +76,8 @@ module _ (parts : Parts) (valid : IsScenario parts) (box : Box) (unit : IsUnitBo
   plan_first trips plan chosen few feasible inside =
       let long = AreTrips-length parts.day.periods parts.flights plan feasible.trips in
       same_first trips plan (omega (arith, few, long)) (λ k x y is at.
-      one_trip parts box k x y valid unit (chosen k x is).inside.inside (there k y at))
-    where
-      there : (k : ℕ) (y : List Stop) → slice_get plan k ≡ Some y → IsTripIn parts box k y
-      there k y at =
-          let flight = planned_flight parts.day.periods parts.flights plan k y feasible.trips at in
-          record {
-            flight = flight.0;
-            there = flight.1;
-            trip = flight.2;
-            inside = inside k y at;
-          }
+      one_trip parts box k x y valid unit (chosen k x is).inside.inside
+      (trip_in parts box plan feasible inside k y at))
 
   -- where none fits beside them there is no such plan
   stuck : (trips : List (List Stop)) (number : ℕ) → length trips ≡ number

@@ -22,7 +22,8 @@
 //!
 //! Proved: `leaf_bound` gives exactly the bound of the leaf, or exactly the first fault (`bound`),
 //! and no plan in the box that keeps every rule costs less, whoever chose the multipliers
-//! (`sound`).
+//! (`sound`). So it is of any bound that the definition gives a leaf (`leaf_bounds_are_bounds`),
+//! which serves trees of leaves.
 //!
 //! A Dual leaf is worked out in sums: a constant, and a factor for each variable that is free. Each
 //! term of the cost row and of the rows is looked up in the box, and lands in the constant, at a
@@ -44,6 +45,7 @@ mod costs;
 mod dual;
 mod fault;
 mod landing;
+mod laws;
 mod options;
 mod plain;
 mod rows;
@@ -56,4 +58,5 @@ mod work;
 pub use columns::Columns;
 pub use fault::LeafFault;
 pub use landing::{Landing, landing_of};
+pub use laws::leaf_bounds_are_bounds;
 pub use work::LeafWork;

@@ -3,8 +3,10 @@ pub mod Ends
 pub mod Groups
 pub mod Held
 pub mod Narrowing
+pub mod Path
 pub mod Splits
 pub mod Steps
 pub mod Tight
+pub mod Trail
 pub mod Turns
 pub mod Waiting

@@ -43,7 +43,7 @@ impl Model for Boxes {
 }
 
 impl Boxes {
-    ghost use Rattle.std.specs.Prelude.{ℕ, ◌+◌, ◌*◌, ◌<◌, ◌↔◌, IsTrue, IfOk, List, [], All, get_or};
+    ghost use Rattle.std.specs.Prelude.{ℕ, ◌+◌, ◌*◌, ◌<◌, ◌↔◌, IsTrue, IfOk, List, [], All, get_or, length};
     ghost use Rattle.flow_types.specs.declared.parts.Parts.{Parts};
     ghost use Rattle.flow_types.specs.declared.plan.Stop.{Stop};
     ghost use Rattle.flow_types.specs.Feasible.{AreTrips, KeepsTurn};
@@ -51,6 +51,8 @@ impl Boxes {
     ghost use Rattle.flow_types.specs.Scenario.{parts_of};
     ghost use Rattle.time_windows.specs.Boxes.{IsClosedMust, IsInBox, IsProper, options_of, root_box};
     ghost use Rattle.time_windows.specs.Held.{IsMadeFor, box_of};
+    ghost use Rattle.time_windows.specs.Narrowing.{AreAccesses};
+    ghost use Rattle.time_windows.specs.Path.{with_accesses};
     ghost use Rattle.time_windows.specs.Splits.{IsBranching, early_branch, late_branch};
     ghost use Rattle.time_windows.specs.Tight.{IsTightened, IsTold};
 
@@ -152,6 +154,8 @@ impl Boxes {
         ensures branch { (f n : ℕ) → box_of self.new f n
             ≡ early_branch flight node time (box_of self.old) f n }
         ensures made { (parts : Parts) → IsMadeFor parts self.old → IsMadeFor parts self.new }
+        ensures rest { self.old ≡ with_accesses self.new self.old.accesses }
+        ensures count { length self.new.accesses ≡ length self.old.accesses }
     {
         let cell = flight as usize * MOST_NODES + usize::from(node);
         self.accesses[cell] = Access {
@@ -167,6 +171,8 @@ impl Boxes {
         ensures branch { (f n : ℕ) → box_of self.new f n
             ≡ late_branch flight node time (box_of self.old) f n }
         ensures made { (parts : Parts) → IsMadeFor parts self.old → IsMadeFor parts self.new }
+        ensures rest { self.old ≡ with_accesses self.new self.old.accesses }
+        ensures count { length self.new.accesses ≡ length self.old.accesses }
     {
         let cell = flight as usize * MOST_NODES + usize::from(node);
         self.accesses[cell].window = after(self.accesses[cell].window, time);
@@ -185,6 +191,8 @@ impl Boxes {
         ensures tight { IsTightened (parts_of s.now) (box_of self.old) (box_of self.new) }
         ensures told { IsTold (box_of self.new) result }
         ensures made { IsMadeFor (parts_of s.now) self.new }
+        ensures rest { self.old ≡ with_accesses self.new self.old.accesses }
+        ensures count { length self.new.accesses ≡ length self.old.accesses }
         ensures kept { (plan : List (List Stop))
             → AreTrips (parts_of s.now).day.periods (parts_of s.now).flights plan
             → All (KeepsTurn plan) (parts_of s.now).connections
@@ -192,5 +200,22 @@ impl Boxes {
     {
         tighten_all(&mut self.accesses, &self.ways, &self.turns, s);
         first_closed(&self.accesses)
+    }
+
+    /// What the box says of each of 32 nodes a flight.
+    pub(crate) fn accesses(&self) -> &[Access]
+        ensures accesses { result.now ≡ self.now.accesses }
+        ensures sound { AreAccesses self.now.accesses }
+    {
+        &self.accesses
+    }
+
+    /// Puts other accesses in their place.
+    pub(crate) fn put_back(&mut self, accesses: &[Access])
+        requires count { length accesses.now ≡ length self.old.accesses }
+        requires sound { AreAccesses accesses.now }
+        ensures { self.new ≡ with_accesses self.old accesses.now }
+    {
+        self.accesses.copy_from_slice(accesses);
     }
 }

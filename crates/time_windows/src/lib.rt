@@ -16,21 +16,34 @@
 //!         }
 //!     }
 //!
+//! A search goes down and up a path of boxes, which a `Trail` keeps as one box and a log of what
+//! changed on the way:
+//!
+//!     let mut trail = Trail::new(alloc, boxes)?;
+//!     let told = trail.down(&s, flight, node, time, Side::Early)?;
+//!     // .. at trail.boxes(), the tight box of the early side ..
+//!     trail.up();
+//!
 //! The definitions stand in `specs/`: `Boxes` (a box, the root box, and what it is for a trip or a
 //! plan to be in one), `Tight` (what a tight box is), `Splits` (the sides of a split), `Groups`
-//! (lists of items in one block), `Turns` with `Ends` (the connections of each flight) and `Held`
-//! (what `Boxes` holds). `Steps`, `Narrowing` and `Waiting` serve the proof of `tighten`.
+//! (lists of items in one block), `Turns` with `Ends` (the connections of each flight), `Held` (what
+//! `Boxes` holds) and `Path` (a path of boxes, and the log that keeps it). `Steps`, `Narrowing` and
+//! `Waiting` serve the proof of `tighten`, and `Trail` that of the trail.
 //!
 //! Proved: `tighten` leaves the widest tight box within (`tight`), loses no plan that keeps the
 //! turnarounds (`kept`), and tells the first node that must be entered and is closed (`told`). The
 //! root box holds every plan (`trips_are_in_the_root_box`), and each plan of a box is in one of the
 //! two sides of a split, and in one alone (`splits_share_out_plans`). What was made for a scenario
-//! stays so, within its root box, where it is narrowed or tightened (`made`).
+//! stays so, within its root box, where it is narrowed or tightened (`made`). `Trail::down` adds the
+//! tight box of the side to the path, and `up` takes exactly the last box away: the boxes above are
+//! what they were (`above`).
 //!
 //! Memory: 16 bytes for each of 32 nodes a flight, a copy of the legs, and 24 bytes a connection
 //! and 16 a flight. In a root box what is of the legs and the connections may take up to twice
-//! that, since those lists grow there. `tighten`, the splits and the look-ups take none. Time:
-//! `tighten` goes over the legs of each flight twice, and over its connections; and again over both
+//! that, since those lists grow there. `tighten`, the splits and the look-ups take none. A trail
+//! takes 8 bytes for each of 32 nodes a flight beside its box, and 16 for each step of its log, one
+//! for each node that a step down has changed and one for the step; the log may take up to twice
+//! that, since it grows. `up` takes none. Time: `tighten` goes over the legs of each flight twice, and over its connections; and again over both
 //! as often as a connection has moved one of its windows, which is at most once for each period of
 //! its ends.
 #![tactic(auto)]
@@ -46,6 +59,7 @@ mod marks;
 mod root;
 mod rows;
 mod tightening;
+mod trail;
 mod turns;
 mod waiting;
 mod ways;
@@ -57,4 +71,5 @@ pub use ends::End;
 pub use groups::Groups;
 pub use laws::{splits_share_out_plans, trips_are_in_the_root_box};
 pub use tightening::Tight;
+pub use trail::{Side, Trail};
 pub use turns::{Turn, Turns};

@@ -1,0 +1,15 @@
+use Rattle.std.proofs.Common.{◌≡◌, length, reverse, take, All}
+use Rattle.time_windows.specs.Held.{Held}
+use Rattle.time_windows.specs.Path.{above_of, with_accesses}
+use Rattle.time_windows.specs.Trail.{IsChange, IsSoundAccess}
+use Rattle.time_windows.proofs.trail.note_changes.Given as goal
+
+abbrev pub invariant-loop-cell : goal.invariant-loop-cell
+invariant-loop-cell l = record {
+  taken : take l.cell l.accesses.items ≡ take l.cell l.now;
+  path : (held : Held) → above_of (with_accesses held l.accesses.items) (reverse l.log.items)
+      ≡ above_of (with_accesses held l.fn.accesses.items) (reverse l.fn.log.items);
+  count : length l.accesses.items ≡ length l.now;
+  sound : All IsSoundAccess l.accesses.items;
+  changes : All (IsChange (length l.accesses.items)) l.log.items;
+}
