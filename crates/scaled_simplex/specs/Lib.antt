@@ -1,6 +1,9 @@
 pub mod Board
 pub mod BoardOf
+pub mod Derived
+pub mod LastPoint
 pub mod Multipliers
+pub mod Points
 pub mod Program
 pub mod Ratios
 pub mod Run
