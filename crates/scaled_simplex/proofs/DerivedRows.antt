@@ -1,12 +1,14 @@
 -- What solves the rows after a pivot solves those before it, and so those of the first tableau.
-use Rattle.std.proofs.Common.{◌≡◌, ℕ, ◌+◌, ◌<◌, List, length, set, Some, Ok, pos, neg_ℤ, ◌*ℤ◌, ◌<ℤ◌, sym, ap, ◌∙◌, subst, arith}
+use Rattle.std.proofs.Common.{◌≡◌, ℕ, suc, ◌+◌, ◌<◌, List, length, set, None, Some, Ok, refl, pos, neg_ℤ, ◌*ℤ◌, ◌<ℤ◌, sym, ap, ◌∙◌, subst, arith}
 use Rattle.row_arena.specs.declared.entry.Entry.{Entry}
 use Rattle.row_arena.specs.Arena.{row_at}
 use Rattle.row_arena.specs.Combining.{cleared}
 use Rattle.row_arena.specs.Rows.{entry_at, negated}
 use Rattle.scaled_simplex.specs.Derived.{AreSolved, IsDerived, row_with}
+use Rattle.scaled_simplex.specs.declared.turn.Turn.TheVariants.{Pivots}
+use Rattle.scaled_simplex.specs.LastTableau.{IsReached, tableau_next, tableau_pivoted, tableau_turned}
 use Rattle.scaled_simplex.specs.Program.{IsProblem, Problem}
-use Rattle.scaled_simplex.specs.Run.{entering, leaving, pivoted}
+use Rattle.scaled_simplex.specs.Run.{entering, leaving, pivoted, turn_entering, turn_leaving, turn_of}
 use Rattle.scaled_simplex.specs.Tableau.{Tableau, first_tableau, weight_index}
 use Rattle.scaled_simplex.proofs.Choices.{entering_positive, leaving_within}
 use Rattle.scaled_simplex.proofs.ClearedRows.{cleared_zero}
@@ -36,7 +38,7 @@ cleared_back column target pivot values above is by_pivot =
 
 module _ (problem : Problem) (tableau : Tableau)
     (rows_count : length tableau.rows ≡ length problem.constraints + 1)
-    (derived : IsDerived problem tableau) (leaves enters cells : ℕ) (rows : List (List Entry))
+    (leaves enters cells : ℕ) (derived : IsDerived problem cells tableau) (rows : List (List Entry))
     (leaving_is : leaving problem tableau ≡ Some leaves)
     (entering_is : entering problem tableau (row_at tableau.rows leaves) ≡ Some enters)
     (done : pivoted problem cells tableau leaves enters ≡ Ok rows) where
@@ -87,17 +89,27 @@ module _ (problem : Problem) (tableau : Tableau)
       (derived.weightless k small) turned_weightless)
       (λ _ _. derived.weightless k small)
 
+  turn_is : turn_of problem None tableau ≡ Pivots leaves enters
+  turn_is = ap (turn_leaving problem tableau) leaving_is ∙ ap (turn_entering leaves) entering_is
+
   -- a pivot keeps it so
-  pub pivot_derived : IsDerived problem
+  pub pivot_derived : IsDerived problem cells
       (record { rows = rows; basis = set tableau.basis leaves enters })
   pivot_derived = record {
+    reached = record {
+      pivots = suc derived.reached.pivots;
+      is = ap (tableau_next problem cells) derived.reached.is
+          ∙ ap (tableau_turned problem cells tableau) turn_is
+          ∙ ap (tableau_pivoted problem cells tableau leaves enters) done;
+    };
     weightless = weightless_after;
     back = λ values solved. derived.back values (solved_before values solved);
   }
 
-pub first_derived : (problem : Problem) → IsProblem problem
-    → IsDerived problem (first_tableau problem)
-first_derived problem valid = record {
+pub first_derived : (problem : Problem) (cells : ℕ) → IsProblem problem
+    → IsDerived problem cells (first_tableau problem)
+first_derived problem cells valid = record {
+  reached = record { pivots = 0; is = refl };
   weightless = (first_lawful problem valid).weightless;
   back = λ values solved. solved;
 }

@@ -21,7 +21,7 @@ use Rattle.scaled_simplex.proofs.SolverFacts.{weight_above}
 module _ (problem : Problem) (valid : IsProblem problem) (tableau : Tableau)
     (basis_count : length tableau.basis ≡ length problem.constraints)
     (indices : All (λ index. index < right_side problem) tableau.basis)
-    (basic : IsBasic problem tableau) (derived : IsDerived problem tableau)
+    (basic : IsBasic problem tableau) (cells : ℕ) (derived : IsDerived problem cells tableau)
     (none : leaving problem tableau ≡ None)
     (positive : pos 0 <ℤ cost_at problem tableau (weight_index problem)) where
   inside : (k : ℕ) → k < length problem.constraints
@@ -44,10 +44,12 @@ module _ (problem : Problem) (valid : IsProblem problem) (tableau : Tableau)
           record {
             numerator = numerator_of problem tableau has.0;
             denominator = has.1;
-            point = point_is problem tableau has.0 has.1 basic derived has.2 valid positive inside
-                low;
-            worth = point_worth problem tableau has.0 has.1 basic derived has.2 valid positive
-                inside low;
+            is = record {
+              point = point_is problem tableau has.0 has.1 cells basic derived has.2 valid positive
+                  inside low;
+              worth = point_worth problem tableau has.0 has.1 cells basic derived has.2 valid
+                  positive inside low;
+            };
           }
 
 module _ (problem : Problem) where
@@ -59,13 +61,14 @@ module _ (problem : Problem) where
       → told.end ≡ Optimal → HasPoint problem (outcome_in problem board told)
   ran_point None told is optimal = absurd (is.last optimal)
   ran_point (Some board) told is optimal =
-      let last : IsLast problem board told.row = is.last optimal in
+      let ended = is.last optimal in
+      let last : IsLast problem board = ended.0 in
       let above : pos 0 <ℤ weight_in problem (outcome_in problem (Some board) told) =
       weight_above problem (outcome_in problem (Some board) told) is.told_is
       (isnt_infeasible told.end optimal) in
       subst (λ n. HasPoint problem (record { end = told.end; row = row_at board.arena.rows n }))
-      (sym last.costs)
+      (sym ended.1)
       (tableau_point problem is.valid (tableau_of board) last.board_is.basis last.board_is.indices
-      last.basic last.derived last.none
+      last.basic board.arena.cells last.derived last.none
       (subst (λ n. pos 0 <ℤ weight_in problem
-      (record { end = told.end; row = row_at board.arena.rows n })) last.costs above) told.end)
+      (record { end = told.end; row = row_at board.arena.rows n })) ended.1 above) told.end)

@@ -99,9 +99,10 @@ module _ (problem : Problem) (tableau : Tableau) (share : ℕ → ℤ) (denomina
   swapped a b c =
       sym (times_assoc a b c) ∙ ap (λ n. n *ℤ c) (times_comm a b) ∙ times_assoc b a c
 
-  module _ (basic : IsBasic problem tableau) (derived : IsDerived problem tableau)
-      (are : AreShares (entry_of tableau) (right_at problem tableau) (length problem.constraints) share
-      denominator) where
+  module _ (cells : ℕ) (basic : IsBasic problem tableau)
+      (derived : IsDerived problem cells tableau)
+      (are : AreShares (entry_of tableau) (right_at problem tableau)
+      (length problem.constraints) share denominator) where
     constraint_solved : (k : ℕ) → k < length problem.constraints
         → row_with values (row_at tableau.rows k) ≡ pos 0
     constraint_solved k small =
@@ -261,7 +262,8 @@ module _ (problem : Problem) (tableau : Tableau) (share : ℕ → ℤ) (denomina
           (first_solved.each (length problem.constraints) (omega arith)) in
           let across = with_across (cost_row problem) values in
           let cost : ℕ → ℤ = λ column. neg_ℤ (slice_index_or problem.costs column (pos 0)) in
-          let first = terms_append solution (row_from cost 0 (columns problem)) (bare_row problem) in
+          let first = terms_append solution (row_from cost 0 (columns problem))
+          (bare_row problem) in
           let second = terms_append solution (unless_zero (right_side problem) problem.constant)
           (one_at (weight_index problem)) in
           let costs = costs_turned solution cost problem.costs 0

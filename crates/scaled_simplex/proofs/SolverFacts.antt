@@ -37,8 +37,10 @@ module _ (problem : Problem) (cells : ℕ) (held : Option Board) (is : IsSolver 
       pub first_is_basic : IsBasic problem (tableau_of board)
       first_is_basic = subst (IsBasic problem) (sym first.1) (first_basic problem is.valid)
 
-      pub first_is_derived : IsDerived problem (tableau_of board)
-      first_is_derived = subst (IsDerived problem) (sym first.1) (first_derived problem is.valid)
+      pub first_is_derived : IsDerived problem board.arena.cells (tableau_of board)
+      first_is_derived =
+          subst (IsDerived problem board.arena.cells) (sym first.1)
+          (first_derived problem board.arena.cells is.valid)
 
       first_is_lawful : IsLawful problem (tableau_of board)
       first_is_lawful = subst (IsLawful problem) (sym first.1) (first_lawful problem is.valid)

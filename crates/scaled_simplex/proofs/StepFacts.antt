@@ -136,7 +136,8 @@ module _ (problem : Problem) (cutoff : Option ℤ) (tableau : Tableau) where
 module _ (problem : Problem) (cutoff : Option ℤ) (left : ℕ) (old : Board)
     (is : IsBoard problem old) where
   -- the run ends here
-  pub ended_told : IsBasic problem (tableau_of old) → IsDerived problem (tableau_of old)
+  pub ended_told : IsBasic problem (tableau_of old)
+      → IsDerived problem old.arena.cells (tableau_of old)
       → (end : End) (row : ℕ)
       → turn_of problem cutoff (tableau_of old) ≡ Ends end row
       → IsTelling problem old.arena.cells cutoff left (tableau_of old) old
@@ -146,14 +147,10 @@ module _ (problem : Problem) (cutoff : Option ℤ) (left : ℕ) (old : Board)
     within = let below = row_told problem (tableau_of old) cutoff end row turn in
         let count = is.rows in omega (arith, below, count);
     last = λ optimal.
-        let so = is_optimal problem cutoff (tableau_of old) end row turn optimal in
-        record {
-          board_is = is;
-          basic = basic;
-          derived = derived;
-          none = so.none;
-          costs = so.costs;
-        };
+        let so = is_optimal problem cutoff (tableau_of old) end row turn optimal in (
+          record { board_is = is; basic = basic; derived = derived; none = so.none },
+          so.costs,
+        );
     below = λ optimal.
         let so = is_optimal problem cutoff (tableau_of old) end row turn optimal in
         subst (λ n. IsBelow problem cutoff (record { end = end; row = row_at old.arena.rows n }))
@@ -194,7 +191,8 @@ module _ (problem : Problem) (cutoff : Option ℤ) (left : ℕ) (old : Board)
     }
 
     -- the run goes on
-    pub onward_told : IsBasic problem (tableau_of old) → IsDerived problem (tableau_of old)
+    pub onward_told : IsBasic problem (tableau_of old)
+        → IsDerived problem old.arena.cells (tableau_of old)
         → pivoted problem old.arena.cells (tableau_of old) row index ≡ Ok new.arena.rows
         → new.basis.index_of.items ≡ set old.basis.index_of.items row index
         → IsBoard problem new → new.arena.cells ≡ old.arena.cells
@@ -214,8 +212,9 @@ module _ (problem : Problem) (cutoff : Option ℤ) (left : ℕ) (old : Board)
           basic = subst (IsBasic problem) after
               (pivot_basic problem (tableau_of old) is.rows is.basis basic row index
               old.arena.cells new.arena.rows chosen.leaves chosen.enters done);
-          derived = subst (IsDerived problem) after
-              (pivot_derived problem (tableau_of old) is.rows derived row index old.arena.cells
-              new.arena.rows chosen.leaves chosen.enters done);
+          derived = subst (λ n. IsDerived problem n (tableau_of new)) (sym cells)
+              (subst (IsDerived problem old.arena.cells) after
+              (pivot_derived problem (tableau_of old) is.rows row index old.arena.cells derived
+              new.arena.rows chosen.leaves chosen.enters done));
           cells = cells;
         }

@@ -8,6 +8,7 @@ use Rattle.row_arena.specs.Rows.{entry_at}
 use Rattle.scaled_simplex.specs.declared.board.Board.{Board}
 use Rattle.scaled_simplex.specs.Board.{IsBasic}
 use Rattle.scaled_simplex.specs.BoardOf.{IsBoard, tableau_of}
+use Rattle.scaled_simplex.specs.LastTableau.{IsReached}
 use Rattle.scaled_simplex.specs.Program.{Problem}
 use Rattle.scaled_simplex.specs.Run.{leaving}
 use Rattle.scaled_simplex.specs.Tableau.{Tableau, first_tableau, weight_index}
@@ -22,18 +23,18 @@ pub record AreSolved (problem : Problem) (rows : List (List Entry)) (values : Li
   pub each : (k : ℕ) → k < length problem.constraints + 1
       → row_with values (row_at rows k) ≡ pos 0
 
--- What solves the rows solves those of the first tableau; and the rows of the constraints have no
--- weight of the cost.
-pub record IsDerived (problem : Problem) (tableau : Tableau) : Type 0 where
+-- Pivots lead to it, in room for so many entries. What solves its rows solves those of the first
+-- tableau; and the rows of the constraints have no weight of the cost.
+pub record IsDerived (problem : Problem) (cells : ℕ) (tableau : Tableau) : Type 0 where
+  pub reached : IsReached problem cells tableau
   pub weightless : (k : ℕ) → k < length problem.constraints
       → entry_at (row_at tableau.rows k) (weight_index problem) ≡ pos 0
   pub back : (values : List Entry) → AreSolved problem tableau.rows values
       → AreSolved problem (first_tableau problem).rows values
 
--- the last tableau of a run that ended Optimal, and the row that tells
-pub record IsLast (problem : Problem) (board : Board) (row : ℕ) : Type 0 where
+-- the last tableau of a run that ended Optimal
+pub record IsLast (problem : Problem) (board : Board) : Type 0 where
   pub board_is : IsBoard problem board
   pub basic : IsBasic problem (tableau_of board)
-  pub derived : IsDerived problem (tableau_of board)
+  pub derived : IsDerived problem board.arena.cells (tableau_of board)
   pub none : leaving problem (tableau_of board) ≡ None
-  pub costs : row ≡ length problem.constraints

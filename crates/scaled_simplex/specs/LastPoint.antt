@@ -6,12 +6,16 @@ use Rattle.scaled_simplex.specs.Program.{Problem}
 use Rattle.scaled_simplex.specs.Run.{Outcome, value_in, weight_in}
 
 -- a point of the program that costs the run's value
-pub record HasPoint (problem : Problem) (outcome : Outcome) : Type 0 where
-  pub numerator : ℕ → ℤ
-  pub denominator : ℤ
+pub record IsWorth (problem : Problem) (outcome : Outcome) (numerator : ℕ → ℤ) (denominator : ℤ)
+    : Type 0 where
   pub point : IsProgramPoint problem numerator denominator
   pub worth : point_cost problem numerator denominator *ℤ weight_in problem outcome
       ≡ value_in problem outcome *ℤ denominator
+
+pub record HasPoint (problem : Problem) (outcome : Outcome) : Type 0 where
+  pub numerator : ℕ → ℤ
+  pub denominator : ℤ
+  pub is : IsWorth problem outcome numerator denominator
 
 -- the value, rounded up, is less than the cutoff
 abbrev pub IsBelow : Problem → Option ℤ → Outcome → Type 0

@@ -1,7 +1,9 @@
 pub mod Board
 pub mod BoardOf
 pub mod Derived
+pub mod Fractions
 pub mod LastPoint
+pub mod LastTableau
 pub mod Multipliers
 pub mod Points
 pub mod Program

@@ -47,7 +47,8 @@ IsWithin (Some board) told = told.row < length board.arena.rows
 -- the tableau that is kept after Optimal is the last one
 abbrev pub IsEnded : Problem → Option Board → Told → Type 0
 IsEnded problem None told = told.end ≡ Optimal → ⊥
-IsEnded problem (Some board) told = told.end ≡ Optimal → IsLast problem board told.row
+IsEnded problem (Some board) told =
+    told.end ≡ Optimal → IsLast problem board × (told.row ≡ length problem.constraints)
 
 pub record IsRan (problem : Problem) (board : Option Board) (told : Told) : Type 0 where
   pub valid : IsProblem problem

@@ -20,7 +20,7 @@ pub record IsTelling (problem : Problem) (cells : ℕ) (cutoff : Option ℤ) (le
     (tableau : Tableau) (board : Board) (told : Told) : Type 0 where
   pub outcome : outcome_of board told ≡ run_from problem cells cutoff left tableau
   pub within : told.row < length board.arena.rows
-  pub last : told.end ≡ Optimal → IsLast problem board told.row
+  pub last : told.end ≡ Optimal → IsLast problem board × (told.row ≡ length problem.constraints)
   pub below : told.end ≡ Optimal → IsBelow problem cutoff (outcome_of board told)
 
 -- a pivot was made: the run goes on from the new tableau, with one pivot less
@@ -31,7 +31,7 @@ pub record IsOnward (problem : Problem) (cutoff : Option ℤ) (left : ℕ) (old 
       ≡ run_from problem old.arena.cells cutoff (left - 1) (tableau_of new)
   pub board : IsBoard problem new
   pub basic : IsBasic problem (tableau_of new)
-  pub derived : IsDerived problem (tableau_of new)
+  pub derived : IsDerived problem new.arena.cells (tableau_of new)
   pub cells : new.arena.cells ≡ old.arena.cells
 
 -- either of the two

@@ -43,6 +43,7 @@ mod basis;
 mod board;
 mod end;
 mod first;
+mod fractions;
 mod listing;
 mod lists;
 mod pivots;
@@ -55,5 +56,6 @@ mod turn;
 mod turns;
 
 pub use end::End;
+pub use fractions::{Fractions, Numerators};
 pub use program::{Constraint, Program};
 pub use solver::{Factors, Run, Solver, Value, Weights};

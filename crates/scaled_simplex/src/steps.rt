@@ -29,7 +29,7 @@ pub fn run_from(
 ) -> Result<Told, OutOfMemory>
     requires board { IsBoard program.now board.old }
     requires basic { IsBasic program.now (tableau_of board.old) }
-    requires derived { IsDerived program.now (tableau_of board.old) }
+    requires derived { IsDerived program.now board.old.arena.cells (tableau_of board.old) }
     ensures { IfOk result (IsTelling program.now board.old.arena.cells cutoff pivots
         (tableau_of board.old) board.new) }
 {
@@ -54,7 +54,7 @@ fn step(
 ) -> Result<Option<Told>, OutOfMemory>
     requires board { IsBoard program.now board.old }
     requires basic { IsBasic program.now (tableau_of board.old) }
-    requires derived { IsDerived program.now (tableau_of board.old) }
+    requires derived { IsDerived program.now board.old.arena.cells (tableau_of board.old) }
     ensures { IfOk result (IsStep program.now cutoff left board.old board.new) }
 {
     match turn_of(board, program, cutoff) {
@@ -86,7 +86,7 @@ fn go_on(
 ) -> Result<Option<Told>, OutOfMemory>
     requires board { IsBoard program.now board.old }
     requires basic { IsBasic program.now (tableau_of board.old) }
-    requires derived { IsDerived program.now (tableau_of board.old) }
+    requires derived { IsDerived program.now board.old.arena.cells (tableau_of board.old) }
     requires turn { turn_of program.now cutoff (tableau_of board.old) ≡ Pivots row index }
     requires left { 0 < left }
     ensures { IfOk result (IsStep program.now cutoff left board.old board.new) }

@@ -8,7 +8,7 @@ use Rattle.scaled_simplex.proofs.steps.run_from.Given as goal
 abbrev pub invariant-loop-todo : goal.invariant-loop-todo
 invariant-loop-todo l =
     IsBoard l.program l.board × IsBasic l.program (tableau_of l.board)
-    × IsDerived l.program (tableau_of l.board)
+    × IsDerived l.program l.board.arena.cells (tableau_of l.board)
     × (l.board.arena.cells ≡ l.fn.board.arena.cells)
     × (run_from l.program l.fn.board.arena.cells l.cutoff l.pivots (tableau_of l.fn.board)
     ≡ run_from l.program l.fn.board.arena.cells l.cutoff l.left (tableau_of l.board))
