@@ -38,7 +38,7 @@ module _ (problem : Problem) where
 -- A row that is, so often, one row so often less another so often.
 module _ (d p a : ℤ) (f g h : ℕ → ℤ)
     (each : (k : ℕ) → d *ℤ h k ≡ (p *ℤ f k) -ℤ (a *ℤ g k)) where
-  factor_combined : (k : ℕ) (c : ℤ)
+  pub factor_combined : (k : ℕ) (c : ℤ)
       → d *ℤ (h k *ℤ c) ≡ (p *ℤ (f k *ℤ c)) -ℤ (a *ℤ (g k *ℤ c))
   factor_combined k c =
       sym (times_assoc d (h k) c) ∙ ap (λ n. n *ℤ c) (each k)

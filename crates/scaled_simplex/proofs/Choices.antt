@@ -53,6 +53,11 @@ module _ (problem : Problem) (tableau : Tableau) where
   leaving_negative leaves is =
       less_is (right_at problem tableau leaves) (pos 0) (leaving_best leaves is).passing
 
+  pub none_leaves : leaving problem tableau ≡ None → (k : ℕ) → k < length problem.constraints
+      → pos 0 ≤ℤ right_at problem tableau k
+  none_leaves is k within =
+      less_isnt (right_at problem tableau k) (pos 0) (leaving_found.none is k within)
+
   -- whatever is best leaves
   pub leaving_is_found : (leaves : ℕ)
       → IsBest may_leave is_lower (length problem.constraints) leaves

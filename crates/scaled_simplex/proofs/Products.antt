@@ -112,6 +112,12 @@ above_back (pos (suc a)) (pos (suc b)) low above = omega (arith, ints)
 above_back (pos (suc a)) (negsuc b) low above = absurd (omega (arith, ints, above))
 above_back (negsuc a) b low above = absurd (omega (arith, ints, low))
 
+pub low_back : (a b : ℤ) → pos 0 <ℤ a → pos 0 ≤ℤ (a *ℤ b) → pos 0 ≤ℤ b
+low_back (pos zero) b low least = absurd (omega (arith, ints, low))
+low_back (pos (suc a)) (pos b) low least = omega (arith, ints)
+low_back (pos (suc a)) (negsuc b) low least = absurd (omega (arith, ints, least))
+low_back (negsuc a) b low least = absurd (omega (arith, ints, low))
+
 pub zero_back : (a b : ℤ) → pos 0 <ℤ a → a *ℤ b ≡ pos 0 → b ≡ pos 0
 zero_back (pos zero) b low is = absurd (omega (arith, ints, low))
 zero_back (pos (suc a)) (pos zero) low is = refl

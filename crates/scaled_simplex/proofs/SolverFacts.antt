@@ -3,16 +3,18 @@ use Rattle.std.proofs.Common.{◌≡◌, ℕ, ◌+◌, false, [], ◌∷◌, ◌
 use Rattle.std.specs.List.{range_with_len}
 use Rattle.std.proofs.lemmas.List.FromFn.{map-range_with_len_more}
 use Rattle.scaled_simplex.specs.declared.board.Board.{Board}
-use Rattle.scaled_simplex.specs.declared.end.End.TheVariants.{Wide}
+use Rattle.scaled_simplex.specs.declared.end.End.TheVariants.{Optimal, Wide}
 use Rattle.scaled_simplex.specs.declared.told.Told.{Told}
 use Rattle.scaled_simplex.specs.Board.{IsBasic}
 use Rattle.scaled_simplex.specs.BoardOf.{tableau_of}
+use Rattle.scaled_simplex.specs.Derived.{IsDerived}
 use Rattle.scaled_simplex.specs.Multipliers.{IsTold}
 use Rattle.scaled_simplex.specs.Program.{Problem}
 use Rattle.scaled_simplex.specs.Run.{Outcome, is_infeasible, multiplier_in, weight_in}
 use Rattle.scaled_simplex.specs.Solving.{IsFirst, IsRan, IsSolver}
 use Rattle.scaled_simplex.specs.Steps.{IsTelling}
 use Rattle.scaled_simplex.proofs.BasicRows.{first_basic}
+use Rattle.scaled_simplex.proofs.DerivedRows.{first_derived}
 use Rattle.scaled_simplex.proofs.FirstTableau.{first_lawful}
 use Rattle.scaled_simplex.proofs.Lawful.{IsLawful}
 use Rattle.scaled_simplex.proofs.RunLaw.{bare_tells, run_from_tells}
@@ -25,6 +27,7 @@ module _ (problem : Problem) (cells : ℕ) (held : Option Board) (is : IsSolver 
       valid = is.valid;
       within = tt;
       told_is = bare_tells problem is.valid;
+      last = λ e. let wide : Wide ≡ Optimal = e in cc;
     }
 
     module _ (board : Board) (there : held ≡ Some board) where
@@ -33,6 +36,11 @@ module _ (problem : Problem) (cells : ℕ) (held : Option Board) (is : IsSolver 
 
       pub first_is_basic : IsBasic problem (tableau_of board)
       first_is_basic = subst (IsBasic problem) (sym first.1) (first_basic problem is.valid)
+
+      pub first_is_derived : IsDerived problem board.arena.cells (tableau_of board)
+      first_is_derived =
+          subst (IsDerived problem board.arena.cells) (sym first.1)
+          (first_derived problem board.arena.cells is.valid)
 
       first_is_lawful : IsLawful problem (tableau_of board)
       first_is_lawful = subst (IsLawful problem) (sym first.1) (first_lawful problem is.valid)
@@ -47,6 +55,7 @@ module _ (problem : Problem) (cells : ℕ) (held : Option Board) (is : IsSolver 
         told_is = subst (IsTold problem) (sym telling.outcome)
             (run_from_tells problem board.arena.cells cutoff pivots (tableau_of board)
             first_is_lawful);
+        last = telling.last;
       }
 
 -- a multiplier more

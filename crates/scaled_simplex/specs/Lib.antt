@@ -1,6 +1,11 @@
 pub mod Board
 pub mod BoardOf
+pub mod Derived
+pub mod Fractions
+pub mod LastPoint
+pub mod LastTableau
 pub mod Multipliers
+pub mod Points
 pub mod Program
 pub mod Ratios
 pub mod Run

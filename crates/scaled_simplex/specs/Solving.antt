@@ -2,8 +2,10 @@
 use Rattle.std.specs.Prelude.{◌≡◌, ℕ, ◌<◌, ◌≤◌, Option, None, Some, length}
 use Rattle.row_arena.specs.Arena.{live, row_at}
 use Rattle.scaled_simplex.specs.declared.board.Board.{Board}
+use Rattle.scaled_simplex.specs.declared.end.End.TheVariants.{Optimal}
 use Rattle.scaled_simplex.specs.declared.told.Told.{Told}
 use Rattle.scaled_simplex.specs.BoardOf.{IsBoard, tableau_of}
+use Rattle.scaled_simplex.specs.Derived.{IsLast}
 use Rattle.scaled_simplex.specs.Multipliers.{IsTold}
 use Rattle.scaled_simplex.specs.Program.{IsProblem, Problem}
 use Rattle.scaled_simplex.specs.Run.{Outcome}
@@ -42,7 +44,14 @@ abbrev pub IsWithin : Option Board → Told → Type 0
 IsWithin None told = Unit {0}
 IsWithin (Some board) told = told.row < length board.arena.rows
 
+-- the tableau that is kept after Optimal is the last one
+abbrev pub IsEnded : Problem → Option Board → Told → Type 0
+IsEnded problem None told = told.end ≡ Optimal → ⊥
+IsEnded problem (Some board) told =
+    told.end ≡ Optimal → IsLast problem board × (told.row ≡ length problem.constraints)
+
 pub record IsRan (problem : Problem) (board : Option Board) (told : Told) : Type 0 where
   pub valid : IsProblem problem
   pub within : IsWithin board told
   pub told_is : IsTold problem (outcome_in problem board told)
+  pub last : IsEnded problem board told

@@ -2,9 +2,12 @@
 use Rattle.std.specs.Prelude.{◌≡◌, ℕ, ◌-◌, ◌<◌, Option, None, Some, length, ℤ}
 use Rattle.row_arena.specs.Arena.{row_at}
 use Rattle.scaled_simplex.specs.declared.board.Board.{Board}
+use Rattle.scaled_simplex.specs.declared.end.End.TheVariants.{Optimal}
 use Rattle.scaled_simplex.specs.declared.told.Told.{Told}
 use Rattle.scaled_simplex.specs.Board.{IsBasic}
 use Rattle.scaled_simplex.specs.BoardOf.{IsBoard, tableau_of}
+use Rattle.scaled_simplex.specs.Derived.{IsDerived, IsLast}
+use Rattle.scaled_simplex.specs.LastPoint.{IsBelow}
 use Rattle.scaled_simplex.specs.Program.{Problem}
 use Rattle.scaled_simplex.specs.Run.{Outcome, run_from}
 use Rattle.scaled_simplex.specs.Tableau.{Tableau}
@@ -17,6 +20,8 @@ pub record IsTelling (problem : Problem) (cells : ℕ) (cutoff : Option ℤ) (le
     (tableau : Tableau) (board : Board) (told : Told) : Type 0 where
   pub outcome : outcome_of board told ≡ run_from problem cells cutoff left tableau
   pub within : told.row < length board.arena.rows
+  pub last : told.end ≡ Optimal → IsLast problem board × (told.row ≡ length problem.constraints)
+  pub below : told.end ≡ Optimal → IsBelow problem cutoff (outcome_of board told)
 
 -- a pivot was made: the run goes on from the new tableau, with one pivot less
 pub record IsOnward (problem : Problem) (cutoff : Option ℤ) (left : ℕ) (old new : Board)
@@ -26,6 +31,7 @@ pub record IsOnward (problem : Problem) (cutoff : Option ℤ) (left : ℕ) (old 
       ≡ run_from problem old.arena.cells cutoff (left - 1) (tableau_of new)
   pub board : IsBoard problem new
   pub basic : IsBasic problem (tableau_of new)
+  pub derived : IsDerived problem new.arena.cells (tableau_of new)
   pub cells : new.arena.cells ≡ old.arena.cells
 
 -- either of the two

@@ -16,15 +16,18 @@
 //!
 //! The definitions stand in `specs/`: `Program` (programs), `Tableau` (the first tableau), `Search`
 //! and `Run` (which row leaves and which index enters, how the rows change, when a run ends), and
-//! `Multipliers` (what a run tells). `Solving` has what callers see of a solver and of its run. The
-//! others serve the proofs: `Ratios`, `Board`, `BoardOf` and `Steps`. `proofs/WorkedRuns.antt` has
-//! the runs of a small program, with each of the five ends.
+//! `Multipliers` (what a run tells), `Points` (points of a program) and `LastPoint` (what a run that
+//! ended Optimal tells besides). `Solving` has what callers see of a solver and of its run. The
+//! others serve the proofs: `Ratios`, `Board`, `BoardOf`, `Derived` and `Steps`.
+//! `proofs/WorkedRuns.antt` has the runs of a small program, with each of the five ends.
 //!
 //! Proved: `run` ends exactly as the defined run does, with its telling row; `multipliers` and
 //! `value` are exactly those of the definition. Whatever the end, the multipliers are 0 or more, and
 //! for each column the weighted cost plus what the constraints add to it is 0 or more (`told`). So no
 //! values of the columns that keep the constraints cost less than the value; after `Infeasible` the
-//! weight is 0 and the value is above 0, so there are none. No product passes 128 bits.
+//! weight is 0 and the value is above 0, so there are none. After `Optimal` there is a point of the
+//! program that costs the value (`point` of `end`), which is below the cutoff (`uncut` of `run`). No
+//! product passes 128 bits.
 //!
 //! A pivot costs what its rows have, not what the tableau has rows: the row that leaves is found in
 //! a set of numbers, and the rows that may have an entry at an index in a list, which is made anew
@@ -40,6 +43,7 @@ mod basis;
 mod board;
 mod end;
 mod first;
+mod fractions;
 mod listing;
 mod lists;
 mod pivots;
@@ -52,5 +56,6 @@ mod turn;
 mod turns;
 
 pub use end::End;
+pub use fractions::{Fractions, Numerators};
 pub use program::{Constraint, Program};
 pub use solver::{Factors, Run, Solver, Value, Weights};

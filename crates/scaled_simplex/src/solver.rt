@@ -58,7 +58,9 @@ impl<'a> Model for Run<'a> {
 
 impl<'a> Solver<'a> {
     ghost use Rattle.std.specs.Prelude.{◌≡◌, IfOk};
+    ghost use Rattle.scaled_simplex.specs.LastPoint.{IsBelow};
     ghost use Rattle.scaled_simplex.specs.Run.{simplex_run};
+    ghost use Rattle.scaled_simplex.specs.declared.end.End.TheVariants.{Optimal};
 
     /// The first tableau of the program. It takes 16 bytes for each of its entries.
     pub fn new(alloc: Global, program: &'a Program, cells: u32) -> Result<Solver<'a>, OutOfMemory>
@@ -78,12 +80,15 @@ impl<'a> Solver<'a> {
         })
     }
 
-    /// Runs with so many pivots at the most, until the value, rounded up, is at least the cutoff.
+    /// Runs with so many pivots at the most, until the value, rounded up, is at least the cutoff; so
+    /// after Optimal it is less.
     pub fn run(self, pivots: u64, cutoff: Option<i64>) -> Result<Run<'a>, OutOfMemory>
-        ensures { IfOk result (λ run. run ≡ record {
+        ensures run { IfOk result (λ run. run ≡ record {
           problem = self.entry.problem;
           outcome = simplex_run self.entry.problem pivots self.entry.cells cutoff;
         }) }
+        ensures uncut { IfOk result (λ run. run.outcome.end ≡ Optimal
+            → IsBelow run.problem cutoff run.outcome) }
     {
         let Solver {
             alloc,
@@ -132,14 +137,19 @@ pub struct Value {
 impl<'a> Run<'a> {
     ghost use Rattle.std.specs.Prelude.{◌≡◌, ◌<◌, ◌≤◌, ◌<ℤ◌, ◌++◌, ◌∷◌, [], All, IfOk, OnOk, false, length, nat_abs, pos};
     ghost use Rattle.row_arena.specs.Rows.{entry_at, most_entry};
+    ghost use Rattle.scaled_simplex.specs.LastPoint.{HasPoint};
     ghost use Rattle.scaled_simplex.specs.Multipliers.{IsTold, multipliers_of};
     ghost use Rattle.scaled_simplex.specs.Program.{IsProblem};
+    ghost use Rattle.scaled_simplex.specs.declared.end.End.TheVariants.{Optimal};
     ghost use Rattle.scaled_simplex.specs.Run.{is_infeasible, multiplier_in, value_in, weight_in};
 
-    /// How it ended. Whatever the end is, its row tells what is true of all values of the columns.
+    /// How it ended. Whatever the end is, its row tells what is true of all values of the columns;
+    /// and after Optimal there is a point of the program that costs the value.
+    #[tactic(auto, using(crate::proofs::LastPoints::ran_point))]
     pub fn end(&self) -> End
         ensures end { result ≡ self.now.outcome.end }
         ensures told { IsTold self.now.problem self.now.outcome }
+        ensures point { result ≡ Optimal → HasPoint self.now.problem self.now.outcome }
     {
         self.told.end
     }

@@ -2,6 +2,7 @@
 ghost use Rattle.std.specs.Prelude.{◌≡◌, ◌<◌, IfOk, Some, length};
 ghost use Rattle.scaled_simplex.specs.Board.{IsBasic};
 ghost use Rattle.scaled_simplex.specs.BoardOf.{IsBoard, IsChosen, tableau_of};
+ghost use Rattle.scaled_simplex.specs.Derived.{IsDerived};
 ghost use Rattle.scaled_simplex.specs.Run.{turn_of};
 ghost use Rattle.scaled_simplex.specs.Steps.{IsStep, IsTelling};
 ghost use Rattle.scaled_simplex.specs.declared.turn.Turn.TheVariants.{Pivots};
@@ -28,6 +29,7 @@ pub fn run_from(
 ) -> Result<Told, OutOfMemory>
     requires board { IsBoard program.now board.old }
     requires basic { IsBasic program.now (tableau_of board.old) }
+    requires derived { IsDerived program.now board.old.arena.cells (tableau_of board.old) }
     ensures { IfOk result (IsTelling program.now board.old.arena.cells cutoff pivots
         (tableau_of board.old) board.new) }
 {
@@ -52,6 +54,7 @@ fn step(
 ) -> Result<Option<Told>, OutOfMemory>
     requires board { IsBoard program.now board.old }
     requires basic { IsBasic program.now (tableau_of board.old) }
+    requires derived { IsDerived program.now board.old.arena.cells (tableau_of board.old) }
     ensures { IfOk result (IsStep program.now cutoff left board.old board.new) }
 {
     match turn_of(board, program, cutoff) {
@@ -83,6 +86,7 @@ fn go_on(
 ) -> Result<Option<Told>, OutOfMemory>
     requires board { IsBoard program.now board.old }
     requires basic { IsBasic program.now (tableau_of board.old) }
+    requires derived { IsDerived program.now board.old.arena.cells (tableau_of board.old) }
     requires turn { turn_of program.now cutoff (tableau_of board.old) ≡ Pivots row index }
     requires left { 0 < left }
     ensures { IfOk result (IsStep program.now cutoff left board.old board.new) }

@@ -16,6 +16,7 @@ pub returns-in-Ok : goal.returns-in-Ok
 returns-in-Ok c =
     onward_told c.args.program.now c.args.cutoff c.args.left c.args.board.now c.requires.board
     c.pivot.new.board c.args.row c.args.index c.requires.turn c.requires.left c.requires.basic
+    c.requires.derived
     c.in-Ok.ensures.ok c.in-Ok.ensures.basis c.in-Ok.ensures.board c.pivot.ensures.cells
 
 pub returns-in-Err-Wide : goal.returns-in-Err-Wide

@@ -1,4 +1,4 @@
-use Rattle.scaled_simplex.proofs.SolverFacts.{bare_ran, first_is_basic, ran}
+use Rattle.scaled_simplex.proofs.SolverFacts.{bare_ran, first_is_basic, first_is_derived, ran}
 use Rattle.scaled_simplex.proofs.solver.Solver.run.Goals as goal
 
 pub invariant_of-result : goal.invariant_of-result
@@ -8,6 +8,11 @@ invariant_of-result c =
 pub run_from-requires-clause-basic : goal.run_from-requires-clause-basic
 run_from-requires-clause-basic c =
     first_is_basic c.self.inside.program.now c.self.inside.cells c.self.inside.board
+    c.self.invariant c.in-Some.board c.in-Some.is
+
+pub run_from-requires-clause-derived : goal.run_from-requires-clause-derived
+run_from-requires-clause-derived c =
+    first_is_derived c.self.inside.program.now c.self.inside.cells c.self.inside.board
     c.self.invariant c.in-Some.board c.in-Some.is
 
 pub invariant_of-result-in-Some : goal.invariant_of-result-in-Some

@@ -1,0 +1,24 @@
+-- What a run that ended Optimal tells besides its bound: there is a point that costs so much, and
+-- that is less than the cutoff.
+use Rattle.std.specs.Prelude.{◌≡◌, ℕ, Option, None, Some, ℤ, pos, ◌-ℤ◌, ◌*ℤ◌, ◌≤ℤ◌}
+use Rattle.scaled_simplex.specs.Points.{IsProgramPoint, point_cost}
+use Rattle.scaled_simplex.specs.Program.{Problem}
+use Rattle.scaled_simplex.specs.Run.{Outcome, value_in, weight_in}
+
+-- a point of the program that costs the run's value
+pub record IsWorth (problem : Problem) (outcome : Outcome) (numerator : ℕ → ℤ) (denominator : ℤ)
+    : Type 0 where
+  pub point : IsProgramPoint problem numerator denominator
+  pub worth : point_cost problem numerator denominator *ℤ weight_in problem outcome
+      ≡ value_in problem outcome *ℤ denominator
+
+pub record HasPoint (problem : Problem) (outcome : Outcome) : Type 0 where
+  pub numerator : ℕ → ℤ
+  pub denominator : ℤ
+  pub is : IsWorth problem outcome numerator denominator
+
+-- the value, rounded up, is less than the cutoff
+abbrev pub IsBelow : Problem → Option ℤ → Outcome → Type 0
+IsBelow problem None outcome = Unit {0}
+IsBelow problem (Some cutoff) outcome =
+    value_in problem outcome ≤ℤ ((cutoff -ℤ pos 1) *ℤ weight_in problem outcome)
