@@ -1,6 +1,7 @@
 pub mod Board
 pub mod BoardOf
 pub mod Multipliers
+pub mod Points
 pub mod Program
 pub mod Ratios
 pub mod Run
