@@ -32,7 +32,7 @@ use Rattle.presolve.specs.Relaxed.{cost_in}
 use Rattle.presolve.specs.Variables.{columns_of}
 use Rattle.presolve.proofs.FreeFacts.{flat_few}
 use Rattle.presolve.proofs.GatherFacts.{none_later}
-use Rattle.presolve.proofs.PromiseFacts.{cost_there}
+use Rattle.presolve.proofs.PointFacts.{cost_there}
 use Rattle.presolve.proofs.RowFacts.{from_le, row_made}
 use Rattle.presolve.proofs.TotalFacts.{below_total}
 

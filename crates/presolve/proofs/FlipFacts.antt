@@ -1,5 +1,6 @@
--- Rows and costs over columns of which some are flipped.
-use Rattle.std.proofs.Common.{◌≡◌, ℕ, zero, suc, ◌+◌, ◌-◌, ◌<◌, ◌≤◌, Bool, true, false, List, [], ◌∷◌, ◌++◌, length, map, set, take, drop, get_or, slice_get, slice_index_or, Some, if◌then◌else◌, All, int_lt, unsigned_abs, ℤ, pos, negsuc, neg_ℤ, ◌+ℤ◌, ◌*ℤ◌, ◌≤ℤ◌, ◌<ℤ◌, refl, sym, ap, ◌∙◌, subst, arith}
+-- Rows and costs over columns of which some are flipped. The columns are numerators over one
+-- denominator.
+use Rattle.std.proofs.Common.{◌≡◌, ℕ, zero, suc, ◌+◌, ◌<◌, ◌≤◌, Bool, true, false, List, [], ◌∷◌, ◌++◌, length, map, set, take, drop, get_or, slice_get, slice_index_or, Some, if◌then◌else◌, All, int_lt, unsigned_abs, ℤ, pos, negsuc, neg_ℤ, ◌+ℤ◌, ◌-ℤ◌, ◌*ℤ◌, ◌≤ℤ◌, ◌<ℤ◌, refl, sym, ap, ◌∙◌, subst, arith}
 use Rattle.std.proofs.lemmas.Bool.Decides.{Decides-int_eq}
 use Rattle.std.proofs.lemmas.List.Edits.{map_over_more}
 use Rattle.std.proofs.lemmas.List.Elements.{All-append, All-cons, All-nil}
@@ -9,101 +10,115 @@ use Rattle.exact_sums.specs.Sums.{total}
 use Rattle.exact_sums.proofs.SumFacts.{total-append}
 use Rattle.row_arena.specs.declared.entry.Entry.{Entry}
 use Rattle.row_arena.specs.Rows.{unless_zero}
-use Rattle.scaled_simplex.proofs.Products.{less_is, less_isnt, linear, times_one, times_zero, zero_times}
+use Rattle.scaled_simplex.proofs.Products.{less_is, less_isnt, less_times, linear, neg_times, sum_times, times_less, zero_times}
+use Rattle.scaled_simplex.specs.Points.{terms_at}
 use Rattle.scaled_simplex.specs.Program.{Constraint}
 use Rattle.bytime_model.specs.declared.variables.Var.{Var}
-use Rattle.dual_leaf.specs.Sums.{weighed}
 use Rattle.presolve.specs.Landed.{entries_from}
+use Rattle.presolve.specs.Points.{turned}
 use Rattle.presolve.specs.Relaxed.{flipped_entry, flipped_row, flipped_sum, is_flipped}
-use Rattle.presolve.proofs.DualityFacts.{left_side, over}
+use Rattle.presolve.proofs.DualityFacts.{over}
 
--- the values of the columns at the variables, and of flipped ones 1 less these
-pub record IsPointAt (columns : List Var) (value : Var → ℕ) (from : ℕ) (bit : ℕ → ℕ)
+-- the numerators of the columns' variables
+pub record IsPointAt (columns : List Var) (value : Var → ℤ) (from : ℕ) (numerator : ℕ → ℤ)
     : Type 0 where
   pub at : (i k : ℕ) (column : Var) → k ≡ from + i → slice_get columns i ≡ Some column
-      → bit k ≡ value column
+      → numerator k ≡ value column
 
-abbrev pub turn : Bool → ℕ → ℕ
-turn flip bit = if flip then 1 - bit else bit
-
-next_at : (columns : List Var) (column : Var) (value : Var → ℕ) (from : ℕ) (bit : ℕ → ℕ)
-    → IsPointAt (column ∷ columns) value from bit → IsPointAt columns value (from + 1) bit
-next_at columns column value from bit is = record {
+next_at : (columns : List Var) (column : Var) (value : Var → ℤ) (from : ℕ) (numerator : ℕ → ℤ)
+    → IsPointAt (column ∷ columns) value from numerator
+    → IsPointAt columns value (from + 1) numerator
+next_at columns column value from numerator is = record {
   at = λ i k c same here. is.at (suc i) k c (omega (arith, same)) here;
 }
 
-first_at : (columns : List Var) (column : Var) (value : Var → ℕ) (from : ℕ) (bit : ℕ → ℕ)
-    → IsPointAt (column ∷ columns) value from bit → bit from ≡ value column
-first_at columns column value from bit is = is.at 0 from column (omega arith) refl
+first_at : (columns : List Var) (column : Var) (value : Var → ℤ) (from : ℕ) (numerator : ℕ → ℤ)
+    → IsPointAt (column ∷ columns) value from numerator → numerator from ≡ value column
+first_at columns column value from numerator is = is.at 0 from column (omega arith) refl
 
-one_entry : (bit : ℕ → ℕ) (number : ℕ) (factor : ℤ)
-    → left_side bit (unless_zero number factor) ≡ factor *ℤ pos (bit number)
-one_entry bit number factor = by (int_eq factor (pos 0)) refl
+one_entry : (numerator : ℕ → ℤ) (number : ℕ) (factor : ℤ)
+    → terms_at (unless_zero number factor) numerator ≡ factor *ℤ numerator number
+one_entry numerator number factor = by (int_eq factor (pos 0)) refl
   where
     by : (b : Bool) → int_eq factor (pos 0) ≡ b
-        → left_side bit (if b then [] else record { column = number; value = factor } ∷ [])
-        ≡ factor *ℤ pos (bit number)
+        → terms_at (if b then [] else record { column = number; value = factor } ∷ []) numerator
+        ≡ factor *ℤ numerator number
     by true is =
-        sym (ap (λ n. n *ℤ pos (bit number)) ((Decides-int_eq factor (pos 0)).0 is)
-        ∙ zero_times (pos (bit number)))
+        sym (ap (λ n. n *ℤ numerator number) ((Decides-int_eq factor (pos 0)).0 is)
+        ∙ zero_times (numerator number))
     by false isnt = omega (arith, linear)
 
 -- a row's left side, by columns
-pub row_value : (factor : Var → ℤ) (columns : List Var) (value : Var → ℕ) (from : ℕ)
-    (bit : ℕ → ℕ) → IsPointAt columns value from bit
-    → left_side bit (entries_from factor from columns)
-    ≡ total (λ column. factor column *ℤ pos (value column)) columns
-row_value factor [] value from bit is = refl
-row_value factor (column ∷ columns) value from bit is =
-    let both = total-append (λ (entry : Entry). entry.value *ℤ pos (bit entry.column))
+pub row_value : (factor : Var → ℤ) (columns : List Var) (value : Var → ℤ) (from : ℕ)
+    (numerator : ℕ → ℤ) → IsPointAt columns value from numerator
+    → terms_at (entries_from factor from columns) numerator
+    ≡ total (λ column. factor column *ℤ value column) columns
+row_value factor [] value from numerator is = refl
+row_value factor (column ∷ columns) value from numerator is =
+    let both = total-append (λ (entry : Entry). entry.value *ℤ numerator entry.column)
     (unless_zero from (factor column)) (entries_from factor (from + 1) columns) in
-    let here = one_entry bit from (factor column) in
-    let same = ap (λ n. factor column *ℤ pos n) (first_at columns column value from bit is) in
-    let more = row_value factor columns value (from + 1) bit
-    (next_at columns column value from bit is) in
+    let here = one_entry numerator from (factor column) in
+    let same = ap (λ n. factor column *ℤ n) (first_at columns column value from numerator is) in
+    let more = row_value factor columns value (from + 1) numerator
+    (next_at columns column value from numerator is) in
     omega (arith, linear, both, here, same, more)
 
+-- turned twice a number is as before
+pub turned_back : (denominator : ℤ) (flip : Bool) (numerator : ℤ)
+    → turned denominator flip (turned denominator flip numerator) ≡ numerator
+turned_back denominator true numerator = omega (arith, linear)
+turned_back denominator false numerator = refl
+
+-- a factor with its sign turned, and once more
+turned_times : (factor denominator numerator : ℤ)
+    → (neg_ℤ factor *ℤ numerator) +ℤ (factor *ℤ denominator)
+    ≡ factor *ℤ (denominator -ℤ numerator)
+turned_times factor denominator numerator =
+    let one = neg_times factor numerator in
+    let two = times_less factor denominator numerator in omega (arith, linear, one, two)
+
 -- a row with flipped columns is as far above its limit
-turned_times : (factor : ℤ) (bit : ℕ) → bit ≤ 1
-    → (neg_ℤ factor *ℤ pos (1 - bit)) +ℤ factor ≡ factor *ℤ pos bit
-turned_times factor zero small =
-    omega (arith, linear, times_one (neg_ℤ factor), times_zero factor)
-turned_times factor (suc zero) small =
-    omega (arith, linear, times_zero (neg_ℤ factor), times_one factor)
-turned_times factor (suc (suc n)) small = absurd (omega (arith, small))
+module _ (flips : List Bool) (numerator : ℕ → ℤ) (denominator : ℤ) where
+  -- what the columns' variables are at
+  abbrev pub unflipped : ℕ → ℤ
+  unflipped k = turned denominator (slice_index_or flips k false) (numerator k)
 
-flip_value : (flips : List Bool) (bit : ℕ → ℕ) (terms : List Entry) → ((k : ℕ) → bit k ≤ 1)
-    → left_side (λ k. turn (slice_index_or flips k false) (bit k))
-    (map (flipped_entry flips) terms) +ℤ flipped_sum flips terms ≡ left_side bit terms
-flip_value flips bit [] small = refl
-flip_value flips bit (entry ∷ terms) small =
-    joined ((flipped_entry flips entry).value
-    *ℤ pos (turn (is_flipped flips entry) (bit entry.column)))
-    (left_side (λ k. turn (slice_index_or flips k false) (bit k)) (map (flipped_entry flips) terms))
-    (if is_flipped flips entry then entry.value else pos 0) (flipped_sum flips terms)
-    (entry.value *ℤ pos (bit entry.column)) (left_side bit terms) (by (is_flipped flips entry))
-    (flip_value flips bit terms small)
-  where
-    joined : (a b c d e f : ℤ) → a +ℤ c ≡ e → b +ℤ d ≡ f → (a +ℤ b) +ℤ (c +ℤ d) ≡ e +ℤ f
-    joined a b c d e f first rest = omega (arith, linear, first, rest)
+  flip_value : (terms : List Entry)
+      → terms_at (map (flipped_entry flips) terms) numerator
+      +ℤ (flipped_sum flips terms *ℤ denominator) ≡ terms_at terms unflipped
+  flip_value [] = omega (arith, linear, zero_times denominator)
+  flip_value (entry ∷ terms) =
+      joined ((flipped_entry flips entry).value *ℤ numerator entry.column)
+      (terms_at (map (flipped_entry flips) terms) numerator)
+      (if is_flipped flips entry then entry.value else pos 0) (flipped_sum flips terms)
+      (entry.value *ℤ unflipped entry.column) (terms_at terms unflipped)
+      (by (is_flipped flips entry)) (flip_value terms)
+    where
+      joined : (a b c d e f : ℤ) → a +ℤ (c *ℤ denominator) ≡ e → b +ℤ (d *ℤ denominator) ≡ f
+          → (a +ℤ b) +ℤ ((c +ℤ d) *ℤ denominator) ≡ e +ℤ f
+      joined a b c d e f first rest =
+          let both = sum_times c d denominator in omega (arith, linear, first, rest, both)
 
-    by : (b : Bool) → ((if b then neg_ℤ entry.value else entry.value)
-        *ℤ pos (turn b (bit entry.column)))
-        +ℤ (if b then entry.value else pos 0) ≡ entry.value *ℤ pos (bit entry.column)
-    by true = turned_times entry.value (bit entry.column) (small entry.column)
-    by false = omega (arith, linear)
+      by : (b : Bool) → ((if b then neg_ℤ entry.value else entry.value)
+          *ℤ numerator entry.column)
+          +ℤ ((if b then entry.value else pos 0) *ℤ denominator)
+          ≡ entry.value *ℤ turned denominator b (numerator entry.column)
+      by true = turned_times entry.value denominator (numerator entry.column)
+      by false = omega (arith, linear, zero_times denominator)
 
-pub flip_over : (flips : List Bool) (bit : ℕ → ℕ) (row : Constraint) → ((k : ℕ) → bit k ≤ 1)
-    → over (λ k. turn (slice_index_or flips k false) (bit k)) (flipped_row flips row)
-    ≡ over bit row
-flip_over flips bit row small =
-    let same = flip_value flips bit row.terms small in omega (arith, linear, same)
+  pub flip_over : (row : Constraint)
+      → over numerator denominator (flipped_row flips row) ≡ over unflipped denominator row
+  flip_over row =
+      let same = flip_value row.terms in
+      let limit = less_times row.limit (flipped_sum flips row.terms) denominator in
+      omega (arith, linear, same, limit)
 
--- costs of flipped columns, with what is paid for all of them
-one_cost : (cost : ℤ) (bit : ℕ) → bit ≤ 1
-    → (pos (unsigned_abs cost) *ℤ pos (turn (int_lt cost (pos 0)) bit)) +ℤ int_min (pos 0) cost
-    ≡ cost *ℤ pos bit
-one_cost cost bit small = by (int_lt cost (pos 0)) refl
+-- what a column costs, with what is paid for it where it is flipped
+pub one_cost : (cost denominator numerator : ℤ)
+    → pos (unsigned_abs cost) *ℤ numerator
+    ≡ (cost *ℤ turned denominator (int_lt cost (pos 0)) numerator)
+    -ℤ (int_min (pos 0) cost *ℤ denominator)
+one_cost cost denominator numerator = by (int_lt cost (pos 0)) refl
   where
     down : (z : ℤ) → z <ℤ pos 0 → pos (unsigned_abs z) ≡ neg_ℤ z
     down (pos n) below = absurd (omega (arith, linear, below))
@@ -114,33 +129,14 @@ one_cost cost bit small = by (int_lt cost (pos 0)) refl
     up (negsuc n) above = absurd (omega (arith, linear, above))
 
     by : (b : Bool) → int_lt cost (pos 0) ≡ b
-        → (pos (unsigned_abs cost) *ℤ pos (turn b bit)) +ℤ (if b then cost else pos 0)
-        ≡ cost *ℤ pos bit
+        → pos (unsigned_abs cost) *ℤ numerator
+        ≡ (cost *ℤ turned denominator b numerator) -ℤ ((if b then cost else pos 0) *ℤ denominator)
     by true is =
-        ap (λ n. (n *ℤ pos (1 - bit)) +ℤ cost) (down cost (less_is cost (pos 0) is))
-        ∙ turned_times cost bit small
+        let size = ap (λ n. n *ℤ numerator) (down cost (less_is cost (pos 0) is)) in
+        let same = turned_times cost denominator numerator in omega (arith, linear, size, same)
     by false isnt =
-        ap (λ n. (n *ℤ pos bit) +ℤ pos 0) (up cost (less_isnt cost (pos 0) isnt))
-        ∙ plus_zero (cost *ℤ pos bit)
-      where
-        plus_zero : (z : ℤ) → z +ℤ pos 0 ≡ z
-        plus_zero z = omega (arith, linear)
-
-pub costs_value : (cost : Var → ℤ) (columns : List Var) (value : Var → ℕ) (from : ℕ)
-    (bit : ℕ → ℕ) → ((column : Var) → value column ≤ 1)
-    → ((i k : ℕ) (column : Var) → k ≡ from + i → slice_get columns i ≡ Some column
-    → bit k ≡ turn (int_lt (cost column) (pos 0)) (value column))
-    → weighed bit from (map (λ column. pos (unsigned_abs (cost column))) columns)
-    +ℤ total (λ column. int_min (pos 0) (cost column)) columns
-    ≡ total (λ column. cost column *ℤ pos (value column)) columns
-costs_value cost [] value from bit small are = refl
-costs_value cost (column ∷ columns) value from bit small are =
-    let here = one_cost (cost column) (value column) (small column) in
-    let at = are 0 from column (omega arith) refl in
-    let same = ap (λ n. pos (unsigned_abs (cost column)) *ℤ pos n) at in
-    let more = costs_value cost columns value (from + 1) bit small
-    (λ i k c is there. are (suc i) k c (omega (arith, is)) there) in
-    omega (arith, linear, here, same, more)
+        let size = ap (λ n. n *ℤ numerator) (up cost (less_isnt cost (pos 0) isnt)) in
+        let none = zero_times denominator in omega (arith, linear, size, none)
 
 -- every entry is in one of the columns
 pub entries_within : (factor : Var → ℤ) (columns : List Var) (from count : ℕ)

@@ -10,6 +10,8 @@ pub mod LeafFacts
 pub mod ListFacts
 pub mod NamesFacts
 pub mod NumberFacts
+pub mod PointFacts
+pub mod PointLaws
 pub mod ProgramFacts
 pub mod PromiseFacts
 pub mod RaiseFacts

@@ -25,7 +25,7 @@ use Rattle.presolve.specs.Kinds.{count_of, kind_names, kinds_names, names_at}
 use Rattle.presolve.specs.Listing.{AddsNames, kept_among, with_rows}
 use Rattle.presolve.specs.Relaxed.{kept_row, may_exceed, row_in}
 use Rattle.presolve.proofs.CountFacts.{counted_both, none_counted, wide_both}
-use Rattle.presolve.proofs.PromiseFacts.{every}
+use Rattle.presolve.proofs.PointFacts.{every}
 use Rattle.presolve.proofs.RowFacts.{kept_few, rows_none}
 
 -- the names so far are a front of all

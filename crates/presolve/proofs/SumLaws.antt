@@ -1,10 +1,10 @@
 -- Laws of sums: parts of them, and ranges of numbers of which one counts.
-use Rattle.std.proofs.Common.{◌≡◌, ◌≢◌, ◌⊎◌, ℕ, zero, suc, ◌+◌, ◌<◌, ◌≤◌, ◌==◌, Bool, true, false, List, [], ◌∷◌, if◌then◌else◌, ℤ, pos, ◌+ℤ◌, ◌*ℤ◌, ◌≤ℤ◌, inl, inr, refl, sym, ap, ◌∙◌, arith}
+use Rattle.std.proofs.Common.{◌≡◌, ◌≢◌, ◌⊎◌, ℕ, zero, suc, ◌+◌, ◌<◌, ◌≤◌, ◌==◌, Bool, true, false, List, [], ◌∷◌, length, Some, slice_get, if◌then◌else◌, ℤ, pos, ◌+ℤ◌, ◌-ℤ◌, ◌*ℤ◌, ◌≤ℤ◌, inl, inr, refl, sym, ap, ap₂, ◌∙◌, arith}
 use Rattle.std.proofs.lemmas.Bool.Decides.{eqb_tells}
 use Rattle.std.specs.List.{flat_map, range_with_len}
 use Rattle.exact_sums.specs.Sums.{total}
 use Rattle.exact_sums.proofs.SumFacts.{total-append}
-use Rattle.scaled_simplex.proofs.Products.{linear, times_sum, times_zero}
+use Rattle.scaled_simplex.proofs.Products.{linear, sum_times, times_sum, times_zero, zero_times}
 
 module _ {A : Type 0} where
   pub total_same : (f g : A → ℤ) (xs : List A) → ((x : A) → f x ≡ g x) → total f xs ≡ total g xs
@@ -20,6 +20,13 @@ module _ {A : Type 0} where
   total_times c f [] = sym (times_zero c)
   total_times c f (x ∷ xs) =
       omega (arith, linear, times_sum c (f x) (total f xs), total_times c f xs)
+
+  -- less so many times another sum
+  pub total_less : (f g : A → ℤ) (c : ℤ) (xs : List A)
+      → total (λ x. f x -ℤ (g x *ℤ c)) xs ≡ total f xs -ℤ (total g xs *ℤ c)
+  total_less f g c [] = omega (arith, linear, zero_times c)
+  total_less f g c (x ∷ xs) =
+      omega (arith, linear, sum_times (g x) (total g xs) c, total_less f g c xs)
 
   -- of all parts
   pub total_flat : {B : Type 0} (f : A → ℤ) (part : B → List A) (ys : List B)
@@ -61,6 +68,15 @@ range_low f from (suc count) low =
       range_low f (from + 1) count
           (λ k past before. low k (omega (arith, past)) (omega (arith, before))),
     )
+
+-- as long as a list
+pub range_items : {A : Type 0} (f : ℕ → ℤ) (g : A → ℤ) (from : ℕ) (xs : List A)
+    → ((i k : ℕ) (x : A) → k ≡ from + i → slice_get xs i ≡ Some x → f k ≡ g x)
+    → total f (range_with_len from (length xs)) ≡ total g xs
+range_items f g from [] same = refl
+range_items f g from (x ∷ xs) same =
+    ap₂ (λ (a b : ℤ). a +ℤ b) (same 0 from x (omega arith) refl)
+    (range_items f g (from + 1) xs (λ i k y at here. same (suc i) k y (omega (arith, at)) here))
 
 range_before : (f : ℕ → ℤ) (k from count : ℕ) → k < from → ((i : ℕ) → i ≢ k → f i ≡ pos 0)
     → total f (range_with_len from count) ≡ pos 0

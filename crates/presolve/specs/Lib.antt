@@ -4,6 +4,7 @@ pub mod Kinds
 pub mod Landed
 pub mod Leaf
 pub mod Listing
+pub mod Points
 pub mod Presolved
 pub mod Relaxed
 pub mod Variables

@@ -1,0 +1,22 @@
+//! What the points of a box's program are.
+ghost use Rattle.std.specs.Prelude.{ℕ, ℤ, ◌≡◌};
+ghost use Rattle.flow_types.specs.Valid.{IsScenario};
+ghost use Rattle.flow_types.specs.declared.parts.Parts.{Parts};
+ghost use Rattle.presolve.specs.Points.{IsRelaxationPoint, relaxation_cost, value_of_point};
+ghost use Rattle.presolve.specs.Relaxed.{program_of};
+ghost use Rattle.scaled_simplex.specs.Points.{IsProgramPoint, point_cost};
+ghost use Rattle.time_windows.specs.Boxes.{Box, IsBoxOf};
+ghost use Rattle.time_windows.specs.Tight.{IsTight};
+
+/// A point of a tight box's program is a point of the relaxation, and costs as much.
+pub fn program_points_are_points()
+    ensures point { (parts : Parts) (box : Box) (numerator : ℕ → ℤ) (denominator : ℤ)
+        → IsScenario parts → IsBoxOf parts box → IsTight parts box
+        → IsProgramPoint (program_of parts box) numerator denominator
+        → IsRelaxationPoint parts box (value_of_point parts box numerator denominator)
+        denominator }
+    ensures cost { (parts : Parts) (box : Box) (numerator : ℕ → ℤ) (denominator : ℤ)
+        → IsScenario parts → IsBoxOf parts box → IsTight parts box
+        → relaxation_cost parts (value_of_point parts box numerator denominator) denominator
+        ≡ point_cost (program_of parts box) numerator denominator }
+{}
