@@ -23,6 +23,7 @@ use Rattle.presolve.specs.Leaf.{leaf_rows, unless_never}
 use Rattle.presolve.specs.Presolved.{entries_of}
 use Rattle.presolve.specs.Relaxed.{kept_of, program_of}
 use Rattle.relaxed_bound.specs.declared.limits.Limits.{Limits}
+use Rattle.relaxed_bound.specs.Licence.{IsLicensed, end_of}
 use Rattle.relaxed_bound.specs.Relaxed.{outcome_leaf, relaxed_leaf}
 use Rattle.relaxed_bound.specs.Telling.{HasBound}
 
@@ -70,6 +71,18 @@ module _ (parts : Parts) (box : Box) where
       ∙ ap (λ b. outcome_leaf parts box (if b then wide
       else run_from program limits.cells cutoff limits.pivots (first_tableau program)))
       (sym (lt-ltb limits.cells (entries_of parts box) past))
+
+  -- the run ends at once, and so the box may be split
+  pub bare_end : (limits : Limits) (cutoff : Option ℤ) → limits.cells < entries_of parts box
+      → Wide ≡ end_of parts box limits cutoff
+  bare_end limits cutoff past =
+      ap (λ b. (if b then wide
+      else run_from program limits.cells cutoff limits.pivots (first_tableau program)).end)
+      (sym (lt-ltb limits.cells (entries_of parts box) past))
+
+  pub bare_licensed : (limits : Limits) (cutoff : Option ℤ)
+      → limits.cells < entries_of parts box → IsLicensed parts box limits cutoff
+  bare_licensed limits cutoff past = inr (inr (sym (bare_end limits cutoff past)))
 
   no_fault : (live : IsLive box) (fault : LeafFault) → IsDualFault parts box [] (Err fault) → ⊥
   no_fault live NotEmpty none = none

@@ -1,2 +1,3 @@
+pub mod LicenceFacts
 pub mod BareFacts
 pub mod ToldFacts

@@ -6,13 +6,17 @@ use Rattle.std.proofs.lemmas.List.{length-append}
 use Rattle.std.proofs.lemmas.List.Elements.{All-append, All-cons, All-nil, All-tail}
 use Rattle.std.specs.Ordering.{int_eq}
 use Rattle.exact_sums.proofs.ItemFacts.{All-item}
+use Rattle.flow_types.specs.declared.bound.Bound.{Bound}
 use Rattle.flow_types.specs.declared.parts.Parts.{Parts}
+use Rattle.flow_types.specs.Valid.{IsScenario}
 use Rattle.row_arena.specs.Rows.{most_entry}
 use Rattle.scaled_simplex.specs.declared.solver.Weights.{Weights}
 use Rattle.scaled_simplex.specs.Multipliers.{IsTold, multipliers_of}
 use Rattle.scaled_simplex.specs.Program.{IsProblem, Problem, most_indices}
 use Rattle.scaled_simplex.specs.Run.{Outcome, is_infeasible, simplex_run, value_in, weight_in}
-use Rattle.time_windows.specs.Boxes.{Box}
+use Rattle.scaled_simplex.specs.declared.end.End.{End}
+use Rattle.time_windows.specs.Boxes.{Box, IsBoxOf}
+use Rattle.time_windows.specs.Tight.{IsTight}
 use Rattle.bytime_model.specs.declared.names.RowName.{RowName}
 use Rattle.bytime_model.specs.declared.variables.Var.{Var}
 use Rattle.bytime_model.specs.Rows.{is_row}
@@ -22,15 +26,18 @@ use Rattle.branch_tree.specs.Leaves.{HasRange, IsInRange}
 use Rattle.dual_leaf.specs.declared.fault.LeafFault.{LeafFault}
 use Rattle.dual_leaf.specs.declared.fault.LeafFault.TheVariants.{Closed, NotEmpty, NotUnit, UnknownRow, Useless}
 use Rattle.dual_leaf.specs.Dual.{AreKnown, IsChoice, dual_at}
-use Rattle.dual_leaf.specs.Leaf.{IsDualBound, IsDualFault, IsLive}
+use Rattle.dual_leaf.specs.Leaf.{IsDualBound, IsDualFault, IsLeafBound, IsLive}
 use Rattle.presolve.specs.declared.presolved.Presolved.{Presolved}
 use Rattle.presolve.specs.Leaf.{IsBelowLeaf, leaf_rows, unless_never}
 use Rattle.presolve.specs.Presolved.{IsPresolved}
 use Rattle.presolve.specs.Relaxed.{kept_of, program_of}
 use Rattle.presolve.proofs.PromiseFacts.{kept_are}
 use Rattle.relaxed_bound.specs.declared.limits.Limits.{Limits}
+use Rattle.relaxed_bound.specs.Licence.{IsLicensed, end_of}
+use Rattle.relaxed_bound.specs.Reached.{is_reached}
 use Rattle.relaxed_bound.specs.Relaxed.{outcome_leaf, relaxed_leaf, told_leaf}
-use Rattle.relaxed_bound.specs.Telling.{AreWeights, HasBound, IsRunLeaf}
+use Rattle.relaxed_bound.specs.Telling.{AreWeights, HasBound, IsRunLeaf, IsWorthOf}
+use Rattle.relaxed_bound.proofs.LicenceFacts.{licensed}
 
 -- a number that isn't far from 0
 near_below : (z : ℤ) → nat_abs z ≤ most_entry → unsigned_abs z < 2 ^ 62
@@ -106,10 +113,10 @@ told_few problem outcome valid told = by (is_infeasible outcome.end) refl
     by false is = omega (arith, (told.bound is).multipliers.count, valid.few)
 
 -- the leaf is in range
-told_range : (leaf : Leaf) (names : List RowName) (problem : Problem) (outcome : Outcome)
-    (weights : Weights) → AreWeights problem outcome weights
+told_range : (leaf : Leaf) (names : List RowName) (problem : Problem) (cutoff : Option ℤ)
+    (outcome : Outcome) (weights : Weights) → AreWeights problem cutoff outcome weights
     → leaf ≡ told_leaf names weights.weight weights.rows → IsInRange leaf
-told_range leaf names problem outcome weights are leaf_is = subst IsInRange (sym leaf_is) range
+told_range leaf names problem cutoff outcome weights are leaf_is = subst IsInRange (sym leaf_is) range
   where
     range : HasRange (unsigned_abs weights.weight) (leaf_rows names weights.rows)
     range = record {
@@ -183,20 +190,22 @@ module _ (parts : Parts) (box : Box) (outcome : Outcome) where
     told_bound live (Err fault) (inr first) = absurd (never live fault first)
 
 -- what a run gives
-pub run_leaf : (leaf : Leaf) (names : List RowName) (problem : Problem) (outcome : Outcome)
-    (weights : Weights) → AreWeights problem outcome weights
-    → leaf ≡ told_leaf names weights.weight weights.rows → IsRunLeaf problem names outcome leaf
-run_leaf leaf names problem outcome weights are leaf_is = record {
+pub run_leaf : (leaf : Leaf) (names : List RowName) (problem : Problem) (cutoff : Option ℤ)
+    (outcome : Outcome) (weights : Weights) → AreWeights problem cutoff outcome weights
+    → leaf ≡ told_leaf names weights.weight weights.rows
+    → IsRunLeaf problem names cutoff outcome leaf
+run_leaf leaf names problem cutoff outcome weights are leaf_is = record {
   is = leaf_is
       ∙ ap (λ w. told_leaf names w weights.rows) are.weight
       ∙ ap (λ rows. told_leaf names (weight_in problem outcome) rows) are.rows;
-  range = told_range leaf names problem outcome weights are leaf_is;
+  range = told_range leaf names problem cutoff outcome weights are leaf_is;
   told = are.told;
+  worth = are.worth;
 }
 
 module _ (parts : Parts) (box : Box) (presolved : Presolved)
     (whole : IsPresolved parts box presolved) (limits : Limits) (cutoff : Option ℤ) (leaf : Leaf)
-    (run : IsRunLeaf presolved.program presolved.kept
+    (run : IsRunLeaf presolved.program presolved.kept cutoff
     (simplex_run presolved.program limits.pivots limits.cells cutoff) leaf) where
   abbrev ended : Problem → Outcome
   ended problem = simplex_run problem limits.pivots limits.cells cutoff
@@ -212,11 +221,29 @@ module _ (parts : Parts) (box : Box) (presolved : Presolved)
       ∙ ap (ran_leaf presolved.kept) whole.program
       ∙ ap (λ names. ran_leaf names (program_of parts box)) whole.kept
 
+  told : IsTold (program_of parts box) (ended (program_of parts box))
+  told = subst (λ p. IsTold p (ended p)) whole.program run.told
+
+  promise : IsBelowLeaf parts box (program_of parts box) (kept_of parts box)
+  promise =
+      subst (IsBelowLeaf parts box (program_of parts box)) whole.kept
+      (subst (λ p. IsBelowLeaf parts box p presolved.kept) whole.program whole.promise)
+
   -- on a live box it has a bound
   pub run_has : HasBound parts box leaf
   run_has =
       subst (HasBound parts box) (sym run_is)
-      (told_bound parts box (ended (program_of parts box))
-      (subst (λ p. IsTold p (ended p)) whole.program run.told)
-      (subst (IsBelowLeaf parts box (program_of parts box)) whole.kept
-      (subst (λ p. IsBelowLeaf parts box p presolved.kept) whole.program whole.promise)))
+      (told_bound parts box (ended (program_of parts box)) told promise)
+
+  -- where that doesn't reach the cutoff, the box may be split
+  pub run_licensed : IsScenario parts → IsBoxOf parts box → IsTight parts box → (bound : Bound)
+      → IsLeafBound parts box leaf (Ok bound) → is_reached cutoff bound ≡ false
+      → IsLicensed parts box limits cutoff
+  run_licensed scenario made tight bound is unreached =
+      licensed parts box limits cutoff scenario made tight told
+      (subst (λ p. IsWorthOf p cutoff (ended p)) whole.program run.worth) promise bound
+      (subst (λ l. IsLeafBound parts box l (Ok bound)) run_is is) unreached
+
+  pub run_end : (end : End) → end ≡ (ended presolved.program).end
+      → end ≡ end_of parts box limits cutoff
+  run_end end is = is ∙ ap (λ p. (ended p).end) whole.program

@@ -1,3 +1,5 @@
+pub mod Licence
+pub mod Reached
 pub mod Relaxed
 pub mod Root
 pub mod Telling

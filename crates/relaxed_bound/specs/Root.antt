@@ -1,7 +1,7 @@
 -- The bound of a box: what an Empty or a Unit leaf says of it. Else what all flights would cost if
 -- each were alone, where that is the cutoff or more, or one of them has no trip; else the greater
 -- one of that and of what the relaxation says.
-use Rattle.std.specs.Prelude.{◌≡◌, ◌⊎◌, ℕ, Bool, false, true, not, int_lt, Option, None, Some, ℤ, Ok}
+use Rattle.std.specs.Prelude.{◌≡◌, ◌⊎◌, ℕ, false, true, Option, None, Some, ℤ, Ok}
 use Rattle.std.specs.Int.{int_max}
 use Rattle.flow_types.specs.declared.bound.Bound.{Bound}
 use Rattle.flow_types.specs.declared.bound.Bound.TheVariants.{AtLeast, NoPlan}
@@ -10,6 +10,7 @@ use Rattle.time_windows.specs.Boxes.{Box}
 use Rattle.greedy_plan.specs.FirstBound.{IsFirstBound}
 use Rattle.dual_leaf.specs.Leaf.{IsEmptyBound, IsLive, IsNotUnit, IsUnitBound}
 use Rattle.relaxed_bound.specs.declared.limits.Limits.{Limits}
+use Rattle.relaxed_bound.specs.Reached.{is_reached}
 use Rattle.relaxed_bound.specs.Relaxed.{IsRelaxedBound}
 
 -- that there is no plan says most
@@ -17,12 +18,6 @@ abbrev pub greater : Bound → Bound → Bound
 greater NoPlan second = NoPlan
 greater (AtLeast first) NoPlan = NoPlan
 greater (AtLeast first) (AtLeast second) = AtLeast (int_max first second)
-
--- nothing is left to be gained: a flight has no trip, or no plan costs less than the cutoff
-abbrev pub is_reached : Option ℤ → Bound → Bool
-is_reached cutoff NoPlan = true
-is_reached None (AtLeast first) = false
-is_reached (Some cutoff) (AtLeast first) = not (int_lt first cutoff)
 
 pub record IsGreaterBound (parts : Parts) (box : Box) (limits : Limits) (cutoff : Option ℤ)
     (first bound : Bound) : Type 0 where

@@ -1,10 +1,12 @@
 -- What the end of a run tells, and the leaf that it gives. No public clause cites these.
-use Rattle.std.specs.Prelude.{◌≡◌, ◌≤◌, List, All, Result, nat_abs}
+use Rattle.std.specs.Prelude.{◌≡◌, ◌≤◌, List, All, Option, Result, ℤ, nat_abs}
 use Rattle.std.specs.Result.{IsOk}
 use Rattle.flow_types.specs.declared.bound.Bound.{Bound}
 use Rattle.flow_types.specs.declared.parts.Parts.{Parts}
 use Rattle.row_arena.specs.Rows.{most_entry}
 use Rattle.scaled_simplex.specs.declared.solver.Weights.{Weights}
+use Rattle.scaled_simplex.specs.declared.end.End.TheVariants.{Optimal}
+use Rattle.scaled_simplex.specs.LastPoint.{HasPoint, IsBelow}
 use Rattle.scaled_simplex.specs.Multipliers.{IsTold, multipliers_of}
 use Rattle.scaled_simplex.specs.Program.{IsProblem, Problem}
 use Rattle.scaled_simplex.specs.Run.{Outcome, weight_in}
@@ -16,21 +18,29 @@ use Rattle.dual_leaf.specs.declared.fault.LeafFault.{LeafFault}
 use Rattle.dual_leaf.specs.Leaf.{IsLeafBound, IsLive}
 use Rattle.relaxed_bound.specs.Relaxed.{told_leaf}
 
+-- after Optimal there is a point of the program that costs the value, which is below the cutoff
+abbrev pub IsWorthOf : Problem → Option ℤ → Outcome → Type 0
+IsWorthOf problem cutoff outcome =
+    outcome.end ≡ Optimal → HasPoint problem outcome × IsBelow problem cutoff outcome
+
 -- the weight and the multipliers of an outcome, none of them far from 0, and what they tell
-pub record AreWeights (problem : Problem) (outcome : Outcome) (weights : Weights) : Type 0 where
+pub record AreWeights (problem : Problem) (cutoff : Option ℤ) (outcome : Outcome)
+    (weights : Weights) : Type 0 where
   pub weight : weights.weight ≡ weight_in problem outcome
   pub rows : weights.rows ≡ multipliers_of problem outcome
   pub near : nat_abs weights.weight ≤ most_entry
   pub rows_near : All (λ multiplier. nat_abs multiplier ≤ most_entry) weights.rows
   pub valid : IsProblem problem
   pub told : IsTold problem outcome
+  pub worth : IsWorthOf problem cutoff outcome
 
 -- what a run of a program gives, whose first rows have these names
-pub record IsRunLeaf (problem : Problem) (names : List RowName) (outcome : Outcome) (leaf : Leaf)
-    : Type 0 where
+pub record IsRunLeaf (problem : Problem) (names : List RowName) (cutoff : Option ℤ)
+    (outcome : Outcome) (leaf : Leaf) : Type 0 where
   pub is : leaf ≡ told_leaf names (weight_in problem outcome) (multipliers_of problem outcome)
   pub range : IsInRange leaf
   pub told : IsTold problem outcome
+  pub worth : IsWorthOf problem cutoff outcome
 
 -- on a live box the leaf has no fault
 abbrev pub HasBound : Parts → Box → Leaf → Type 0

@@ -6,7 +6,7 @@ ghost use Rattle.relaxed_bound.specs.Relaxed.{IsRelaxedBound};
 ghost use Rattle.time_windows.specs.Held.{IsMadeFor, box_of};
 ghost use Rattle.time_windows.specs.Tight.{IsTight};
 
-use crate::leaf::relaxed_leaf;
+use crate::leaf::relax;
 use crate::limits::Limits;
 use dual_leaf::LeafWork;
 use flow_types::{Bound, OutOfMemory, Scenario};
@@ -40,7 +40,7 @@ pub fn relaxed_bound(
     ensures bound { IfOk result (IsRelaxedBound (parts_of s.now) (box_of boxes.now) limits cutoff) }
     ensures sound { IfOk result (IsBoundOn (parts_of s.now) (box_of boxes.now)) }
 {
-    let leaf = relaxed_leaf(alloc, s, boxes, limits, cutoff)?;
+    let leaf = relax(alloc, s, boxes, limits, cutoff)?.leaf;
     let mut work = LeafWork::new(alloc, s)?;
     let answer = work.leaf_bound(s, boxes, &leaf, &Pool::empty(alloc));
     Ok(answer.unwrap())

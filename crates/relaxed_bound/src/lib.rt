@@ -38,8 +38,11 @@
 mod bound;
 mod leaf;
 mod limits;
+mod reached;
 mod root;
 
 pub use bound::relaxed_bound;
+pub use leaf::{Relaxed, relax};
 pub use limits::Limits;
+pub use reached::is_reached;
 pub use root::root_bound;

@@ -2,12 +2,14 @@
 ghost use Rattle.std.specs.Prelude.{◌≡◌, IfOk, IfSome};
 ghost use Rattle.dual_leaf.specs.Leaf.{IsBoundOn, IsLive};
 ghost use Rattle.flow_types.specs.Scenario.{parts_of};
-ghost use Rattle.relaxed_bound.specs.Root.{IsBetterBound, IsPlainAnswer, IsRootBound, greater, is_reached};
+ghost use Rattle.relaxed_bound.specs.Reached.{is_reached};
+ghost use Rattle.relaxed_bound.specs.Root.{IsBetterBound, IsPlainAnswer, IsRootBound, greater};
 ghost use Rattle.time_windows.specs.Held.{IsMadeFor, box_of};
 ghost use Rattle.time_windows.specs.Tight.{IsTight};
 
 use crate::bound::relaxed_bound;
 use crate::limits::Limits;
+use crate::reached::is_reached;
 use branch_tree::Leaf;
 use dual_leaf::LeafWork;
 use flow_types::{Bound, OutOfMemory, Scenario};
@@ -67,17 +69,6 @@ fn better_bound(
     }
     let relaxed = relaxed_bound(alloc, s, boxes, limits, cutoff)?;
     Ok(greater(relaxed, first))
-}
-
-// Whether nothing is left to be gained.
-fn is_reached(cutoff: Option<i64>, first: Bound) -> bool
-    ensures { result ≡ is_reached cutoff first }
-{
-    match (cutoff, first) {
-        (_, Bound::NoPlan) => true,
-        (None, Bound::AtLeast(_)) => false,
-        (Some(cutoff), Bound::AtLeast(first)) => i128::from(cutoff) <= first,
-    }
 }
 
 // The bound of a box in which there is no choice, nothing where there is.

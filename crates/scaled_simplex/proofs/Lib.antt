@@ -32,3 +32,4 @@ pub mod Tellings
 pub mod TodoFacts
 pub mod WideFacts
 pub mod WorkedRuns
+pub mod CutRuns
