@@ -1,6 +1,6 @@
 -- Weak duality: what multipliers tell of a program is no more than what columns of 0 or more cost,
--- with what each constraint is exceeded, as often as its multiplier says. The columns are numerators
--- over one denominator.
+-- with what each constraint is exceeded, as often as its multiplier says. The columns are
+-- numerators over one denominator.
 use Rattle.std.proofs.Common.{◌≡◌, ℕ, ◌<◌, List, [], ◌∷◌, slice_index_or, All, ℤ, pos, ◌+ℤ◌, ◌-ℤ◌, ◌*ℤ◌, ◌≤ℤ◌, refl, sym, ap, ◌∙◌, subst, arith}
 use Rattle.std.proofs.lemmas.List.Elements.{All-tail}
 use Rattle.std.specs.List.{range_with_len}

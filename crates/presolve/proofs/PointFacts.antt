@@ -1,6 +1,6 @@
 -- What rows and the cost come to over the columns: the same as over the variables, with numerators
 -- over one denominator.
-use Rattle.std.proofs.Common.{◌≡◌, ℕ, ◌+◌, ◌-◌, ◌<◌, Bool, true, false, List, [], ◌∷◌, length, map, slice_get, slice_index_or, Some, if◌then◌else◌, All, int_lt, unsigned_abs, ℤ, pos, ◌+ℤ◌, ◌-ℤ◌, ◌*ℤ◌, refl, sym, ap, ◌∙◌, subst, arith}
+use Rattle.std.proofs.Common.{◌≡◌, ℕ, ◌+◌, ◌-◌, ◌<◌, Bool, true, false, List, [], ◌∷◌, length, slice_get, slice_index_or, Some, if◌then◌else◌, All, int_lt, unsigned_abs, ℤ, pos, ◌+ℤ◌, ◌-ℤ◌, ◌*ℤ◌, refl, sym, ap, ◌∙◌, subst, arith}
 use Rattle.std.proofs.lemmas.List.{get_or-map, length-map}
 use Rattle.std.proofs.lemmas.List.Elements.{All-append, All-cons, All-nil}
 use Rattle.std.proofs.lemmas.Option.{get_or_from_slice_get, slice_get_within}
@@ -12,7 +12,6 @@ use Rattle.flow_types.specs.declared.flight.Flight.{Flight}
 use Rattle.flow_types.specs.declared.parts.Parts.{Parts}
 use Rattle.flow_types.specs.Valid.{IsScenario}
 use Rattle.scaled_simplex.specs.Points.{point_cost}
-use Rattle.scaled_simplex.specs.Program.{columns}
 use Rattle.scaled_simplex.proofs.Products.{less_times, linear, sum_times}
 use Rattle.time_windows.specs.Boxes.{Box, IsBoxOf}
 use Rattle.time_windows.specs.Tight.{IsTight}

@@ -1,5 +1,5 @@
 -- No multipliers of the program have a value above what the Dual leaf comes to that they give.
-use Rattle.std.proofs.Common.{◌≡◌, ℕ, zero, suc, ◌+◌, ◌<◌, ◌≤◌, Bool, true, false, List, [], ◌∷◌, ◌++◌, length, map, slice_get, slice_index_or, Some, if◌then◌else◌, All, unsigned_abs, ℤ, pos, negsuc, neg_ℤ, ◌+ℤ◌, ◌*ℤ◌, ◌≤ℤ◌, refl, sym, ap, ◌∙◌, subst, arith}
+use Rattle.std.proofs.Common.{◌≡◌, ℕ, zero, suc, ◌+◌, ◌<◌, ◌≤◌, Bool, true, false, List, [], ◌∷◌, ◌++◌, length, map, slice_index_or, if◌then◌else◌, All, unsigned_abs, ℤ, pos, negsuc, neg_ℤ, ◌+ℤ◌, ◌*ℤ◌, ◌≤ℤ◌, refl, sym, ap, ◌∙◌, subst, arith}
 use Rattle.std.proofs.lemmas.Bool.Decides.{Decides-int_eq}
 use Rattle.std.proofs.lemmas.List.{length-map}
 use Rattle.std.proofs.lemmas.List.Elements.{All-append, All-cons, All-filter, All-nil, All-tail}
@@ -110,36 +110,41 @@ module _ (above : Constraint → ℤ) where
 
 -- the constraints are over the columns
 module _ (parts : Parts) (box : Box) where
-  abbrev IsOver : Constraint → Type 0
-  IsOver constraint =
-      All (λ entry. entry.column < columns (program_of parts box)) constraint.terms
+  abbrev count : ℕ
+  count = columns (program_of parts box)
 
-  few : length (columns_of parts box) ≡ columns (program_of parts box)
-  few = sym (length-map (columns_of parts box) (λ column. pos (unsigned_abs (cost_in parts box column))))
+  abbrev IsOver : Constraint → Type 0
+  IsOver constraint = All (λ entry. entry.column < count) constraint.terms
+
+  few : length (columns_of parts box) ≡ count
+  few =
+      sym (length-map (columns_of parts box)
+      (λ column. pos (unsigned_abs (cost_in parts box column))))
 
   kept_within : (names : List RowName) → All IsOver (map (kept_row parts box) names)
   kept_within [] = All-nil IsOver
   kept_within (name ∷ names) =
       All-cons IsOver (kept_row parts box name) (map (kept_row parts box) names)
-      (flipped_within (flipped_of parts box) (row_in parts box name).terms (columns (program_of parts box))
+      (flipped_within (flipped_of parts box) (row_in parts box name).terms count
       (entries_within (coefficient_of parts box (row_terms parts name)) (columns_of parts box) 0
-      (columns (program_of parts box)) (omega (arith, few))))
+      count (omega (arith, few))))
       (kept_within names)
 
-  ones_within : (from count : ℕ) → from + count ≤ columns (program_of parts box)
-      → All IsOver (map at_most_one (range_with_len from count))
+  ones_within : (from many : ℕ) → from + many ≤ count
+      → All IsOver (map at_most_one (range_with_len from many))
   ones_within from zero all = All-nil IsOver
-  ones_within from (suc count) all =
-      All-cons IsOver (at_most_one from) (map at_most_one (range_with_len (from + 1) count))
-      (All-cons (λ (entry : Entry). entry.column < columns (program_of parts box))
+  ones_within from (suc many) all =
+      All-cons IsOver (at_most_one from) (map at_most_one (range_with_len (from + 1) many))
+      (All-cons (λ (entry : Entry). entry.column < count)
       (record { column = from; value = pos 1 }) [] (omega (arith, all))
-      (All-nil (λ (entry : Entry). entry.column < columns (program_of parts box))))
-      (ones_within (from + 1) count (omega (arith, all)))
+      (All-nil (λ (entry : Entry). entry.column < count)))
+      (ones_within (from + 1) many (omega (arith, all)))
 
   all_within : All IsOver (program_of parts box).constraints
   all_within =
       All-append IsOver (map (kept_row parts box) (kept_of parts box))
-      (map at_most_one (range_with_len 0 (length (columns_of parts box)))) (kept_within (kept_of parts box))
+      (map at_most_one (range_with_len 0 (length (columns_of parts box))))
+      (kept_within (kept_of parts box))
       (ones_within 0 (length (columns_of parts box)) (omega (arith, few)))
 
 module _ (parts : Parts) (scenario : IsScenario parts) (box : Box) (made : IsBoxOf parts box)
