@@ -1,15 +1,16 @@
 -- Weak duality: what multipliers tell of a program is no more than what columns of 0 or more cost,
 -- with what each constraint is exceeded, as often as its multiplier says. The columns are
 -- numerators over one denominator.
-use Rattle.std.proofs.Common.{◌≡◌, ℕ, ◌<◌, List, [], ◌∷◌, slice_index_or, All, ℤ, pos, ◌+ℤ◌, ◌-ℤ◌, ◌*ℤ◌, ◌≤ℤ◌, refl, sym, ap, ◌∙◌, subst, arith}
+use Rattle.std.proofs.Common.{◌≡◌, ℕ, suc, ◌+◌, ◌<◌, List, [], ◌∷◌, length, slice_get, slice_index_or, Some, All, ℤ, pos, ◌+ℤ◌, ◌-ℤ◌, ◌*ℤ◌, ◌≤ℤ◌, refl, sym, ap, ap₂, ◌∙◌, subst, arith}
 use Rattle.std.proofs.lemmas.List.Elements.{All-tail}
+use Rattle.std.proofs.lemmas.Option.{get_or_from_slice_get}
 use Rattle.std.specs.List.{range_with_len}
 use Rattle.exact_sums.specs.Sums.{total}
 use Rattle.exact_sums.proofs.SumFacts.{total-both}
 use Rattle.row_arena.specs.declared.entry.Entry.{Entry}
 use Rattle.row_arena.specs.Rows.{entry_at, value_in}
 use Rattle.scaled_simplex.specs.Multipliers.{AreMultipliers, weighted}
-use Rattle.scaled_simplex.specs.Points.{point_cost, terms_at}
+use Rattle.scaled_simplex.specs.Points.{costs_at, point_cost, terms_at}
 use Rattle.scaled_simplex.specs.Program.{Constraint, Problem, columns}
 use Rattle.scaled_simplex.proofs.EntryLaws.{value_other, value_same}
 use Rattle.scaled_simplex.proofs.Products.{less_times, linear, low_times, sum_times, times_assoc, times_less, times_sum, zero_times}
@@ -18,7 +19,7 @@ use Rattle.presolve.proofs.SumLaws.{range_low, range_one, total_same, total_time
 module _ (numerator : ℕ → ℤ) (denominator : ℤ) where
   -- how far a constraint is above its limit
   abbrev pub over : Constraint → ℤ
-  over constraint = terms_at numerator constraint.terms -ℤ (constraint.limit *ℤ denominator)
+  over constraint = terms_at constraint.terms numerator -ℤ (constraint.limit *ℤ denominator)
 
   -- the left side by columns
   abbrev by_column : List Entry → ℕ → ℤ
@@ -35,7 +36,7 @@ module _ (numerator : ℕ → ℤ) (denominator : ℤ) where
       ∙ ap (λ n. n *ℤ numerator entry.column) (value_same entry.column entry refl)
 
   left_by_column : (count : ℕ) (terms : List Entry) → All (λ entry. entry.column < count) terms
-      → terms_at numerator terms ≡ total (by_column terms) (range_with_len 0 count)
+      → terms_at terms numerator ≡ total (by_column terms) (range_with_len 0 count)
   left_by_column count [] within =
       sym (total_zero (by_column []) (range_with_len 0 count) (λ j. zero_times (numerator j)))
   left_by_column count (entry ∷ terms) within =
@@ -60,7 +61,7 @@ module _ (numerator : ℕ → ℤ) (denominator : ℤ) where
 
   weighted_left : (count : ℕ) (multipliers : List ℤ) (constraints : List Constraint)
       → AreWithin count constraints
-      → weighted (λ constraint. terms_at numerator constraint.terms) multipliers constraints
+      → weighted (λ constraint. terms_at constraint.terms numerator) multipliers constraints
       ≡ total (λ j. weighted_at multipliers constraints j *ℤ numerator j) (range_with_len 0 count)
   weighted_left count [] constraints within =
       sym (total_zero (λ j. pos 0 *ℤ numerator j) (range_with_len 0 count)
@@ -86,7 +87,7 @@ module _ (numerator : ℕ → ℤ) (denominator : ℤ) where
 
   weighted_over : (multipliers : List ℤ) (constraints : List Constraint)
       → weighted over multipliers constraints
-      ≡ weighted (λ constraint. terms_at numerator constraint.terms) multipliers constraints
+      ≡ weighted (λ constraint. terms_at constraint.terms numerator) multipliers constraints
       -ℤ (weighted (λ constraint. constraint.limit) multipliers constraints *ℤ denominator)
   weighted_over [] constraints = omega (arith, linear, zero_times denominator)
   weighted_over (y ∷ multipliers) [] = omega (arith, linear, zero_times denominator)
@@ -95,11 +96,35 @@ module _ (numerator : ℕ → ℤ) (denominator : ℤ) where
       omega (
         arith,
         linear,
-        times_less y (terms_at numerator c.terms) (c.limit *ℤ denominator),
+        times_less y (terms_at c.terms numerator) (c.limit *ℤ denominator),
         times_assoc y c.limit denominator,
         sum_times (y *ℤ c.limit) limits denominator,
         weighted_over multipliers constraints,
       )
+
+  -- the costs of all columns
+  costs_from : (from : ℕ) (costs all : List ℤ)
+      → ((i k : ℕ) (cost : ℤ) → k ≡ from + i → slice_get costs i ≡ Some cost
+      → slice_index_or all k (pos 0) ≡ cost)
+      → total (λ j. slice_index_or all j (pos 0) *ℤ numerator j)
+      (range_with_len from (length costs)) ≡ costs_at numerator from costs
+  costs_from from [] all are = refl
+  costs_from from (cost ∷ costs) all are =
+      ap₂ (λ (a b : ℤ). (a *ℤ numerator from) +ℤ b) (are 0 from cost (omega arith) refl)
+      (costs_from (from + 1) costs all
+      (λ i k c same here. are (suc i) k c (omega (arith, same)) here))
+
+  pub costs_in_range : (costs : List ℤ)
+      → total (λ j. slice_index_or costs j (pos 0) *ℤ numerator j)
+      (range_with_len 0 (length costs)) ≡ costs_at numerator 0 costs
+  costs_in_range costs = costs_from 0 costs costs item
+    where
+      item : (i k : ℕ) (c : ℤ) → k ≡ 0 + i → slice_get costs i ≡ Some c
+          → slice_index_or costs k (pos 0) ≡ c
+      item i k c same here =
+          let e : i ≡ k = omega (arith, same) in
+          subst (λ n. slice_index_or costs n (pos 0) ≡ c) e
+          (get_or_from_slice_get costs i c (pos 0) here)
 
   pub weakly_dual : ((j : ℕ) → pos 0 ≤ℤ numerator j) → (problem : Problem) (weight : ℤ)
       (multipliers : List ℤ) (value : ℤ) → AreMultipliers problem weight multipliers value
@@ -111,7 +136,7 @@ module _ (numerator : ℕ → ℤ) (denominator : ℤ) where
       let count = columns problem in
       let limits = weighted (λ constraint. constraint.limit) multipliers problem.constraints in
       let cost : ℕ → ℤ = λ j. slice_index_or problem.costs j (pos 0) in
-      let costs = total (λ j. cost j *ℤ numerator j) (range_with_len 0 count) in
+      let costs = costs_in_range problem.costs in
       let paid : ℕ → ℤ = λ j. weight *ℤ (cost j *ℤ numerator j) in
       let added : ℕ → ℤ = λ j. weighted_at multipliers problem.constraints j *ℤ numerator j in
       let times = total_times weight (λ j. cost j *ℤ numerator j) (range_with_len 0 count) in
@@ -122,11 +147,13 @@ module _ (numerator : ℕ → ℤ) (denominator : ℤ) where
       subst (λ n. pos 0 ≤ℤ n) (joined j)
       (low_times ((weight *ℤ cost j) +ℤ weighted_at multipliers problem.constraints j) (numerator j)
       (are.columns j (omega (arith, before))) (least j))) in
-      let sum = times_sum weight (problem.constant *ℤ denominator) costs in
+      let scaled = ap (λ n. weight *ℤ n) costs in
+      let sum = times_sum weight (problem.constant *ℤ denominator)
+      (costs_at numerator 0 problem.costs) in
       let constant = times_assoc weight problem.constant denominator in
       let worth = ap (λ n. n *ℤ denominator) are.worth in
       let parts = less_times (weight *ℤ problem.constant) limits denominator in
-      omega (arith, linear, times, left, less, both, low, sum, constant, worth, parts)
+      omega (arith, linear, times, scaled, left, less, both, low, sum, constant, worth, parts)
     where
       joined : (j : ℕ)
           → ((weight *ℤ slice_index_or problem.costs j (pos 0))

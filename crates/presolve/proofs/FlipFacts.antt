@@ -37,11 +37,11 @@ first_at : (columns : List Var) (column : Var) (value : Var → ℤ) (from : ℕ
 first_at columns column value from numerator is = is.at 0 from column (omega arith) refl
 
 one_entry : (numerator : ℕ → ℤ) (number : ℕ) (factor : ℤ)
-    → terms_at numerator (unless_zero number factor) ≡ factor *ℤ numerator number
+    → terms_at (unless_zero number factor) numerator ≡ factor *ℤ numerator number
 one_entry numerator number factor = by (int_eq factor (pos 0)) refl
   where
     by : (b : Bool) → int_eq factor (pos 0) ≡ b
-        → terms_at numerator (if b then [] else record { column = number; value = factor } ∷ [])
+        → terms_at (if b then [] else record { column = number; value = factor } ∷ []) numerator
         ≡ factor *ℤ numerator number
     by true is =
         sym (ap (λ n. n *ℤ numerator number) ((Decides-int_eq factor (pos 0)).0 is)
@@ -51,7 +51,7 @@ one_entry numerator number factor = by (int_eq factor (pos 0)) refl
 -- a row's left side, by columns
 pub row_value : (factor : Var → ℤ) (columns : List Var) (value : Var → ℤ) (from : ℕ)
     (numerator : ℕ → ℤ) → IsPointAt columns value from numerator
-    → terms_at numerator (entries_from factor from columns)
+    → terms_at (entries_from factor from columns) numerator
     ≡ total (λ column. factor column *ℤ value column) columns
 row_value factor [] value from numerator is = refl
 row_value factor (column ∷ columns) value from numerator is =
@@ -84,14 +84,14 @@ module _ (flips : List Bool) (numerator : ℕ → ℤ) (denominator : ℤ) where
   unflipped k = turned denominator (slice_index_or flips k false) (numerator k)
 
   flip_value : (terms : List Entry)
-      → terms_at numerator (map (flipped_entry flips) terms)
-      +ℤ (flipped_sum flips terms *ℤ denominator) ≡ terms_at unflipped terms
+      → terms_at (map (flipped_entry flips) terms) numerator
+      +ℤ (flipped_sum flips terms *ℤ denominator) ≡ terms_at terms unflipped
   flip_value [] = omega (arith, linear, zero_times denominator)
   flip_value (entry ∷ terms) =
       joined ((flipped_entry flips entry).value *ℤ numerator entry.column)
-      (terms_at numerator (map (flipped_entry flips) terms))
+      (terms_at (map (flipped_entry flips) terms) numerator)
       (if is_flipped flips entry then entry.value else pos 0) (flipped_sum flips terms)
-      (entry.value *ℤ unflipped entry.column) (terms_at unflipped terms)
+      (entry.value *ℤ unflipped entry.column) (terms_at terms unflipped)
       (by (is_flipped flips entry)) (flip_value terms)
     where
       joined : (a b c d e f : ℤ) → a +ℤ (c *ℤ denominator) ≡ e → b +ℤ (d *ℤ denominator) ≡ f

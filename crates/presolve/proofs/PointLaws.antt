@@ -29,7 +29,7 @@ use Rattle.presolve.specs.Variables.{columns_of, is_same}
 use Rattle.presolve.proofs.DualityFacts.{over}
 use Rattle.presolve.proofs.FlipFacts.{IsPointAt, entries_within, unflipped}
 use Rattle.presolve.proofs.FreeFacts.{IsFreed, all_freed, column_once, is_itself, same_is}
-use Rattle.presolve.proofs.PointFacts.{kept_over, landed_over, rows_are, same_cost}
+use Rattle.presolve.proofs.PointFacts.{few, kept_over, landed_over, rows_are, same_cost}
 
 -- the place of what is in a list once
 position_here : (variable : Var) (xs : List Var) (from k : ℕ) → slice_get xs k ≡ Some variable
@@ -88,7 +88,7 @@ module _ (numerator : ℕ → ℤ) (denominator : ℤ) (count : ℕ)
           let split = times_less factor denominator part in omega (arith, linear, up, split)
 
   terms_most : (terms : List Entry) → All (λ entry. entry.column < count) terms
-      → terms_at numerator terms ≤ℤ (greatest terms *ℤ denominator)
+      → terms_at terms numerator ≤ℤ (greatest terms *ℤ denominator)
   terms_most [] all = omega (arith, linear, zero_times denominator)
   terms_most (entry ∷ terms) all =
       let here = part_most entry.value (numerator entry.column)
@@ -217,7 +217,7 @@ module _ (parts : Parts) (box : Box) (scenario : IsScenario parts) (made : IsBox
     bits_within : (k : ℕ) → k < length all_columns → IsNumerator denominator (bit k)
     bits_within k within =
         turned_within (slice_index_or flips k false) (numerator k) (record {
-          low = point.least k;
+          low = point.least k (omega (arith, within, few parts box));
           high = each_high 0 (length all_columns) k k last_hold (omega arith) within;
         })
 

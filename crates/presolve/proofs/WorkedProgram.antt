@@ -109,7 +109,7 @@ halves column = pos (slice_index_or (1 ∷ 1 ∷ 2 ∷ 1 ∷ 1 ∷ 1 ∷ 2 ∷ 1
 
 abbrev holds : Constraint → Bool
 holds constraint =
-    not (int_lt (constraint.limit *ℤ pos 2) (terms_at halves constraint.terms))
+    not (int_lt (constraint.limit *ℤ pos 2) (terms_at constraint.terms halves))
 
 -- and of all variables: half by the first period that a node is open, and all by the next
 abbrev risen : ℕ → ℕ → ℤ
@@ -135,10 +135,10 @@ not_less a b is = less_isnt a b (by (int_lt a b) is)
 program_point : IsProgramPoint (program_of two narrow) halves (pos 2)
 program_point = record {
   positive = omega (arith, linear);
-  least = λ k. omega (arith, linear);
+  least = λ k within. omega (arith, linear);
   kept = λ k d within.
       let constraint = slice_index_or (program_of two narrow).constraints k d in
-      not_less (constraint.limit *ℤ pos 2) (terms_at halves constraint.terms)
+      not_less (constraint.limit *ℤ pos 2) (terms_at constraint.terms halves)
       (AllPass-from_list_all holds (program_of two narrow).constraints refl k d within);
 }
 
