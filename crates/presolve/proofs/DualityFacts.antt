@@ -3,6 +3,7 @@
 -- over one denominator.
 use Rattle.std.proofs.Common.{◌≡◌, ℕ, suc, ◌+◌, ◌<◌, List, [], ◌∷◌, length, slice_index_or, All, ℤ, pos, ◌+ℤ◌, ◌-ℤ◌, ◌*ℤ◌, ◌≤ℤ◌, refl, sym, ap, ◌∙◌, subst, arith}
 use Rattle.std.proofs.lemmas.List.Elements.{All-tail}
+use Rattle.std.proofs.lemmas.Option.{get_or_from_slice_get}
 use Rattle.std.specs.List.{range_with_len}
 use Rattle.exact_sums.specs.Sums.{total}
 use Rattle.exact_sums.proofs.SumFacts.{total-both}
@@ -127,6 +128,30 @@ module _ (numerator : ℕ → ℤ) (denominator : ℤ) where
         weighted_over multipliers constraints,
       )
 
+  -- the costs of all columns
+  costs_from : (from : ℕ) (costs all : List ℤ)
+      → ((i k : ℕ) (cost : ℤ) → k ≡ from + i → slice_get costs i ≡ Some cost
+      → slice_index_or all k (pos 0) ≡ cost)
+      → total (λ j. slice_index_or all j (pos 0) *ℤ numerator j)
+      (range_with_len from (length costs)) ≡ costs_at numerator from costs
+  costs_from from [] all are = refl
+  costs_from from (cost ∷ costs) all are =
+      ap₂ (λ (a b : ℤ). (a *ℤ numerator from) +ℤ b) (are 0 from cost (omega arith) refl)
+      (costs_from (from + 1) costs all
+      (λ i k c same here. are (suc i) k c (omega (arith, same)) here))
+
+  pub costs_in_range : (costs : List ℤ)
+      → total (λ j. slice_index_or costs j (pos 0) *ℤ numerator j)
+      (range_with_len 0 (length costs)) ≡ costs_at numerator 0 costs
+  costs_in_range costs = costs_from 0 costs costs item
+    where
+      item : (i k : ℕ) (c : ℤ) → k ≡ 0 + i → slice_get costs i ≡ Some c
+          → slice_index_or costs k (pos 0) ≡ c
+      item i k c same here =
+          let e : i ≡ k = omega (arith, same) in
+          subst (λ n. slice_index_or costs n (pos 0) ≡ c) e
+          (get_or_from_slice_get costs i c (pos 0) here)
+
   pub weakly_dual : ((j : ℕ) → pos 0 ≤ℤ numerator j) → (problem : Problem) (weight : ℤ)
       (multipliers : List ℤ) (value : ℤ) → AreMultipliers problem weight multipliers value
       → All (λ constraint. All (λ entry. entry.column < columns problem) constraint.terms)
@@ -137,7 +162,7 @@ module _ (numerator : ℕ → ℤ) (denominator : ℤ) where
       let count = columns problem in
       let limits = weighted (λ constraint. constraint.limit) multipliers problem.constraints in
       let cost : ℕ → ℤ = λ j. slice_index_or problem.costs j (pos 0) in
-      let costs = total (λ j. cost j *ℤ numerator j) (range_with_len 0 count) in
+      let costs = costs_in_range problem.costs in
       let paid : ℕ → ℤ = λ j. weight *ℤ (cost j *ℤ numerator j) in
       let added : ℕ → ℤ = λ j. weighted_at multipliers problem.constraints j *ℤ numerator j in
       let times = total_times weight (λ j. cost j *ℤ numerator j) (range_with_len 0 count) in

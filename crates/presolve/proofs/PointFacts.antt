@@ -46,6 +46,13 @@ every P (x ∷ xs) each =
     All-cons P x xs (each x (any_here (λ y. y ≡ x) x xs refl))
     (every P xs (λ z any. each z (any_there (λ y. y ≡ z) x xs any)))
 
+-- the program has as many columns
+pub few : (parts : Parts) (box : Box)
+    → length (columns_of parts box) ≡ columns (program_of parts box)
+few parts box =
+    sym (length-map (columns_of parts box)
+    (λ column. pos (unsigned_abs (cost_in parts box column))))
+
 -- each of the names is of a row
 pub rows_are : (parts : Parts) → All (λ name. is_row parts name ≡ true) (rows_of parts)
 rows_are parts =

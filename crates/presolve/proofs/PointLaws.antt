@@ -30,7 +30,7 @@ use Rattle.presolve.specs.Variables.{columns_of, is_same}
 use Rattle.presolve.proofs.DualityFacts.{over}
 use Rattle.presolve.proofs.FlipFacts.{IsPointAt, entries_within, unflipped}
 use Rattle.presolve.proofs.FreeFacts.{IsFreed, all_freed, column_once, is_itself, same_is}
-use Rattle.presolve.proofs.PointFacts.{kept_over, landed_over, rows_are, same_cost}
+use Rattle.presolve.proofs.PointFacts.{few, kept_over, landed_over, rows_are, same_cost}
 
 -- the place of what is in a list once
 position_here : (variable : Var) (xs : List Var) (from k : ℕ) → slice_get xs k ≡ Some variable

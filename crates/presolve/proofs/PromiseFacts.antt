@@ -1,7 +1,6 @@
 -- No multipliers of the program have a value above what the Dual leaf comes to that they give.
 use Rattle.std.proofs.Common.{◌≡◌, ℕ, zero, suc, ◌+◌, ◌<◌, ◌≤◌, Bool, true, false, List, [], ◌∷◌, ◌++◌, length, map, slice_index_or, if◌then◌else◌, All, unsigned_abs, ℤ, pos, negsuc, neg_ℤ, ◌+ℤ◌, ◌*ℤ◌, ◌≤ℤ◌, refl, sym, ap, ◌∙◌, subst, arith}
 use Rattle.std.proofs.lemmas.Bool.Decides.{Decides-int_eq}
-use Rattle.std.proofs.lemmas.List.{length-map}
 use Rattle.std.proofs.lemmas.List.Elements.{All-append, All-cons, All-filter, All-nil, All-tail}
 use Rattle.std.proofs.lemmas.Option.{get_or_from_slice_get}
 use Rattle.std.specs.List.{range_with_len}
@@ -28,11 +27,11 @@ use Rattle.dual_leaf.specs.Dual.{IsChoice, dual_at, excess, excesses}
 use Rattle.presolve.specs.Landed.{coefficient_of}
 use Rattle.presolve.specs.Leaf.{IsBelowLeaf, leaf_rows}
 use Rattle.presolve.specs.Points.{AgreesOver, turned}
-use Rattle.presolve.specs.Relaxed.{at_most_one, cost_in, flipped_of, kept_of, kept_row, may_exceed, program_of, row_in}
+use Rattle.presolve.specs.Relaxed.{at_most_one, flipped_of, kept_of, kept_row, may_exceed, program_of, row_in}
 use Rattle.presolve.specs.Variables.{columns_of}
 use Rattle.presolve.proofs.DualityFacts.{over, weakly_dual}
 use Rattle.presolve.proofs.FlipFacts.{IsPointAt, entries_within, flipped_within, turned_back, unflipped}
-use Rattle.presolve.proofs.PointFacts.{kept_over, rows_are, same_cost}
+use Rattle.presolve.proofs.PointFacts.{few, kept_over, rows_are, same_cost}
 
 -- each of the names is of a row
 pub kept_are : (parts : Parts) (box : Box)
@@ -110,37 +109,37 @@ module _ (above : Constraint → ℤ) where
 
 -- the constraints are over the columns
 module _ (parts : Parts) (box : Box) where
-  abbrev IsOver : Constraint → Type 0
-  IsOver constraint =
-      All (λ entry. entry.column < columns (program_of parts box)) constraint.terms
+  abbrev count : ℕ
+  count = columns (program_of parts box)
 
-  few : length (columns_of parts box) ≡ columns (program_of parts box)
-  few = sym (length-map (columns_of parts box) (λ column. pos (unsigned_abs (cost_in parts box column))))
+  abbrev IsOver : Constraint → Type 0
+  IsOver constraint = All (λ entry. entry.column < count) constraint.terms
 
   kept_within : (names : List RowName) → All IsOver (map (kept_row parts box) names)
   kept_within [] = All-nil IsOver
   kept_within (name ∷ names) =
       All-cons IsOver (kept_row parts box name) (map (kept_row parts box) names)
-      (flipped_within (flipped_of parts box) (row_in parts box name).terms (columns (program_of parts box))
+      (flipped_within (flipped_of parts box) (row_in parts box name).terms count
       (entries_within (coefficient_of parts box (row_terms parts name)) (columns_of parts box) 0
-      (columns (program_of parts box)) (omega (arith, few))))
+      count (omega (arith, few parts box))))
       (kept_within names)
 
-  ones_within : (from count : ℕ) → from + count ≤ columns (program_of parts box)
-      → All IsOver (map at_most_one (range_with_len from count))
+  ones_within : (from many : ℕ) → from + many ≤ count
+      → All IsOver (map at_most_one (range_with_len from many))
   ones_within from zero all = All-nil IsOver
-  ones_within from (suc count) all =
-      All-cons IsOver (at_most_one from) (map at_most_one (range_with_len (from + 1) count))
-      (All-cons (λ (entry : Entry). entry.column < columns (program_of parts box))
+  ones_within from (suc many) all =
+      All-cons IsOver (at_most_one from) (map at_most_one (range_with_len (from + 1) many))
+      (All-cons (λ (entry : Entry). entry.column < count)
       (record { column = from; value = pos 1 }) [] (omega (arith, all))
-      (All-nil (λ (entry : Entry). entry.column < columns (program_of parts box))))
-      (ones_within (from + 1) count (omega (arith, all)))
+      (All-nil (λ (entry : Entry). entry.column < count)))
+      (ones_within (from + 1) many (omega (arith, all)))
 
   all_within : All IsOver (program_of parts box).constraints
   all_within =
       All-append IsOver (map (kept_row parts box) (kept_of parts box))
-      (map at_most_one (range_with_len 0 (length (columns_of parts box)))) (kept_within (kept_of parts box))
-      (ones_within 0 (length (columns_of parts box)) (omega (arith, few)))
+      (map at_most_one (range_with_len 0 (length (columns_of parts box))))
+      (kept_within (kept_of parts box))
+      (ones_within 0 (length (columns_of parts box)) (omega (arith, few parts box)))
 
 module _ (parts : Parts) (scenario : IsScenario parts) (box : Box) (made : IsBoxOf parts box)
     (tight : IsTight parts box) (value : Var → ℕ) (chosen : IsChoice parts.flights box value)

@@ -27,16 +27,18 @@
 //! lands), `Relaxed` (the program), `Leaf` (the leaf that multipliers give, and what they promise),
 //! `Presolved` (what callers get) and `Points` (the points of the relaxation, and the one that a
 //! point of the program gives). `Counting`, `Gathering`, `Kinds` and `Listing` serve the proofs.
-//! `proofs/WorkedProgram.antt` has the program of a narrow box of a day of two flights, and a point.
+//! `proofs/WorkedProgram.antt` has the program of a narrow box of a day of two flights, and a point
+//! of it.
 //!
 //! Proved: `program` and `program_within` give exactly the definition's program, columns, names and
 //! marks (`presolved`), and `program_within` gives none only where its first tableau has more
 //! entries than there is room for (`wide`). Whatever multipliers of it there are, of the run or of
 //! anyone else, the Dual leaf that `leaf_of` makes of them has a value of no less than theirs (in
-//! `presolved`, `promise`). `leaf_of` gives exactly the definition's rows. Whatever point of a tight
-//! box's program there is, of the run or of anyone else: with flipped columns turned back, and what
-//! the box fixes as the box leaves it, it is a point of the relaxation, which keeps all rows of the
-//! by-time program (`program_points_are_points`, `point`), and costs as much (`cost`).
+//! `presolved`, `promise`). `leaf_of` gives exactly the definition's rows. Whatever point of a
+//! tight box's program there is, of the run or of anyone else: with flipped columns turned back,
+//! and what the box fixes as the box leaves it, it is a point of the relaxation, so it keeps all
+//! rows of the by-time program (`program_points_are_points`, `point`), and it costs as much
+//! (`cost`).
 //!
 //! Memory: 4 bytes for each variable that the tight root box leaves free, 25 for each column, and
 //! what the program takes: 16 bytes for each factor and some 40 for each row; lists take up to
