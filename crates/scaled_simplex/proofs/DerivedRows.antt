@@ -6,7 +6,7 @@ use Rattle.row_arena.specs.Combining.{cleared}
 use Rattle.row_arena.specs.Rows.{entry_at, negated}
 use Rattle.scaled_simplex.specs.Derived.{AreSolved, IsDerived, row_with}
 use Rattle.scaled_simplex.specs.declared.turn.Turn.TheVariants.{Pivots}
-use Rattle.scaled_simplex.specs.LastTableau.{IsReached, tableau_next, tableau_pivoted, tableau_turned}
+use Rattle.scaled_simplex.specs.LastTableau.{tableau_next, tableau_pivoted, tableau_turned}
 use Rattle.scaled_simplex.specs.Program.{IsProblem, Problem}
 use Rattle.scaled_simplex.specs.Run.{entering, leaving, pivoted, turn_entering, turn_leaving, turn_of}
 use Rattle.scaled_simplex.specs.Tableau.{Tableau, first_tableau, weight_index}

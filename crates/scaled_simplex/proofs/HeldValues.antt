@@ -5,7 +5,7 @@ use Rattle.row_arena.specs.declared.entry.Entry.{Entry}
 use Rattle.row_arena.specs.Rows.{entry_at, value_in}
 use Rattle.scaled_simplex.specs.Derived.{row_with}
 use Rattle.scaled_simplex.proofs.EntryLaws.{Tells, value_other}
-use Rattle.scaled_simplex.proofs.Products.{above_times, linear, low_back, low_times, times_assoc, times_comm, times_sum, times_zero, zero_times}
+use Rattle.scaled_simplex.proofs.Products.{above_times, linear, low_back, low_times, times_moved, times_sum, times_zero, zero_times}
 
 last_or : (k n : ℕ) → k < suc n → (k < n) ⊎ (k ≡ n)
 last_or k n small = grind arith
@@ -17,7 +17,7 @@ held basis share (suc k) =
     record { column = slice_index basis k; value = share k } ∷ held basis share k
 
 module _ (basis : List ℕ) where
-  abbrev one_held : (ℕ → ℤ) → ℕ → Entry
+  abbrev pub one_held : (ℕ → ℤ) → ℕ → Entry
   one_held share k = record { column = slice_index basis k; value = share k }
 
   -- a row that has no entry at them
@@ -127,10 +127,6 @@ module _ (entry right : ℕ → ℤ) where
   has_shares (suc k) above =
       more (has_shares k (λ j small. above j (omega (arith, small))))
     where
-      swapped : (a b c : ℤ) → a *ℤ (b *ℤ c) ≡ b *ℤ (a *ℤ c)
-      swapped a b c =
-          sym (times_assoc a b c) ∙ ap (λ n. n *ℤ c) (times_comm a b) ∙ times_assoc b a c
-
       more : HasShares k → HasShares (suc k)
       more has = (
         one_more k has.0 has.1,
@@ -147,15 +143,15 @@ module _ (entry right : ℕ → ℤ) where
               ap (λ (b : Bool). entry j *ℤ (if b then right k *ℤ has.1 else entry k *ℤ has.0 j))
               same.0
               ∙ ap (λ n. entry n *ℤ (right k *ℤ has.1)) same.1
-              ∙ swapped (entry k) (right k) has.1
+              ∙ times_moved (entry k) (right k) has.1
               ∙ ap (λ n. right n *ℤ (entry k *ℤ has.1)) (sym same.1)
           by j (inr other) (inr same) = absurd (other.1 same)
           by j (inr other) (inl before) =
               ap (λ (b : Bool). entry j *ℤ (if b then right k *ℤ has.1 else entry k *ℤ has.0 j))
               other.0
-              ∙ swapped (entry j) (entry k) (has.0 j)
+              ∙ times_moved (entry j) (entry k) (has.0 j)
               ∙ ap (λ n. entry k *ℤ n) (has.2.each j before)
-              ∙ swapped (entry k) (right j) has.1
+              ∙ times_moved (entry k) (right j) has.1
 
   -- and none of them is below 0
   pub shares_low : (count : ℕ) (share : ℕ → ℤ) (denominator : ℤ)

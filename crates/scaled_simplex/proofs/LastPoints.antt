@@ -1,20 +1,26 @@
--- After Optimal there is a point that costs the run's value.
-use Rattle.std.proofs.Common.{◌≡◌, ℕ, ◌<◌, false, All, length, slice_index, Option, None, Some, pos, ◌<ℤ◌, sym, ap, subst, arith}
+-- After Optimal there is a point that costs the run's value; the point in numbers is one.
+use Rattle.std.proofs.Common.{◌≡◌, ℕ, ◌<◌, All, length, slice_index, slice_index_or, Option, None, Some, Result, Ok, Err, IfOk, ℤ, pos, ◌<ℤ◌, sym, ap, subst, arith}
+use Rattle.flow_types.specs.declared.memory.OutOfMemory.{OutOfMemory}
 use Rattle.row_arena.specs.Arena.{row_at}
 use Rattle.scaled_simplex.specs.declared.board.Board.{Board}
 use Rattle.scaled_simplex.specs.declared.end.End.{End}
 use Rattle.scaled_simplex.specs.declared.end.End.TheVariants.{Optimal}
+use Rattle.scaled_simplex.specs.declared.fractions.Fractions.{Fractions}
+use Rattle.scaled_simplex.specs.declared.fractions.Fractions.TheVariants.{Point, TooWide}
 use Rattle.scaled_simplex.specs.declared.told.Told.{Told}
 use Rattle.scaled_simplex.specs.Board.{IsBasic}
 use Rattle.scaled_simplex.specs.BoardOf.{tableau_of}
 use Rattle.scaled_simplex.specs.Derived.{IsDerived, IsLast}
-use Rattle.scaled_simplex.specs.LastPoint.{HasPoint}
+use Rattle.scaled_simplex.specs.Fractions.{AreFractions, AreWorth}
+use Rattle.scaled_simplex.specs.LastPoint.{HasPoint, IsWorth}
 use Rattle.scaled_simplex.specs.Program.{IsProblem, Problem}
-use Rattle.scaled_simplex.specs.Run.{cost_at, is_infeasible, last_row, leaving, right_at, weight_in}
+use Rattle.scaled_simplex.specs.Run.{Outcome, cost_at, is_infeasible, last_row, leaving, right_at, weight_in}
 use Rattle.scaled_simplex.specs.Solving.{IsRan, outcome_in}
 use Rattle.scaled_simplex.specs.Tableau.{Tableau, right_side, weight_index}
 use Rattle.scaled_simplex.proofs.Choices.{none_leaves}
-use Rattle.scaled_simplex.proofs.HeldValues.{HasShares, has_shares, shares_low}
+use Rattle.scaled_simplex.proofs.HeldQuotients.{values_scaled}
+use Rattle.scaled_simplex.proofs.HeldValues.{AreShares, has_shares, shares_low}
+use Rattle.scaled_simplex.proofs.PointScales.{worth_scaled}
 use Rattle.scaled_simplex.proofs.SolvedRows.{entry_of, numerator_of, point_is, point_worth}
 use Rattle.scaled_simplex.proofs.SolverFacts.{weight_above}
 
@@ -28,47 +34,106 @@ module _ (problem : Problem) (valid : IsProblem problem) (tableau : Tableau)
       → slice_index tableau.basis k < right_side problem
   inside k small = indices k 0 (omega (arith, basis_count, small))
 
+  abbrev ended : End → Outcome
+  ended end = record { end = end; row = last_row problem tableau }
+
+  abbrev AreHeld : (ℕ → ℤ) → ℤ → Type 0
+  AreHeld share denominator =
+      AreShares (entry_of tableau) (right_at problem tableau) (length problem.constraints) share
+      denominator
+
+  has : (share : ℕ → ℤ) × (denominator : ℤ) × AreHeld share denominator
+  has = has_shares (entry_of tableau) (right_at problem tableau) (length problem.constraints)
+      basic.own
+
   -- of a tableau in which no right side is negative
-  pub tableau_point : (end : End)
-      → HasPoint problem (record { end = end; row = last_row problem tableau })
-  tableau_point end =
-      made (has_shares (entry_of tableau) (right_at problem tableau) (length problem.constraints)
-      basic.own)
+  held_worth : (end : End) (share : ℕ → ℤ) (denominator : ℤ) → AreHeld share denominator
+      → IsWorth problem (ended end) (numerator_of problem tableau share) denominator
+  held_worth end share denominator are =
+      let low = shares_low (entry_of tableau) (right_at problem tableau)
+      (length problem.constraints) share denominator are basic.own
+      (none_leaves problem tableau none) in
+      record {
+        point = point_is problem tableau share denominator cells basic derived are valid positive
+            inside low;
+        worth = point_worth problem tableau share denominator cells basic derived are valid
+            positive inside low;
+      }
+
+  pub tableau_point : (end : End) → HasPoint problem (ended end)
+  tableau_point end = made has
     where
-      made : HasShares (entry_of tableau) (right_at problem tableau) (length problem.constraints)
-          → HasPoint problem (record { end = end; row = last_row problem tableau })
-      made has =
-          let low = shares_low (entry_of tableau) (right_at problem tableau)
-          (length problem.constraints) has.0 has.1 has.2 basic.own
-          (none_leaves problem tableau none) in
-          record {
-            numerator = numerator_of problem tableau has.0;
-            denominator = has.1;
-            is = record {
-              point = point_is problem tableau has.0 has.1 cells basic derived has.2 valid positive
-                  inside low;
-              worth = point_worth problem tableau has.0 has.1 cells basic derived has.2 valid
-                  positive inside low;
-            };
-          }
+      made : (share : ℕ → ℤ) × (denominator : ℤ) × AreHeld share denominator
+          → HasPoint problem (ended end)
+      made held = record {
+        numerator = numerator_of problem tableau held.0;
+        denominator = held.1;
+        is = held_worth end held.0 held.1 held.2;
+      }
 
-module _ (problem : Problem) where
-  isnt_infeasible : (end : End) → end ≡ Optimal → is_infeasible end ≡ false
-  isnt_infeasible end is = ap is_infeasible is
+  -- the point in numbers
+  pub tableau_worth : (end : End) (fractions : Fractions)
+      → AreFractions problem tableau fractions → AreWorth problem (ended end) fractions
+  tableau_worth end (TooWide count multiple) are = tt
+  tableau_worth end (Point numerators denominator) are = made has
+    where
+      made : (share : ℕ → ℤ) × (e : ℤ) × AreHeld share e
+          → AreWorth problem (ended end) (Point numerators denominator)
+      made held =
+          worth_scaled problem valid denominator held.1
+          (λ column. slice_index_or numerators column (pos 0))
+          (numerator_of problem tableau held.0) are.positive
+          (λ k small. values_scaled problem tableau basic held.0 held.1 held.2 k denominator
+          (slice_index_or numerators k (pos 0)) (are.are.each k small))
+          (ended end) (held_worth end held.0 held.1 held.2)
 
-  -- of a run that ended so
-  pub ran_point : (board : Option Board) (told : Told) → IsRan problem board told
-      → told.end ≡ Optimal → HasPoint problem (outcome_in problem board told)
-  ran_point None told is optimal = absurd (is.last optimal)
-  ran_point (Some board) told is optimal =
-      let ended = is.last optimal in
-      let last : IsLast problem board = ended.0 in
-      let above : pos 0 <ℤ weight_in problem (outcome_in problem (Some board) told) =
-      weight_above problem (outcome_in problem (Some board) told) is.told_is
-      (isnt_infeasible told.end optimal) in
-      subst (λ n. HasPoint problem (record { end = told.end; row = row_at board.arena.rows n }))
-      (sym ended.1)
-      (tableau_point problem is.valid (tableau_of board) last.board_is.basis last.board_is.indices
-      last.basic board.arena.cells last.derived last.none
-      (subst (λ n. pos 0 <ℤ weight_in problem
-      (record { end = told.end; row = row_at board.arena.rows n })) ended.1 above) told.end)
+module _ (problem : Problem) (board : Board) (told : Told)
+    (is : IsRan problem (Some board) told) (optimal : told.end ≡ Optimal) where
+  last : IsLast problem board
+  last = (is.last optimal).0
+
+  -- the row that tells is the cost row
+  by_costs : (P : Outcome → Type 0)
+      → P (record { end = told.end; row = last_row problem (tableau_of board) })
+      → P (outcome_in problem (Some board) told)
+  by_costs P holds =
+      subst (λ n. P (record { end = told.end; row = row_at board.arena.rows n }))
+      (sym (is.last optimal).1) holds
+
+  above : pos 0 <ℤ cost_at problem (tableau_of board) (weight_index problem)
+  above =
+      subst (λ n. pos 0 <ℤ weight_in problem
+      (record { end = told.end; row = row_at board.arena.rows n })) (is.last optimal).1
+      (weight_above problem (outcome_in problem (Some board) told) is.told_is
+      (ap is_infeasible optimal))
+
+  board_point : HasPoint problem (outcome_in problem (Some board) told)
+  board_point =
+      by_costs (HasPoint problem)
+      (tableau_point problem is.valid (tableau_of board) last.board_is.basis
+      last.board_is.indices last.basic board.arena.cells last.derived last.none above told.end)
+
+  board_worth : (fractions : Fractions) → AreFractions problem (tableau_of board) fractions
+      → AreWorth problem (outcome_in problem (Some board) told) fractions
+  board_worth fractions are =
+      by_costs (λ outcome. AreWorth problem outcome fractions)
+      (tableau_worth problem is.valid (tableau_of board) last.board_is.basis
+      last.board_is.indices last.basic board.arena.cells last.derived last.none above told.end
+      fractions are)
+
+-- of a run that ended so
+pub ran_point : (problem : Problem) (board : Option Board) (told : Told)
+    → IsRan problem board told → told.end ≡ Optimal
+    → HasPoint problem (outcome_in problem board told)
+ran_point problem None told is optimal = absurd (is.last optimal)
+ran_point problem (Some board) told is optimal = board_point problem board told is optimal
+
+pub ran_worth : (problem : Problem) (held : Option Board) (told : Told) (board : Board)
+    (result : Result Fractions OutOfMemory) → held ≡ Some board → IsRan problem held told
+    → told.end ≡ Optimal → IfOk result (AreFractions problem (tableau_of board))
+    → IfOk result (AreWorth problem (outcome_in problem held told))
+ran_worth problem held told board (Err fault) there is optimal are = tt
+ran_worth problem held told board (Ok fractions) there is optimal are =
+    subst (λ h. AreWorth problem (outcome_in problem h told) fractions) (sym there)
+    (board_worth problem board told (subst (λ h. IsRan problem h told) there is) optimal fractions
+    are)

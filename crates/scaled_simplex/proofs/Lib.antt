@@ -4,6 +4,7 @@ pub mod Checks
 pub mod Choices
 pub mod ClearedRows
 pub mod ConstraintRows
+pub mod CommonFacts
 pub mod DerivedRows
 pub mod EntryLaws
 pub mod FirstBoardFacts
@@ -11,13 +12,18 @@ pub mod FirstRows
 pub mod FirstTableau
 pub mod FoundFacts
 pub mod Lawful
+pub mod HeldQuotients
 pub mod HeldValues
 pub mod LastPoints
+pub mod LastTableaus
 pub mod LeavingFacts
 pub mod ListFacts
 pub mod ListedFacts
+pub mod MultipleFacts
+pub mod PointScales
 pub mod Products
 pub mod ProgramFacts
+pub mod QuotientFacts
 pub mod RatioFacts
 pub mod RowValues
 pub mod RunLaw

@@ -72,6 +72,10 @@ times_assoc a b c =
     omega (arith, left, right, five, six, seven, eight) in
     same_in _ _ (omega (arith, ups, downs))
 
+pub times_moved : (a b c : ℤ) → a *ℤ (b *ℤ c) ≡ b *ℤ (a *ℤ c)
+times_moved a b c =
+    sym (times_assoc a b c) ∙ ap (λ n. n *ℤ c) (times_comm a b) ∙ times_assoc b a c
+
 -- signs
 pub zero_times : (a : ℤ) → pos 0 *ℤ a ≡ pos 0
 zero_times a = omega (arith, ints)
@@ -124,6 +128,12 @@ zero_back (pos (suc a)) (pos zero) low is = refl
 zero_back (pos (suc a)) (pos (suc b)) low is = absurd (omega (arith, ints, is))
 zero_back (pos (suc a)) (negsuc b) low is = absurd (omega (arith, ints, is))
 zero_back (negsuc a) b low is = absurd (omega (arith, ints, low))
+
+pub same_back : (a b c : ℤ) → pos 0 <ℤ a → a *ℤ b ≡ a *ℤ c → b ≡ c
+same_back a b c above same =
+    let apart = times_less a b c in
+    let none = zero_back a (b -ℤ c) above (omega (arith, linear, apart, same)) in
+    omega (arith, linear, none)
 
 -- which of two ratios is less: the number below each is above 0
 swapped : (a b c : ℤ) → a *ℤ (b *ℤ c) ≡ c *ℤ (b *ℤ a)

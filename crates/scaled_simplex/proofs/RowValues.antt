@@ -13,7 +13,7 @@ use Rattle.scaled_simplex.specs.Points.{terms_at}
 use Rattle.scaled_simplex.specs.Tableau.{one_at}
 use Rattle.scaled_simplex.proofs.Checks.{factor_combined}
 use Rattle.scaled_simplex.proofs.EntryLaws.{Tells, cleared_by, entry_cleared, entry_negated, value_other, value_same}
-use Rattle.scaled_simplex.proofs.Products.{linear, neg_times, one_times, sum_times, times_assoc, times_comm, times_sum, times_zero, zero_times}
+use Rattle.scaled_simplex.proofs.Products.{linear, neg_times, one_times, sum_times, times_moved, times_sum, times_zero, zero_times}
 
 -- a row that is, so often, one row so often less another so often
 pub with_combined : (d p a : ℤ) (first second row : List Entry)
@@ -120,12 +120,8 @@ terms_times weight f g n [] within each = sym (times_zero weight)
 terms_times weight f g n (term ∷ terms) within each =
     let small : term.column < n = All-head (λ term. term.column < n) term terms within in
     let here = ap (λ x. term.value *ℤ x) (each term.column small)
-    ∙ swapped term.value weight (f term.column) in
+    ∙ times_moved term.value weight (f term.column) in
     let more = terms_times weight f g n terms
     (All-tail (λ term. term.column < n) term terms within) each in
     let both = times_sum weight (term.value *ℤ f term.column) (terms_at terms f) in
     omega (arith, linear, here, more, both)
-  where
-    swapped : (a b c : ℤ) → a *ℤ (b *ℤ c) ≡ b *ℤ (a *ℤ c)
-    swapped a b c =
-        sym (times_assoc a b c) ∙ ap (λ n. n *ℤ c) (times_comm a b) ∙ times_assoc b a c

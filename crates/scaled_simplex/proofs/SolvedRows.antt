@@ -1,6 +1,6 @@
 -- With the right side of each row divided by its entry at the index that it stands for, and all
--- other indices at 0, each row of the last tableau is solved, and so each row of the first one: that
--- of a constraint says that the constraint is kept, and the cost row what the point costs.
+-- other indices at 0, each row of the last tableau is solved, and so is each row of the first one:
+-- that of a constraint says that the constraint is kept, and the cost row what the point costs.
 use Rattle.std.proofs.Common.{◌≡◌, ◌⊎◌, inl, inr, ℕ, suc, ◌+◌, ◌<◌, ◌≤◌, List, [], ◌∷◌, ◌++◌, length, slice_get, slice_index, slice_index_or, Some, ℤ, pos, neg_ℤ, ◌+ℤ◌, ◌-ℤ◌, ◌*ℤ◌, ◌≤ℤ◌, ◌<ℤ◌, refl, sym, ap, ◌∙◌, subst, arith}
 use Rattle.std.proofs.lemmas.Option.{get_or_from_slice_get}
 use Rattle.exact_sums.proofs.SumFacts.{total-append}
@@ -16,7 +16,7 @@ use Rattle.scaled_simplex.specs.Tableau.{Tableau, bare_row, constraint_row, cost
 use Rattle.scaled_simplex.proofs.EntryLaws.{entry_append, value_other, value_same}
 use Rattle.scaled_simplex.proofs.FirstTableau.{last_is, row_is, there, valid_at}
 use Rattle.scaled_simplex.proofs.HeldValues.{AreShares, held, held_low, held_none, held_one, held_past, held_times}
-use Rattle.scaled_simplex.proofs.Products.{linear, neg_times, times_assoc, times_comm, times_less, times_neg, times_sum, times_zero, zero_back, zero_times}
+use Rattle.scaled_simplex.proofs.Products.{linear, neg_times, times_comm, times_less, times_moved, times_neg, times_sum, times_zero, zero_back, zero_times}
 use Rattle.scaled_simplex.proofs.RowValues.{terms_append, terms_one, terms_times, terms_unless, with_across}
 
 -- what the columns cost is what the cost row has of them, turned round
@@ -47,15 +47,11 @@ module _ (f : ℕ → ℤ) where
   costs_times weight g [] from each = sym (times_zero weight)
   costs_times weight g (c ∷ costs) from each =
       let here = ap (λ n. c *ℤ n) (each from (omega arith) (omega arith))
-      ∙ swapped c weight (f from) in
+      ∙ times_moved c weight (f from) in
       let more = costs_times weight g costs (from + 1)
       (λ i since below. each i (omega (arith, since)) (omega (arith, below))) in
       let both = times_sum weight (c *ℤ f from) (costs_at f (from + 1) costs) in
       omega (arith, linear, here, more, both)
-    where
-      swapped : (a b c : ℤ) → a *ℤ (b *ℤ c) ≡ b *ℤ (a *ℤ c)
-      swapped a b c =
-          sym (times_assoc a b c) ∙ ap (λ n. n *ℤ c) (times_comm a b) ∙ times_assoc b a c
 
 -- what a row has at the index that it stands for
 abbrev pub entry_of : Tableau → ℕ → ℤ
@@ -95,10 +91,6 @@ module _ (problem : Problem) (tableau : Tableau) (share : ℕ → ℤ) (denomina
       (held tableau.basis (λ k. weight *ℤ share k) (length problem.constraints)) paid in
       omega (arith, linear, both)
 
-  swapped : (a b c : ℤ) → a *ℤ (b *ℤ c) ≡ b *ℤ (a *ℤ c)
-  swapped a b c =
-      sym (times_assoc a b c) ∙ ap (λ n. n *ℤ c) (times_comm a b) ∙ times_assoc b a c
-
   module _ (cells : ℕ) (basic : IsBasic problem tableau)
       (derived : IsDerived problem cells tableau)
       (are : AreShares (entry_of tableau) (right_at problem tableau)
@@ -112,8 +104,8 @@ module _ (problem : Problem) (tableau : Tableau) (share : ℕ → ℤ) (denomina
         let own = held_one tableau.basis (λ k. weight *ℤ share k) row k
         (length problem.constraints) small
         (λ i below other. basic.apart i k below (omega (arith, small)) (λ e. other (sym e))) in
-        let once = swapped (entry_of tableau k) weight (share k)
-        ∙ ap (λ n. weight *ℤ n) (are.each k small) ∙ swapped weight right denominator in
+        let once = times_moved (entry_of tableau k) weight (share k)
+        ∙ ap (λ n. weight *ℤ n) (are.each k small) ∙ times_moved weight right denominator in
         let turned = times_neg right (weight *ℤ denominator) in
         let none = ap (λ n. n *ℤ (denominator *ℤ value)) (derived.weightless k small) in
         let zero_none = zero_times (denominator *ℤ value) in
@@ -127,7 +119,7 @@ module _ (problem : Problem) (tableau : Tableau) (share : ℕ → ℤ) (denomina
         (λ j small. basic.apart j (length problem.constraints) small (omega arith)
         (λ e. omega (arith, e, small))) in
         let turned = times_neg value (weight *ℤ denominator) in
-        let same = swapped value weight denominator
+        let same = times_moved value weight denominator
         ∙ ap (λ n. weight *ℤ n) (times_comm value denominator) in
         omega (arith, linear, all, none, turned, same)
 
@@ -218,7 +210,7 @@ module _ (problem : Problem) (tableau : Tableau) (share : ℕ → ℤ) (denomina
           let left = at_below (columns problem + k) (omega (arith, small)) in
           let right = ap (λ n. c.limit *ℤ n) at_right in
           let turned = times_neg c.limit (weight *ℤ denominator) in
-          let moved = swapped c.limit weight denominator in
+          let moved = times_moved c.limit weight denominator in
           let least = numerator_low (columns problem + k) in
           let used = terms_at c.terms numerator +ℤ numerator (columns problem + k) in
           let one = times_less weight (c.limit *ℤ denominator) used in
@@ -274,7 +266,7 @@ module _ (problem : Problem) (tableau : Tableau) (share : ℕ → ℤ) (denomina
           let last = terms_one solution (weight_index problem) in
           let right = ap (λ n. problem.constant *ℤ n) at_right in
           let turned = times_neg problem.constant (weight *ℤ denominator) in
-          let moved = swapped problem.constant weight denominator in
+          let moved = times_moved problem.constant weight denominator in
           let own = at_weight in
           let whole = times_comm (point_cost problem numerator denominator) weight in
           let both = times_sum weight (problem.constant *ℤ denominator)

@@ -1,7 +1,6 @@
 -- The point of a run that ended Optimal, in numbers. A column that a row stands for has that row's
 -- right side, divided by the row's entry in the column; every other column has 0.
-use Rattle.std.specs.Prelude.{◌≡◌, ℕ, zero, suc, ◌+◌, ◌*◌, ◌^◌, ◌<◌, ◌≤◌, ◌==◌, List, length, slice_index, slice_index_or, Option, None, Some, if◌then◌else◌, ℤ, pos, nat_abs, ◌*ℤ◌, ◌<ℤ◌}
-use Prim.Native.Nat.{◌∣◌}
+use Rattle.std.specs.Prelude.{◌≡◌, ℕ, zero, suc, ◌*◌, ◌%◌, ◌^◌, ◌<◌, ◌≤◌, ◌==◌, List, length, slice_index, slice_index_or, Option, None, Some, if◌then◌else◌, ℤ, pos, nat_abs, ◌*ℤ◌, ◌<ℤ◌}
 use Rattle.row_arena.specs.Arena.{row_at}
 use Rattle.row_arena.specs.Rows.{entry_at, most_entry}
 use Rattle.scaled_simplex.specs.declared.fractions.Fractions.{Fractions}
@@ -43,7 +42,7 @@ module _ (problem : Problem) (tableau : Tableau) where
 
   -- so often, the value of a column is whole
   abbrev pub IsWhole : ℕ → ℕ → Type 0
-  IsWhole column times = nat_abs (bottom_at column) ∣ (nat_abs (top_at column) * times)
+  IsWhole column times = (nat_abs (top_at column) * times) % nat_abs (bottom_at column) ≡ 0
 
   -- The least number by which the values of the first so many columns are whole; each other such
   -- number is a multiple of it. So it is the least common multiple of their denominators in lowest
@@ -52,7 +51,12 @@ module _ (problem : Problem) (tableau : Tableau) where
     pub positive : 0 < multiple
     pub whole : (column : ℕ) → column < count → IsWhole column multiple
     pub least : (times : ℕ) → ((column : ℕ) → column < count → IsWhole column times)
-        → multiple ∣ times
+        → times % multiple ≡ 0
+
+  -- the values of the columns over a denominator
+  pub record AreNumerators (denominator : ℤ) (numerators : List ℤ) : Type 0 where
+    pub each : (column : ℕ) → column < columns problem
+        → IsValueAt column (slice_index_or numerators column (pos 0)) denominator
 
   -- a numerator for each column, over that number of all columns
   pub record ArePoint (numerators : List ℤ) (denominator : ℤ) : Type 0 where
@@ -60,8 +64,7 @@ module _ (problem : Problem) (tableau : Tableau) where
     pub near : nat_abs denominator ≤ most_entry
     pub multiple : IsMultiple (columns problem) (nat_abs denominator)
     pub count : length numerators ≡ columns problem
-    pub each : (column : ℕ) → column < columns problem
-        → IsValueAt column (slice_index_or numerators column (pos 0)) denominator
+    pub are : AreNumerators denominator numerators
 
   -- the fewest first columns whose number is too far from 0, and that number
   pub record AreTooWide (count : ℕ) (multiple : ℤ) : Type 0 where

@@ -1,5 +1,5 @@
--- The last tableau of a run that ended Optimal: that in which no row leaves. It hangs on the program
--- alone; pivots and room only say how far a run comes, and a cutoff whether it stops before.
+-- The last tableau of a run that ended Optimal: that in which no row leaves. It hangs on the
+-- program alone; pivots and room say how far a run comes, and a cutoff whether it stops before.
 use Rattle.std.specs.Prelude.{◌≡◌, ℕ, zero, suc, List, set, Option, None, Some, Result, Ok, Err}
 use Rattle.row_arena.specs.declared.entry.Entry.{Entry}
 use Rattle.row_arena.specs.declared.wide.Wide.{Wide}

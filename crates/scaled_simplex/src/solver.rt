@@ -7,6 +7,7 @@ ghost use Rattle.scaled_simplex.specs.Tableau.{bare_row};
 use crate::board::Board;
 use crate::end::End;
 use crate::first::first_board;
+use crate::fractions::{Fractions, fractions_of};
 use crate::program::Program;
 use crate::steps::run_from;
 use crate::told::Told;
@@ -80,8 +81,8 @@ impl<'a> Solver<'a> {
         })
     }
 
-    /// Runs with so many pivots at the most, until the value, rounded up, is at least the cutoff; so
-    /// after Optimal it is less.
+    /// Runs with so many pivots at the most, until the value, rounded up, is at least the cutoff.
+    /// So after Optimal it is less.
     pub fn run(self, pivots: u64, cutoff: Option<i64>) -> Result<Run<'a>, OutOfMemory>
         ensures run { IfOk result (λ run. run ≡ record {
           problem = self.entry.problem;
@@ -137,6 +138,7 @@ pub struct Value {
 impl<'a> Run<'a> {
     ghost use Rattle.std.specs.Prelude.{◌≡◌, ◌<◌, ◌≤◌, ◌<ℤ◌, ◌++◌, ◌∷◌, [], All, IfOk, OnOk, false, length, nat_abs, pos};
     ghost use Rattle.row_arena.specs.Rows.{entry_at, most_entry};
+    ghost use Rattle.scaled_simplex.specs.Fractions.{AreLast, AreWorth};
     ghost use Rattle.scaled_simplex.specs.LastPoint.{HasPoint};
     ghost use Rattle.scaled_simplex.specs.Multipliers.{IsTold, multipliers_of};
     ghost use Rattle.scaled_simplex.specs.Program.{IsProblem};
@@ -212,6 +214,23 @@ impl<'a> Run<'a> {
         Value {
             numerator: self.entry(self.program.right_side()),
             denominator: self.entry(self.program.weight_index()),
+        }
+    }
+
+    /// The point of the last tableau, which keeps the program and costs the value. A column that a
+    /// row stands for has that row's right side divided by its entry there, every other column 0.
+    /// It is given over the least common multiple of the columns' denominators in lowest terms; or,
+    /// where that passes `MOST_ENTRY`, it is told for how many first columns it does. It takes 16
+    /// bytes for each column, and for each the time of a greatest common divisor.
+    #[tactic(auto, using(crate::proofs::LastPoints::ran_worth))]
+    pub fn point(&self, alloc: Global) -> Result<Fractions, OutOfMemory>
+        requires { self.now.outcome.end ≡ Optimal }
+        ensures fractions { IfOk result (AreLast self.now.problem self.now.outcome) }
+        ensures worth { IfOk result (AreWorth self.now.problem self.now.outcome) }
+    {
+        match &self.board {
+            None => unreachable!(),
+            Some(board) => fractions_of(alloc, board, self.program),
         }
     }
 
