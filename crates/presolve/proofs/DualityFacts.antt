@@ -1,7 +1,7 @@
 -- Weak duality: what multipliers tell of a program is no more than what columns of 0 or more cost,
--- with what each constraint is exceeded, as often as its multiplier says. The columns are numerators
--- over one denominator.
-use Rattle.std.proofs.Common.{◌≡◌, ℕ, suc, ◌+◌, ◌<◌, List, [], ◌∷◌, length, slice_index_or, All, ℤ, pos, ◌+ℤ◌, ◌-ℤ◌, ◌*ℤ◌, ◌≤ℤ◌, refl, sym, ap, ◌∙◌, subst, arith}
+-- with what each constraint is exceeded, as often as its multiplier says. The columns are
+-- numerators over one denominator.
+use Rattle.std.proofs.Common.{◌≡◌, ℕ, suc, ◌+◌, ◌<◌, List, [], ◌∷◌, length, slice_get, slice_index_or, Some, All, ℤ, pos, ◌+ℤ◌, ◌-ℤ◌, ◌*ℤ◌, ◌≤ℤ◌, refl, sym, ap, ap₂, ◌∙◌, subst, arith}
 use Rattle.std.proofs.lemmas.List.Elements.{All-tail}
 use Rattle.std.proofs.lemmas.Option.{get_or_from_slice_get}
 use Rattle.std.specs.List.{range_with_len}
@@ -15,32 +15,6 @@ use Rattle.scaled_simplex.specs.Program.{Constraint, Problem, columns}
 use Rattle.scaled_simplex.proofs.EntryLaws.{value_other, value_same}
 use Rattle.scaled_simplex.proofs.Products.{less_times, linear, low_times, sum_times, times_assoc, times_less, times_sum, zero_times}
 use Rattle.presolve.proofs.SumLaws.{range_low, range_one, total_same, total_times, total_zero}
-
-module _ (numerator : ℕ → ℤ) where
-  costs_from : (all : List ℤ) (from : ℕ) (costs : List ℤ)
-      → ((i : ℕ) → i < length costs
-      → slice_index_or all (from + i) (pos 0) ≡ slice_index_or costs i (pos 0))
-      → costs_at numerator from costs
-      ≡ total (λ k. slice_index_or all k (pos 0) *ℤ numerator k)
-      (range_with_len from (length costs))
-  costs_from all from [] same = refl
-  costs_from all from (cost ∷ costs) same =
-      let here = same 0 (omega arith) in
-      let at : from + 0 ≡ from = omega arith in
-      let first = ap (λ n. n *ℤ numerator from)
-      (sym (ap (λ k. slice_index_or all k (pos 0)) at) ∙ here) in
-      let rest = costs_from all (from + 1) costs (λ i within.
-      let next : from + 1 + i ≡ from + suc i = omega arith in
-      ap (λ k. slice_index_or all k (pos 0)) next ∙ same (suc i) (omega (arith, within))) in
-      omega (arith, linear, first, rest)
-
-  -- what the columns cost, column by column
-  pub costs_by_column : (costs : List ℤ) → costs_at numerator 0 costs
-      ≡ total (λ k. slice_index_or costs k (pos 0) *ℤ numerator k)
-      (range_with_len 0 (length costs))
-  costs_by_column costs =
-      costs_from costs 0 costs (λ i within.
-      let same : 0 + i ≡ i = omega arith in ap (λ k. slice_index_or costs k (pos 0)) same)
 
 module _ (numerator : ℕ → ℤ) (denominator : ℤ) where
   -- how far a constraint is above its limit
@@ -173,13 +147,13 @@ module _ (numerator : ℕ → ℤ) (denominator : ℤ) where
       subst (λ n. pos 0 ≤ℤ n) (joined j)
       (low_times ((weight *ℤ cost j) +ℤ weighted_at multipliers problem.constraints j) (numerator j)
       (are.columns j (omega (arith, before))) (least j))) in
-      let paid_is = ap (λ n. weight *ℤ n) (ap (λ n. (problem.constant *ℤ denominator) +ℤ n)
-      (costs_by_column numerator problem.costs)) in
-      let sum = times_sum weight (problem.constant *ℤ denominator) costs in
+      let scaled = ap (λ n. weight *ℤ n) costs in
+      let sum = times_sum weight (problem.constant *ℤ denominator)
+      (costs_at numerator 0 problem.costs) in
       let constant = times_assoc weight problem.constant denominator in
       let worth = ap (λ n. n *ℤ denominator) are.worth in
       let parts = less_times (weight *ℤ problem.constant) limits denominator in
-      omega (arith, linear, times, left, less, both, low, paid_is, sum, constant, worth, parts)
+      omega (arith, linear, times, scaled, left, less, both, low, sum, constant, worth, parts)
     where
       joined : (j : ℕ)
           → ((weight *ℤ slice_index_or problem.costs j (pos 0))

@@ -12,6 +12,7 @@ use Rattle.flow_types.specs.declared.flight.Flight.{Flight}
 use Rattle.flow_types.specs.declared.parts.Parts.{Parts}
 use Rattle.flow_types.specs.Valid.{IsScenario}
 use Rattle.scaled_simplex.specs.Points.{point_cost}
+use Rattle.scaled_simplex.specs.Program.{columns}
 use Rattle.scaled_simplex.proofs.Products.{less_times, linear, sum_times}
 use Rattle.time_windows.specs.Boxes.{Box, IsBoxOf}
 use Rattle.time_windows.specs.Tight.{IsTight}
@@ -33,7 +34,7 @@ use Rattle.presolve.specs.Landed.{coefficient_of, fixed_of}
 use Rattle.presolve.specs.Points.{AgreesOver, form_at, relaxation_cost, turned}
 use Rattle.presolve.specs.Relaxed.{cost_in, flipped_of, kept_row, program_of, row_in}
 use Rattle.presolve.specs.Variables.{columns_of}
-use Rattle.presolve.proofs.DualityFacts.{costs_by_column, over}
+use Rattle.presolve.proofs.DualityFacts.{costs_in_range, over}
 use Rattle.presolve.proofs.FlipFacts.{IsPointAt, flip_over, one_cost, row_value, unflipped}
 use Rattle.presolve.proofs.LandedFacts.{landed_value}
 use Rattle.presolve.proofs.SumLaws.{range_items, total_less}
@@ -158,7 +159,7 @@ module _ (parts : Parts) (scenario : IsScenario parts) (box : Box) (made : IsBox
       let low = total (λ column. int_min (pos 0) (cost_in parts box column)) all_columns in
       let paid : ℕ → ℤ = λ k. slice_index_or (program_of parts box).costs k (pos 0)
       *ℤ numerator k in
-      let by_column = costs_by_column numerator (program_of parts box).costs in
+      let all = costs_in_range numerator denominator (program_of parts box).costs in
       let many = ap (λ n. total paid (range_with_len 0 n)) (length-map all_columns
       (λ column. pos (unsigned_abs (cost_in parts box column)))) in
       let costs = range_items paid
@@ -170,4 +171,4 @@ module _ (parts : Parts) (scenario : IsScenario parts) (box : Box) (made : IsBox
       (cost_row parts).terms (cost_there parts) in
       let both = sum_times (constant +ℤ fixed) low denominator in
       let first = sum_times constant fixed denominator in
-      omega (arith, linear, by_column, many, costs, less, landed, both, first)
+      omega (arith, linear, all, many, costs, less, landed, both, first)

@@ -1,7 +1,6 @@
 -- Points of a tight box's program are points of the relaxation, and cost as much.
-use Rattle.std.proofs.Common.{◌≡◌, ℕ, zero, suc, ◌+◌, ◌<◌, Bool, true, false, List, [], ◌∷◌, ◌++◌, length, map, slice_get, slice_index_or, Option, None, Some, if◌then◌else◌, All, int_lt, unsigned_abs, ℤ, pos, neg_ℤ, ◌-ℤ◌, ◌*ℤ◌, ◌≤ℤ◌, ◌<ℤ◌, refl, sym, ap, ◌∙◌, subst, arith}
+use Rattle.std.proofs.Common.{◌≡◌, ℕ, zero, suc, ◌+◌, ◌<◌, Bool, true, false, List, [], ◌∷◌, ◌++◌, length, map, slice_get, slice_index_or, Option, None, Some, if◌then◌else◌, All, int_lt, ℤ, pos, neg_ℤ, ◌-ℤ◌, ◌*ℤ◌, ◌≤ℤ◌, ◌<ℤ◌, refl, sym, ap, ◌∙◌, subst, arith}
 use Rattle.std.proofs.Math.Seq.{drop-append_seam, take-append_seam}
-use Rattle.std.proofs.lemmas.List.{length-map}
 use Rattle.std.proofs.lemmas.List.Elements.{All-cons, All-drop, All-nil, All-tail, All-take}
 use Rattle.std.proofs.lemmas.Option.{get_or_from_slice_get, slice_get_within}
 use Rattle.std.specs.Int.{int_max}
@@ -25,7 +24,7 @@ use Rattle.dual_leaf.specs.Columns.{IsWhole}
 use Rattle.dual_leaf.proofs.NumberFacts.{whole_box}
 use Rattle.presolve.specs.Landed.{coefficient_of}
 use Rattle.presolve.specs.Points.{AgreesOver, IsNumerator, IsRelaxationPoint, IsRowKept, column_value, free_value, left_value, relaxation_cost, turned, value_of_point}
-use Rattle.presolve.specs.Relaxed.{at_most_one, cost_in, flipped_of, greatest, kept_of, kept_row, may_exceed, program_of, row_in}
+use Rattle.presolve.specs.Relaxed.{at_most_one, flipped_of, greatest, kept_of, kept_row, may_exceed, program_of, row_in}
 use Rattle.presolve.specs.Variables.{columns_of, is_same}
 use Rattle.presolve.proofs.DualityFacts.{over}
 use Rattle.presolve.proofs.FlipFacts.{IsPointAt, entries_within, unflipped}
@@ -217,10 +216,8 @@ module _ (parts : Parts) (box : Box) (scenario : IsScenario parts) (made : IsBox
 
     bits_within : (k : ℕ) → k < length all_columns → IsNumerator denominator (bit k)
     bits_within k within =
-        let many = length-map all_columns (λ column. pos (unsigned_abs (cost_in parts box column)))
-        in
         turned_within (slice_index_or flips k false) (numerator k) (record {
-          low = point.least k (omega (arith, within, many));
+          low = point.least k (omega (arith, within, few parts box));
           high = each_high 0 (length all_columns) k k last_hold (omega arith) within;
         })
 
