@@ -1,0 +1,4 @@
+pub mod Bounds
+pub mod Budgets
+pub mod Nodes
+pub mod Records

@@ -1,0 +1,60 @@
+-- What a search hands back: plans, each cheaper than the one before, a tree that proves a bound, and
+-- that it ended since the last plan is a least one, or there is none, or its budget was spent.
+use Rattle.std.specs.Prelude.{◌≡◌, ◌⊎◌, ℕ, ◌+◌, ◌<◌, ◌≤◌, List, length, slice_get, All, AllPairs, Option, None, Some, ℤ, ◌<ℤ◌}
+use Rattle.flow_types.specs.declared.bound.Bound.{Bound}
+use Rattle.flow_types.specs.declared.bound.Bound.TheVariants.{AtLeast, NoPlan}
+use Rattle.flow_types.specs.declared.parts.Parts.{Parts}
+use Rattle.flow_types.specs.declared.plan.Stop.{Stop}
+use Rattle.flow_types.specs.Costs.{plan_cost}
+use Rattle.flow_types.specs.Feasible.{IsFeasible}
+use Rattle.time_windows.specs.Boxes.{Box, IsInBox}
+use Rattle.time_windows.specs.Tight.{IsTightened}
+use Rattle.greedy_plan.specs.Greedy.{IsGreedy}
+use Rattle.branch_tree.specs.Forests.{IsTreeOn}
+use Rattle.tree_search.specs.declared.found.Budget.{Budget}
+use Rattle.tree_search.specs.declared.found.Found.{Found}
+use Rattle.tree_search.specs.Bounds.{IsNearBound, least_of}
+use Rattle.tree_search.specs.Nodes.{IsNodeAt, cutoff_after}
+
+-- a plan of the box that keeps every rule
+pub record IsPlanIn (parts : Parts) (box : Box) (plan : List (List Stop)) : Type 0 where
+  pub feasible : IsFeasible parts plan
+  pub inside : IsInBox box plan
+
+abbrev pub IsCheaper : Parts → List (List Stop) → List (List Stop) → Type 0
+IsCheaper parts before after =
+    plan_cost parts.tables parts.flights after <ℤ plan_cost parts.tables parts.flights before
+
+-- the greedy plan is the first of the plans, and was found before each node
+pub record IsFirst (plans : List (List (List Stop))) (counts : List ℕ)
+    (plan : List (List Stop)) : Type 0 where
+  pub first : slice_get plans 0 ≡ Some plan
+  pub found : All (λ count. 1 ≤ count) counts
+
+-- what the last plan costs, or that there is none
+abbrev pub bound_of_cost : Option ℤ → Bound
+bound_of_cost None = NoPlan
+bound_of_cost (Some cost) = AtLeast cost
+
+-- the last plan costs no more than the bound, or there is no plan
+abbrev pub IsClosed : Parts → Found → Type 0
+IsClosed parts found =
+    found.bound ≡ bound_of_cost (cutoff_after parts found.plans (length found.plans))
+
+pub record IsSearchRecord (parts : Parts) (root : Box) (budget : Budget) (found : Found)
+    : Type 0 where
+  pub tight : Box
+  pub tight_is : IsTightened parts root tight
+  pub plans : All (IsPlanIn parts root) found.plans
+  pub cheaper : AllPairs (IsCheaper parts) found.plans
+  pub greedy : (plan : List (List Stop)) → IsGreedy parts tight plan
+      → IsFirst found.plans found.counts plan
+  pub counted : length found.counts ≡ length found.tree
+  pub counts_to : All (λ count. count ≤ length found.plans) found.counts
+  pub rising : AllPairs (λ before after. before ≤ after) found.counts
+  pub tree : IsTreeOn parts
+      (IsNodeAt parts budget.limits found.plans found.counts found.bounds) tight found.tree
+  pub bounded : length found.bounds ≡ length found.tree
+  pub bound_is : found.bound ≡ least_of found.bounds
+  pub nodes : length found.tree ≤ budget.nodes
+  pub ended : IsClosed parts found ⊎ (budget.nodes < length found.tree + 2)
