@@ -2,3 +2,4 @@ pub mod Bounds
 pub mod Budgets
 pub mod Nodes
 pub mod Records
+pub mod Ways

@@ -2,5 +2,7 @@
 #![tactic(auto)]
 
 mod found;
+mod walk;
 
+pub use walk::Branch;
 pub use found::{Bounds, Budget, Counts, Found, Plans};

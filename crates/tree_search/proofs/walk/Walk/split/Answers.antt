@@ -1,0 +1,7 @@
+use Rattle.std.proofs.Common.{arith}
+use Rattle.tree_search.proofs.WayFacts.{few_waiting}
+use Rattle.tree_search.proofs.walk.Walk.split.Goals as goal
+
+pub overflow_add-self : goal.overflow_add-self
+overflow_add-self c =
+    omega (arith, few_waiting c.self.inside.steps.items, c.self.invariant, c.in_ok-push.ensures.len)

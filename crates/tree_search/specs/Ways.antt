@@ -1,0 +1,73 @@
+-- The way of a search down its tree: the present box, those above it, and the steps that led down, the
+-- last first. The late side of each step to an early one waits.
+use Rattle.std.specs.Prelude.{◌≡◌, ℕ, suc, ◌+◌, ◌<◌, Bool, false, true, List, [], ◌∷◌, length}
+use Rattle.flow_types.specs.declared.parts.Parts.{Parts}
+use Rattle.time_windows.specs.Boxes.{Box}
+use Rattle.time_windows.specs.Held.{Held, IsMadeFor, box_of}
+use Rattle.time_windows.specs.Splits.{IsBranching, late_branch}
+use Rattle.time_windows.specs.Tight.{IsTight, IsTightened}
+use Rattle.tree_search.specs.declared.walk.Branch.{Branch}
+use Rattle.tree_search.specs.declared.walk.Step.{Step}
+use Rattle.tree_search.specs.declared.walk.Step.TheVariants.{Early, Late}
+
+pub record Way : Type 0 where
+  pub present : Held
+  pub above : List Held
+  pub steps : List Step
+
+-- the first box of the way
+abbrev pub top_of : Held → List Held → Held
+top_of present [] = present
+top_of present (held ∷ above) = top_of held above
+
+abbrev pub top_box : Way → Box
+top_box way = box_of (top_of way.present way.above)
+
+-- how many boxes wait
+abbrev pub waiting_in : List Step → ℕ
+waiting_in [] = 0
+waiting_in (Early branch ∷ steps) = suc (waiting_in steps)
+waiting_in (Late ∷ steps) = waiting_in steps
+
+-- a box that may be split so
+pub record IsFork (parts : Parts) (held : Held) (branch : Branch) : Type 0 where
+  pub made : IsMadeFor parts held
+  pub there : branch.flight < length parts.flights
+  pub branching : IsBranching (box_of held branch.flight branch.node) branch.time
+
+-- each step was made from the box above
+abbrev pub AreSteps : Parts → List Held → List Step → Type 0
+AreSteps parts above [] = above ≡ []
+AreSteps parts [] (step ∷ steps) = ⊥
+AreSteps parts (held ∷ above) (Late ∷ steps) = AreSteps parts above steps
+AreSteps parts (held ∷ above) (Early branch ∷ steps) =
+    IsFork parts held branch × AreSteps parts above steps
+
+-- the boxes that wait, the next first
+abbrev pub ArePending : Parts → List Held → List Step → List Box → Type 0
+ArePending parts above [] boxes = boxes ≡ []
+ArePending parts [] (step ∷ steps) boxes = ⊥
+ArePending parts (held ∷ above) (Late ∷ steps) boxes = ArePending parts above steps boxes
+ArePending parts (held ∷ above) (Early branch ∷ steps) [] = ⊥
+ArePending parts (held ∷ above) (Early branch ∷ steps) (late ∷ boxes) =
+    IsTightened parts (late_branch branch.flight branch.node branch.time (box_of held)) late
+    × ArePending parts above steps boxes
+
+-- the way has gone on to the next box that waited
+pub record IsNext (parts : Parts) (old new : Way) : Type 0 where
+  pub made : IsMadeFor parts new.present
+  pub tight : IsTight parts (box_of new.present)
+  pub steps : AreSteps parts new.above new.steps
+  pub pending : (boxes : List Box) → ArePending parts new.above new.steps boxes
+      → ArePending parts old.above old.steps (box_of new.present ∷ boxes)
+  pub fewer : waiting_in old.steps ≡ suc (waiting_in new.steps)
+  pub top : top_of new.present new.above ≡ top_of old.present old.above
+
+-- no box waited
+pub record IsOver (parts : Parts) (old : Way) : Type 0 where
+  pub none : ArePending parts old.above old.steps []
+  pub fewer : waiting_in old.steps ≡ 0
+
+abbrev pub IsNextOr : Parts → Way → Way → Bool → Type 0
+IsNextOr parts old new true = IsNext parts old new
+IsNextOr parts old new false = IsOver parts old
