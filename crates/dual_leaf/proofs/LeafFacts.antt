@@ -21,7 +21,7 @@ use Rattle.dual_leaf.proofs.UnitBoxFacts.{one_trip}
 use Rattle.dual_leaf.proofs.UnitSumFacts.{same_first, trip_in}
 
 -- two plans in a unit box are one
-same_plan : (parts : Parts) (box : Box) (plan other : List (List Stop)) → IsScenario parts
+pub same_plan : (parts : Parts) (box : Box) (plan other : List (List Stop)) → IsScenario parts
     → IsUnitBox box → IsFeasible parts plan → IsInBox box plan → IsFeasible parts other
     → IsInBox box other → other ≡ plan
 same_plan parts box plan other valid unit feasible inside other_feasible other_inside =

@@ -80,7 +80,7 @@ module _ (parts : Parts) (valid : IsScenario parts) (box : Box) (unit : IsUnitBo
       (trip_in parts box plan feasible inside k y at))
 
   -- where none fits beside them there is no such plan
-  stuck : (trips : List (List Stop)) (number : ℕ) → length trips ≡ number
+  pub stuck : (trips : List (List Stop)) (number : ℕ) → length trips ≡ number
       → number < length parts.flights → AreChosen parts box trips
       → ((stops : List Stop)
       → IsTripThatFits parts box (with_rest parts.flights trips) number stops → ⊥)

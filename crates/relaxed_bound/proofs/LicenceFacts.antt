@@ -45,7 +45,7 @@ fraction_below cost denominator value weight limit above positive same below =
     (omega (arith, ints, gap, left, turned, cost_turned, room, same)) in
     omega (arith, ints, rest)
 
-unreached_is : (least limit : ℤ) → not (int_lt least limit) ≡ false → least <ℤ limit
+pub unreached_is : (least limit : ℤ) → not (int_lt least limit) ≡ false → least <ℤ limit
 unreached_is least limit isnt = less_is least limit (by (int_lt least limit) isnt)
   where
     by : (b : Bool) → not b ≡ false → b ≡ true

@@ -1,1 +1,3 @@
+pub mod CompleteFacts
+pub mod GreedyFacts
 pub mod WayFacts

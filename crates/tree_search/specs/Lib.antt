@@ -1,5 +1,6 @@
 pub mod Bounds
 pub mod Budgets
+pub mod Drafts
 pub mod Nodes
 pub mod Records
 pub mod Ways

@@ -1,6 +1,7 @@
 //! The search for the least plan in a box.
 #![tactic(auto)]
 
+mod draft;
 mod found;
 mod walk;
 
