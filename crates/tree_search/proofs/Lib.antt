@@ -1,3 +1,5 @@
 pub mod CompleteFacts
+pub mod DraftFacts
 pub mod GreedyFacts
+pub mod VisitFacts
 pub mod WayFacts

@@ -3,4 +3,5 @@ pub mod Budgets
 pub mod Drafts
 pub mod Nodes
 pub mod Records
+pub mod Visits
 pub mod Ways
