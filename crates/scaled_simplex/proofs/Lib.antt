@@ -27,6 +27,7 @@ pub mod QuotientFacts
 pub mod RatioFacts
 pub mod RowValues
 pub mod RunLaw
+pub mod SameFractions
 pub mod Searches
 pub mod SolvedRows
 pub mod SolverFacts
@@ -37,4 +38,5 @@ pub mod Sweeps
 pub mod Tellings
 pub mod TodoFacts
 pub mod WideFacts
+pub mod WorkedPoints
 pub mod WorkedRuns
