@@ -19,6 +19,7 @@ pub mod LastTableaus
 pub mod LeavingFacts
 pub mod ListFacts
 pub mod ListedFacts
+pub mod LowestFacts
 pub mod MultipleFacts
 pub mod PointScales
 pub mod Products

@@ -1,16 +1,19 @@
--- A tableau has one point in numbers at the most.
-use Rattle.std.proofs.Common.{◌≡◌, ◌⊎◌, inl, inr, ℕ, ◌<◌, ◌≤◌, List, get_or, length, ℤ, pos, negsuc, nat_abs, ◌<ℤ◌, sym, ap, ap₂, ◌∙◌, subst, arith}
+-- A tableau has one point in numbers at the most, over the denominators in lowest terms.
+use Rattle.std.proofs.Common.{◌≡◌, ◌↔◌, ◌/◌, ◌%◌, ◌⊎◌, inl, inr, ℕ, ◌<◌, ◌≤◌, List, get_or, length, ℤ, pos, negsuc, nat_abs, ◌<ℤ◌, sym, ap, ap₂, ◌∙◌, subst, arith}
+use Rattle.std.specs.Int.{IsGcd}
 use Rattle.std.proofs.lemmas.Int.{ints}
 use Rattle.std.proofs.lemmas.List.{ext_get_or}
 use Rattle.std.proofs.lemmas.Nat.Gcd.{dvd_of_mod-eq-zero, le_of_dvd}
 use Rattle.scaled_simplex.specs.declared.fractions.Fractions.{Fractions}
 use Rattle.scaled_simplex.specs.declared.fractions.Fractions.TheVariants.{Point, TooWide}
 use Rattle.scaled_simplex.specs.Board.{IsBasic}
-use Rattle.scaled_simplex.specs.Fractions.{AreFractions, AreLast, AreNumerators, ArePoint, AreTooWide, IsMultiple, bottom_at}
+use Rattle.scaled_simplex.specs.Fractions.{AreFractions, AreLast, AreNumerators, ArePoint, AreTooWide, IsMultiple, IsWhole, bottom_at, top_at}
 use Rattle.scaled_simplex.specs.Program.{IsProblem, Problem, columns}
 use Rattle.scaled_simplex.specs.Run.{Outcome}
+use Rattle.scaled_simplex.specs.LastTableau.{IsLastTableau}
 use Rattle.scaled_simplex.specs.Tableau.{Tableau}
 use Rattle.scaled_simplex.proofs.LastTableaus.{last_basic, last_same}
+use Rattle.scaled_simplex.proofs.LowestFacts.{lowest_whole}
 use Rattle.scaled_simplex.proofs.Products.{same_back}
 use Rattle.scaled_simplex.proofs.QuotientFacts.{bottom_above}
 
@@ -109,3 +112,19 @@ last_fractions_same problem outcome other first second valid one two =
     let same = last_same problem two.tableau one.tableau two.last one.last in
     fractions_same problem one.tableau (last_basic problem one.tableau valid one.last) first second
     one.are (subst (λ t. AreFractions problem t second) same two.are)
+
+-- and by what a value of it is whole
+pub last_whole : (problem : Problem) (tableau : Tableau) (column divisor times : ℕ)
+    → IsProblem problem → IsLastTableau problem tableau
+    → IsGcd (nat_abs (top_at problem tableau column)) (nat_abs (bottom_at problem tableau column))
+    divisor → IsWhole problem tableau column times
+    ↔ (times % (nat_abs (bottom_at problem tableau column) / divisor) ≡ 0)
+last_whole problem tableau column divisor times valid last gcd =
+    lowest_whole (nat_abs (top_at problem tableau column))
+    (nat_abs (bottom_at problem tableau column)) divisor
+    (size (bottom_at problem tableau column)
+    (bottom_above problem tableau column (last_basic problem tableau valid last))) gcd times
+  where
+    size : (z : ℤ) → pos 0 <ℤ z → 0 < nat_abs z
+    size (pos n) some = omega (arith, ints, some)
+    size (negsuc n) some = absurd (omega (arith, ints, some))

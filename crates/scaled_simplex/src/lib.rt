@@ -63,6 +63,6 @@ mod turns;
 
 pub use end::End;
 pub use fractions::{Fractions, Numerators};
-pub use laws::{last_tableaus_are_one, points_are_one};
+pub use laws::{last_tableaus_are_one, points_are_one, values_are_whole_by_their_denominators};
 pub use program::{Constraint, Program};
 pub use solver::{Factors, Run, Solver, Value, Weights};
