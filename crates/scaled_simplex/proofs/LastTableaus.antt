@@ -3,16 +3,21 @@
 use Rattle.std.proofs.Common.{◌≡◌, ◌⊎◌, inl, inr, ℕ, zero, suc, ◌+◌, ◌<◌, Bool, true, false, if◌then◌else◌, List, set, Option, None, Some, Result, Ok, Err, refl, sym, ap, ◌∙◌, subst, arith}
 use Rattle.row_arena.specs.declared.entry.Entry.{Entry}
 use Rattle.row_arena.specs.declared.wide.Wide.{Wide}
-use Rattle.row_arena.specs.Arena.{combined}
+use Rattle.row_arena.specs.Arena.{combined, row_at}
 use Rattle.scaled_simplex.specs.declared.turn.Turn.{Turn}
 use Rattle.scaled_simplex.specs.declared.turn.Turn.TheVariants.{Ends, Pivots}
+use Rattle.scaled_simplex.specs.Board.{IsBasic}
 use Rattle.scaled_simplex.specs.LastTableau.{IsLastTableau, tableau_after, tableau_next, tableau_pivoted, tableau_turned}
-use Rattle.scaled_simplex.specs.Program.{Problem}
-use Rattle.scaled_simplex.specs.Run.{is_swept, leaving, pivoted, swept, swept_after, swept_at, turn_leaving, turn_of}
-use Rattle.scaled_simplex.specs.Tableau.{Tableau}
+use Rattle.scaled_simplex.specs.Program.{IsProblem, Problem}
+use Rattle.scaled_simplex.specs.Run.{entering, is_swept, leaving, pivoted, swept, swept_after, swept_at, turn_leaving, turn_of}
+use Rattle.scaled_simplex.specs.Tableau.{Tableau, first_tableau}
+use Rattle.scaled_simplex.proofs.BasicRows.{first_basic, pivot_basic}
+use Rattle.scaled_simplex.proofs.FirstTableau.{first_lawful}
+use Rattle.scaled_simplex.proofs.Lawful.{IsLawful, pivot_lawful}
+use Rattle.scaled_simplex.proofs.RunLaw.{turn_pivots}
 use Rattle.scaled_simplex.proofs.Sweeps.{combined_is}
 
--- what is there once isn't missing, and is one thing
+-- what is there isn't missing, and what was made didn't fail
 missing : {A P : Type 0} {a : A} → None ≡ Some a → P
 missing {A} {P} {a} is = absurd (let e : None ≡ Some a = is in cc)
 
@@ -180,3 +185,58 @@ module _ (problem : Problem) where
       by (inr (inr same)) =
           after_same two.reached.pivots one.cells two.cells first second
           (ap (tableau_after problem one.cells) (sym same) ∙ one.reached.is) two.reached.is
+
+  -- each tableau that is reached is lawful, and basic
+  record IsSound (tableau : Tableau) : Type 0 where
+    lawful : IsLawful problem tableau
+    basic : IsBasic problem tableau
+
+  sound_pivoted : (cells : ℕ) (tableau next : Tableau) (leaves enters : ℕ) → IsSound tableau
+      → leaving problem tableau ≡ Some leaves
+      → entering problem tableau (row_at tableau.rows leaves) ≡ Some enters
+      → (r : Result (List (List Entry)) Wide) → pivoted problem cells tableau leaves enters ≡ r
+      → tableau_pivoted problem cells tableau leaves enters r ≡ Some next → IsSound next
+  sound_pivoted cells tableau next leaves enters sound leaves_is enters_is (Err wide) is made =
+      missing made
+  sound_pivoted cells tableau next leaves enters sound leaves_is enters_is (Ok rows) is made =
+      let here : record { rows = rows; basis = set tableau.basis leaves enters } ≡ next = cc in
+      subst IsSound here (record {
+        lawful = pivot_lawful problem tableau sound.lawful leaves enters cells rows leaves_is
+            enters_is is;
+        basic = pivot_basic problem tableau sound.lawful.count sound.lawful.basis sound.basic
+            leaves enters cells rows leaves_is enters_is is;
+      })
+
+  sound_turned : (cells : ℕ) (tableau next : Tableau) → IsSound tableau → (turn : Turn)
+      → turn_of problem None tableau ≡ turn
+      → tableau_turned problem cells tableau turn ≡ Some next → IsSound next
+  sound_turned cells tableau next sound (Ends end row) is made = missing made
+  sound_turned cells tableau next sound (Pivots leaves enters) is made =
+      let both = turn_pivots problem tableau sound.lawful None leaves enters is in
+      sound_pivoted cells tableau next leaves enters sound both.0 both.1
+      (pivoted problem cells tableau leaves enters) refl made
+
+  sound_after : IsProblem problem → (cells pivots : ℕ) (tableau : Tableau)
+      → tableau_after problem cells pivots ≡ Some tableau → IsSound tableau
+  sound_after valid cells zero tableau is =
+      let here : first_tableau problem ≡ tableau = cc in
+      subst IsSound here (record {
+        lawful = first_lawful problem valid;
+        basic = first_basic problem valid;
+      })
+  sound_after valid cells (suc pivots) tableau is =
+      by (tableau_after problem cells pivots) refl is
+      (λ old was. sound_after valid cells pivots old was)
+    where
+      by : (o : Option Tableau) → tableau_after problem cells pivots ≡ o
+          → tableau_next problem cells o ≡ Some tableau
+          → ((old : Tableau) → tableau_after problem cells pivots ≡ Some old → IsSound old)
+          → IsSound tableau
+      by None is_o next sound = missing next
+      by (Some old) is_o next sound =
+          sound_turned cells old tableau (sound old is_o) (turn_of problem None old) refl next
+
+  pub last_basic : (tableau : Tableau) → IsProblem problem → IsLastTableau problem tableau
+      → IsBasic problem tableau
+  last_basic tableau valid last =
+      (sound_after valid last.cells last.reached.pivots tableau last.reached.is).basic

@@ -19,6 +19,7 @@ pub mod LastTableaus
 pub mod LeavingFacts
 pub mod ListFacts
 pub mod ListedFacts
+pub mod LowestFacts
 pub mod MultipleFacts
 pub mod PointScales
 pub mod Products
@@ -27,6 +28,7 @@ pub mod QuotientFacts
 pub mod RatioFacts
 pub mod RowValues
 pub mod RunLaw
+pub mod SameFractions
 pub mod Searches
 pub mod SolvedRows
 pub mod SolverFacts
@@ -37,5 +39,6 @@ pub mod Sweeps
 pub mod Tellings
 pub mod TodoFacts
 pub mod WideFacts
+pub mod WorkedPoints
 pub mod WorkedRuns
 pub mod CutRuns

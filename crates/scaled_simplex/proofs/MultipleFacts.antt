@@ -47,7 +47,7 @@ divided_some a divisor some none =
     by : (factor : ℕ) → factor * divisor ≡ a → 0 < factor
     by factor is = grind arith
 
-divisor_some : (a divisor : ℕ) → 0 < a → a % divisor ≡ 0 → 0 < divisor
+pub divisor_some : (a divisor : ℕ) → 0 < a → a % divisor ≡ 0 → 0 < divisor
 divisor_some a divisor some none =
     by (a / divisor) (div-mul_cancel divisor (dvd_of_mod-eq-zero divisor none))
   where

@@ -17,10 +17,11 @@
 //! The definitions stand in `specs/`: `Program` (programs), `Tableau` (the first tableau), `Search`
 //! and `Run` (which row leaves and which index enters, how the rows change, when a run ends), and
 //! `Multipliers` (what a run tells). `Points` has the points of a program, `LastPoint` what a run
-//! that ended Optimal tells besides, `LastTableau` the tableau in which it ended, and `Fractions` the
-//! point of that in numbers. `Solving` has what callers see of a solver and of its run. The others
-//! serve the proofs: `Ratios`, `Board`, `BoardOf`, `Derived`, `Multiples` and `Steps`.
-//! `proofs/WorkedRuns.antt` has the runs of a small program, with each of the five ends.
+//! that ended Optimal tells besides, `LastTableau` the tableau in which it ended, and `Fractions`
+//! the point of that in numbers. `Solving` has what callers see of a solver and of its run. The
+//! others serve the proofs: `Ratios`, `Board`, `BoardOf`, `Derived`, `Multiples` and `Steps`.
+//! `proofs/WorkedRuns.antt` has the runs of a small program, with each of the five ends, and
+//! `proofs/WorkedPoints.antt` a point.
 //!
 //! Proved: `run` ends exactly as the defined run does, with its telling row; `multipliers` and
 //! `value` are exactly those of the definition. Whatever the end, the multipliers are 0 or more, and
@@ -28,8 +29,9 @@
 //! values of the columns that keep the constraints cost less than the value; after `Infeasible` the
 //! weight is 0 and the value is above 0, so there are none. After `Optimal` there is a point of the
 //! program that costs the value (`point` of `end`), and the value is below the cutoff (`uncut` of
-//! `run`). `point` is exactly that of the last tableau, over the least denominator (`fractions`), and
-//! costs the value (`worth`). No product passes 128 bits.
+//! `run`). `point` gives exactly that of the last tableau, over the least denominator (`fractions`);
+//! it costs the value (`worth`), and hangs on the program alone (`points_are_one`). No product
+//! passes 128 bits.
 //!
 //! A pivot costs what its rows have, not what the tableau has rows: the row that leaves is found in
 //! a set of numbers, and the rows that may have an entry at an index in a list, which is made anew
@@ -61,6 +63,6 @@ mod turns;
 
 pub use end::End;
 pub use fractions::{Fractions, Numerators};
-pub use laws::last_tableaus_are_one;
+pub use laws::{last_tableaus_are_one, points_are_one, values_are_whole_by_their_denominators};
 pub use program::{Constraint, Program};
 pub use solver::{Factors, Run, Solver, Value, Weights};
