@@ -43,11 +43,11 @@ within_inside parts old new within inside = record {
   nodes = λ f n shut. within.marks f n ∙ inside.nodes f n shut;
 }
 
-until_within : (w : Option Window) (time : ℕ) → IsWindowWithin (until w time) w
+pub until_within : (w : Option Window) (time : ℕ) → IsWindowWithin (until w time) w
 until_within None time = tt
 until_within (Some w) time = (omega arith, omega arith)
 
-after_within : (w : Option Window) (time : ℕ) → IsWindowWithin (after w time) w
+pub after_within : (w : Option Window) (time : ℕ) → IsWindowWithin (after w time) w
 after_within None time = tt
 after_within (Some w) time =
     if_lt (λ x. IsWindowWithin x (Some w)) time w.hi

@@ -6,10 +6,11 @@ use Rattle.time_windows.specs.Boxes.{Box}
 use Rattle.time_windows.specs.Held.{Held, IsMadeFor, box_of}
 use Rattle.time_windows.specs.Splits.{late_branch}
 use Rattle.time_windows.specs.Tight.{IsTightened}
+use Rattle.tree_search.proofs.PartFacts.{in_late}
 use Rattle.tree_search.specs.declared.walk.Branch.{Branch}
 use Rattle.tree_search.specs.declared.walk.Step.{Step}
 use Rattle.tree_search.specs.declared.walk.Step.TheVariants.{Early, Late}
-use Rattle.tree_search.specs.Ways.{AreSteps, ArePending, IsFork, IsNext, IsNextOr, IsOver, Way, top_of, waiting_in}
+use Rattle.tree_search.specs.Ways.{ArePartsOf, AreSteps, ArePending, IsFork, IsNext, IsNextOr, IsOver, Way, top_of, waiting_in}
 
 -- the last step comes first
 pub last_step : (steps : List Step) (step : Step) → reverse (steps ++ step ∷ []) ≡ step ∷ reverse steps
@@ -32,6 +33,7 @@ pub record IsBack (parts : Parts) (old : Way) (present : Held) (above : List Hel
       → ArePending parts old.above old.steps boxes
   pub fewer : waiting_in old.steps ≡ waiting_in steps
   pub top : top_of present above ≡ top_of old.present old.above
+  pub parts_of : (top : Box) → ArePartsOf top old.above → ArePartsOf top above
 
 pub back_none : (parts : Parts) (old : Way) → AreSteps parts old.above old.steps
     → IsBack parts old old.present old.above old.steps
@@ -40,6 +42,7 @@ back_none parts old are = record {
   pending = λ boxes pending. pending;
   fewer = refl;
   top = refl;
+  parts_of = λ top are_parts. are_parts;
 }
 
 -- there is a box above, as long as there are steps
@@ -61,6 +64,7 @@ back_late parts old present next above below steps back is =
       pending = from.pending;
       fewer = from.fewer;
       top = from.top;
+      parts_of = λ top are. (from.parts_of top are).1;
     }
 
 -- up over an early side there is a box to be split so
@@ -106,6 +110,12 @@ back_early parts old present next after above below new_above branch steps new_s
       pending = λ boxes pending. from.pending (box_of after ∷ boxes) (tight, pending);
       fewer = from.fewer;
       top = from.top;
+      parts_of = λ top are.
+          let held = from.parts_of top are in (
+            λ plan inside. held.0 plan (in_late branch.flight branch.node branch.time
+            (box_of next) (box_of after) plan tight.within inside),
+            held,
+          );
     }
 
 -- no steps are left

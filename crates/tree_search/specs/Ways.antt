@@ -2,7 +2,8 @@
 -- last first. The late side of each step to an early one waits.
 use Rattle.std.specs.Prelude.{◌≡◌, ℕ, suc, ◌+◌, ◌<◌, Bool, false, true, List, [], ◌∷◌, length}
 use Rattle.flow_types.specs.declared.parts.Parts.{Parts}
-use Rattle.time_windows.specs.Boxes.{Box}
+use Rattle.flow_types.specs.declared.plan.Stop.{Stop}
+use Rattle.time_windows.specs.Boxes.{Box, IsInBox}
 use Rattle.time_windows.specs.Held.{Held, IsMadeFor, box_of}
 use Rattle.time_windows.specs.Splits.{IsBranching, late_branch}
 use Rattle.time_windows.specs.Tight.{IsTight, IsTightened}
@@ -28,6 +29,14 @@ abbrev pub waiting_in : List Step → ℕ
 waiting_in [] = 0
 waiting_in (Early branch ∷ steps) = suc (waiting_in steps)
 waiting_in (Late ∷ steps) = waiting_in steps
+
+-- every plan of the box is in the first one
+abbrev pub IsPartOf : Box → Held → Type 0
+IsPartOf top held = (plan : List (List Stop)) → IsInBox (box_of held) plan → IsInBox top plan
+
+abbrev pub ArePartsOf : Box → List Held → Type 0
+ArePartsOf top [] = Unit {0}
+ArePartsOf top (held ∷ above) = IsPartOf top held × ArePartsOf top above
 
 -- a box that may be split so
 pub record IsFork (parts : Parts) (held : Held) (branch : Branch) : Type 0 where
@@ -62,6 +71,8 @@ pub record IsNext (parts : Parts) (old new : Way) : Type 0 where
       → ArePending parts old.above old.steps (box_of new.present ∷ boxes)
   pub fewer : waiting_in old.steps ≡ suc (waiting_in new.steps)
   pub top : top_of new.present new.above ≡ top_of old.present old.above
+  pub parts_of : (top : Box) → ArePartsOf top old.above
+      → IsPartOf top new.present × ArePartsOf top new.above
 
 -- no box waited
 pub record IsOver (parts : Parts) (old : Way) : Type 0 where
