@@ -125,3 +125,16 @@ back_over parts old present above back = record {
   none = back.pending [] refl;
   fewer = back.fewer;
 }
+
+-- the same steps
+pub back_same : (parts : Parts) (old : Way) (present : Held) (above : List Held)
+    (steps other : List Step) → steps ≡ other → IsBack parts old present above steps
+    → IsBack parts old present above other
+back_same parts old present above steps other same =
+    subst (IsBack parts old present above) same
+
+-- a step that is popped came first
+pub popped : (old new : List Step) (step known : Step) → old ≡ new ++ step ∷ [] → step ≡ known
+    → reverse old ≡ known ∷ reverse new
+popped old new step known is same =
+    ap reverse is ∙ last_step new step ∙ ap (λ s. s ∷ reverse new) same

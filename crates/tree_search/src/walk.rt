@@ -141,10 +141,13 @@ fn go_to_next(
 {
     while let Some(step) = steps.pop() {
         trail.up();
-        if let Step::Early(branch) = step {
-            *waiting -= 1;
-            turn(trail, steps, s, branch)?;
-            return Ok(true);
+        match step {
+            Step::Late => {}
+            Step::Early(branch) => {
+                *waiting -= 1;
+                turn(trail, steps, s, branch)?;
+                return Ok(true);
+            }
         }
     }
     Ok(false)
