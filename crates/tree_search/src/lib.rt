@@ -2,5 +2,7 @@
 #![tactic(auto)]
 
 mod found;
+mod laws;
 
 pub use found::{Bounds, Budget, Counts, Found, Plans};
+pub use laws::search_records_are_bounds;
