@@ -5,4 +5,4 @@ mod found;
 mod laws;
 
 pub use found::{Bounds, Budget, Counts, Found, Plans};
-pub use laws::search_records_are_bounds;
+pub use laws::{enough_nodes_close, search_records_are_bounds};
