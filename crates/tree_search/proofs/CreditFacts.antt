@@ -1,6 +1,6 @@
--- How many nodes the trees of boxes may have. Each box that waits has a credit: the product of its
--- options, or 1 where that is 0. There are no more nodes and boxes than twice the credits, and fewer
--- by 2 where a leaf's bound doesn't reach its cutoff: such a leaf has a choice left.
+-- How many nodes the trees on boxes may have. Each box has a credit: the product of its options, or
+-- 1 where that is 0. Nodes and boxes are no more than twice the credits, and 2 fewer where a leaf's
+-- bound doesn't reach its cutoff, since the box of such a leaf has a choice left.
 use Rattle.std.proofs.Common.{◌≡◌, ◌⊎◌, ℕ, suc, ◌+◌, ◌*◌, ◌<◌, ◌≤◌, true, max, List, [], ◌∷◌, length, get_or, slice_index, Option, ℤ, inl, inr, refl, sym, ap, subst, arith}
 use Rattle.std.proofs.lemmas.Bool.{cases_eq}
 use Rattle.flow_types.specs.declared.bound.Bound.{Bound}

@@ -1,11 +1,12 @@
--- A budget of nodes that is enough: where it is spent nonetheless, each bound reaches its cutoff, so
--- that the last plan is a least one, or there is none.
+-- A budget of nodes that is enough: where it is spent nonetheless, each bound reaches its cutoff.
+-- Then the least of them is what the last plan costs, or there is no plan.
 use Rattle.std.proofs.Common.{◌⊎◌, ℕ, ◌+◌, ◌*◌, ◌<◌, ◌≤◌, max, [], ◌∷◌, length, get_or, slice_index, Option, ℤ, inl, inr, sym, subst, arith}
 use Rattle.flow_types.specs.declared.bound.Bound.TheVariants.{NoPlan}
 use Rattle.flow_types.specs.declared.parts.Parts.{Parts}
 use Rattle.flow_types.specs.Limits.{most_nodes}
 use Rattle.flow_types.specs.Valid.{IsScenario}
 use Rattle.time_windows.specs.Boxes.{Box}
+use Rattle.time_windows.specs.Tight.{IsTightened}
 use Rattle.tree_search.specs.declared.found.Budget.{Budget}
 use Rattle.tree_search.specs.declared.found.Found.{Found}
 use Rattle.tree_search.specs.Budgets.{options_in}
@@ -14,6 +15,7 @@ use Rattle.tree_search.specs.Records.{IsClosed, IsSearchRecord}
 use Rattle.tree_search.proofs.CreditFacts.{AreReached, reached_or_few}
 use Rattle.tree_search.proofs.ReachFacts.{Reaches, bound_closed, last_allowed, last_lowered, reaches_from, reaches_later, reaches_least}
 use Rattle.tree_search.proofs.SoundFacts.{record_bounds}
+use Rattle.tree_search.proofs.SplitFacts.{options_less}
 
 -- with so many options there would be more nodes than there are
 too_few : (options nodes spent : ℕ) → 2 * options ≤ nodes + 1 → nodes < spent + 2
@@ -51,9 +53,8 @@ module _ (parts : Parts) (root : Box) (budget : Budget) (found : Found) (valid :
         (last_allowed parts root found.plans found.bound searched.plans
         (record_bounds parts root budget found valid searched))
 
-  pub enough_closed : 2 * options_in parts searched.tight ≤ budget.nodes + 1
-      → IsClosed parts found
-  enough_closed enough = by searched.ended
+  own_closed : 2 * options_in parts searched.tight ≤ budget.nodes + 1 → IsClosed parts found
+  own_closed enough = by searched.ended
     where
       spent_closed : budget.nodes < length found.tree + 2
           → AreReached cutoffs found.bounds 0 (length found.tree)
@@ -71,3 +72,16 @@ module _ (parts : Parts) (root : Box) (budget : Budget) (found : Found) (valid :
           (reached_or_few parts valid most_nodes (omega arith) budget.limits found.plans
           found.counts found.bounds 0 (searched.tight ∷ []) found.tree
           (searched.tight_is.tight, tt) searched.tree)
+
+  -- any tight box of the root has as many options as the record's
+  pub enough_closed : (tight : Box) → IsTightened parts root tight
+      → 2 * options_in parts tight ≤ budget.nodes + 1 → IsClosed parts found
+  enough_closed tight tight_is enough =
+      own_closed
+      (fewer (options_in parts searched.tight) (options_in parts tight) budget.nodes
+      (options_less (length parts.flights) most_nodes searched.tight tight
+      (tight_is.widest searched.tight searched.tight_is.within searched.tight_is.tight)) enough)
+    where
+      fewer : (options more nodes : ℕ) → options ≤ more → 2 * more ≤ nodes + 1
+          → 2 * options ≤ nodes + 1
+      fewer options more nodes less enough = omega (arith, less, enough)

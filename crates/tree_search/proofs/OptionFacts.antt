@@ -1,5 +1,5 @@
--- The options of the nodes of a box: where a node has any, what a split shares out, and what is left
--- of them in a box within.
+-- The options of the nodes of a box: where a node has any or several, what a split shares out, and
+-- that a box within another has no more.
 use Rattle.std.proofs.Common.{◌≡◌, ℕ, ◌+◌, ◌<◌, ◌≤◌, ◌==◌, ◌||◌, Bool, true, false, max, length, Option, None, Some, slice_get, if◌then◌else◌, inl, inr, refl, sym, subst, arith}
 use Rattle.std.proofs.lemmas.Bool.{cases_lt}
 use Rattle.std.proofs.lemmas.Option.{slice_get_past}
@@ -19,14 +19,14 @@ use Rattle.time_windows.proofs.WindowFacts.{if_lt, width_within}
 use Rattle.dual_leaf.specs.Leaf.{IsLive}
 use Rattle.tree_search.specs.Nodes.{HasChoice}
 
--- a node that is open, or needn't be entered
+-- a node that is open, or needn't be entered, has an option
 some_at : (window : Option Window) (must : Bool) → IsProper window
     → (must ≡ true → window ≡ None → ⊥) → 1 ≤ width_of window + (if must then 0 else 1)
 some_at (Some w) must proper live = omega (arith, proper)
 some_at None true proper live = absurd (live refl refl)
 some_at None false proper live = omega arith
 
--- no node outside of the root box
+-- a node that is closed in the root box is closed in each
 shut_within : (inner outer : Option Window) → outer ≡ None → IsWindowWithin inner outer
     → inner ≡ None
 shut_within None outer is within = refl
@@ -71,9 +71,9 @@ module _ (parts : Parts) (box : Box) (made : IsBoxOf parts box) where
       let free : (box f n).must ≡ false = made.nodes f n shut in
       rw (none, free) refl
 
-  -- a node with several options, and an open one
-  pub choice_there : (choice : HasChoice box) → (root_box parts choice.flight choice.node).window ≡ None
-      → ⊥
+  -- so it has neither several options nor a split
+  pub choice_there : (choice : HasChoice box)
+      → (root_box parts choice.flight choice.node).window ≡ None → ⊥
   choice_there choice shut =
       omega (arith, choice.several, outside_one choice.flight choice.node shut)
 
@@ -98,14 +98,14 @@ module _ (parts : Parts) (box : Box) (made : IsBoxOf parts box) where
             omega (arith, one)
       ]
 
--- a box within another has no more options
+-- a box within another
 pub options_within : (inner outer : Box) → IsWithin inner outer → (f n : ℕ)
     → options_of (inner f n) ≤ options_of (outer f n)
 options_within inner outer within f n =
     let narrow = width_within (inner f n).window (outer f n).window (within.windows f n) in
     rw (within.marks f n) (omega (arith, narrow))
 
--- what a split leaves of the options of its node
+-- what a split makes of its node
 abbrev pub early_of : Access → ℕ → Access
 early_of access time = record { window = until access.window time; must = true }
 
@@ -120,8 +120,9 @@ module _ (w : Window) (must : Bool) (time : ℕ) (from : w.lo ≤ time) (to : ti
   shared_opened : options_of (early_of opened time) + options_of (late_of opened time)
       ≤ options_of opened
   shared_opened =
-      if_lt (λ x. options_of (early_of opened time) + options_of (record { window = x; must = must })
-      ≤ options_of opened) time w.hi (Some (record { lo = max w.lo (time + 1); hi = w.hi })) None
+      if_lt (λ x. options_of (early_of opened time)
+      + options_of (record { window = x; must = must }) ≤ options_of opened)
+      time w.hi (Some (record { lo = max w.lo (time + 1); hi = w.hi })) None
       (λ less. omega (arith, from, to, less)) (λ past. last must later past)
     where
       last : (b : Bool) → (b ≡ true → time < w.hi) → w.hi ≤ time

@@ -1,6 +1,6 @@
 -- Where each bound reaches its own cutoff, the least of them reaches the last cutoff.
 use Rattle.std.proofs.Common.{◌≡◌, ◌⊎◌, ℕ, zero, suc, ◌<◌, ◌≤◌, Bool, true, false, not, int_lt, List, [], ◌∷◌, length, get_or, slice_get, All, Option, None, Some, ℤ, ◌≤ℤ◌, inl, inr, refl, ap, arith}
-use Rattle.std.proofs.lemmas.Bool.{cases_eq}
+use Rattle.std.proofs.lemmas.Bool.{cases_eq, false≢true}
 use Rattle.std.proofs.lemmas.Int.{ints}
 use Rattle.std.proofs.lemmas.Option.{get_or_from_slice_get}
 use Rattle.std.specs.Int.{int_min}
@@ -31,12 +31,12 @@ Reaches (Some cutoff) (AtLeast least) = cutoff ≤ℤ least
 pub reaches_from : (cutoff : Option ℤ) (bound : Bound) → is_reached cutoff bound ≡ true
     → Reaches cutoff bound
 reaches_from cutoff NoPlan is = tt
-reaches_from None (AtLeast least) is = absurd (let e : false ≡ true = is in let none : ⊥ = cc in none)
+reaches_from None (AtLeast least) is = absurd (false≢true is)
 reaches_from (Some cutoff) (AtLeast least) is = less_isnt least cutoff (by (int_lt least cutoff) is)
   where
     by : (b : Bool) → not b ≡ true → b ≡ false
     by false is = refl
-    by true is = absurd (let e : false ≡ true = is in let none : ⊥ = cc in none)
+    by true is = absurd (false≢true is)
 
 reaches_lesser : (cutoff : Option ℤ) (a b : Bound) → Reaches cutoff a → Reaches cutoff b
     → Reaches cutoff (lesser a b)
@@ -58,7 +58,7 @@ reaches_least cutoff (bound ∷ bounds) each =
     reaches_lesser cutoff bound (least_of bounds) (each 0 (omega arith))
     (reaches_least cutoff bounds (λ k below. each (suc k) (omega (arith, below))))
 
--- the later cutoff is no higher, where there was one
+-- where there was a cutoff, the later one is no higher
 abbrev pub IsLowered : Option ℤ → Option ℤ → Type 0
 IsLowered None later = Unit {0}
 IsLowered (Some before) None = ⊥
@@ -110,7 +110,7 @@ module _ (parts : Parts) where
   last_lowered (plan ∷ plans) cheaper (suc j) within =
       lowered_to (plan ∷ plans) cheaper j (length plans) (omega (arith, within)) (omega arith)
 
-  -- and a bound allows it
+  -- what is allowed by a bound on the root: the last plan is in it
   abbrev pub AllowsLast : Bound → Option ℤ → Type 0
   AllowsLast bound None = Unit {0}
   AllowsLast bound (Some cutoff) = Allows cutoff bound
@@ -121,10 +121,11 @@ module _ (parts : Parts) where
   last_allowed root [] bound inside is = tt
   last_allowed root (plan ∷ plans) bound inside is =
       let last = item_there (plan ∷ plans) (length plans) (omega arith) in
-      let here = All-item (IsPlanIn parts root) (plan ∷ plans) (length plans) last.0 inside last.1 in
+      let here =
+      All-item (IsPlanIn parts root) (plan ∷ plans) (length plans) last.0 inside last.1 in
       rw last.1 (bound_allows parts root bound last.0 is here.feasible here.inside)
 
-  -- a bound that reaches what it allows is it
+  -- a bound that reaches a cutoff and allows it is it
   pub bound_closed : (cutoff : Option ℤ) (bound : Bound) → Reaches cutoff bound
       → AllowsLast bound cutoff → bound ≡ bound_of_cost cutoff
   bound_closed None NoPlan reached allowed = refl

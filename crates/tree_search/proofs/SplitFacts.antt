@@ -1,4 +1,4 @@
--- The product of the options of a box: what a split shares out, and what is left in a box within.
+-- The product of all options of a box: what a split shares out, and that a box within has no more.
 use Rattle.std.proofs.Common.{◌≡◌, ℕ, ◌+◌, ◌<◌, ◌≤◌, refl, arith}
 use Rattle.time_windows.specs.declared.access.Access.{Access}
 use Rattle.time_windows.specs.Boxes.{Box, IsWithin, options_of}
@@ -47,8 +47,9 @@ module _ (flight node : ℕ) (access : Access) (box : Box) where
 
   changed_else : (f n : ℕ) → (f ≡ flight → n ≡ node → ⊥)
       → options_of (changed_at flight node access box f n) ≡ options_of (box f n)
-  changed_else f n apart = changed_cases (λ a. options_of a ≡ options_of (box f n)) flight node access
-      box f n (λ same too. absurd (apart same too)) (λ _. refl)
+  changed_else f n apart =
+      changed_cases (λ a. options_of a ≡ options_of (box f n)) flight node access box f n
+      (λ same too. absurd (apart same too)) (λ _. refl)
 
   changed_some : 1 ≤ options_of access → HasSome box → HasSome (changed_at flight node access box)
   changed_some one some f n = changed_cases (λ a. 1 ≤ options_of a) flight node access box f n
