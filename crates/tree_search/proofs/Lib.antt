@@ -1,6 +1,14 @@
+pub mod BoundFacts
 pub mod CompleteFacts
+pub mod CreditFacts
 pub mod DraftFacts
+pub mod EnoughFacts
 pub mod GreedyFacts
+pub mod OptionFacts
 pub mod PartFacts
+pub mod ProductFacts
+pub mod ReachFacts
+pub mod SoundFacts
+pub mod SplitFacts
 pub mod VisitFacts
 pub mod WayFacts

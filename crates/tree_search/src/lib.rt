@@ -4,8 +4,12 @@
 mod branching;
 mod draft;
 mod found;
+mod laws;
+mod searching;
 mod seeing;
 mod walk;
 
-pub use walk::Branch;
 pub use found::{Bounds, Budget, Counts, Found, Plans};
+pub use laws::{enough_nodes_close, search_records_are_bounds};
+pub use searching::search;
+pub use walk::Branch;

@@ -1,0 +1,55 @@
+-- The bound of a search record is one: a plan of the root that keeps every rule is in the box of a
+-- leaf, whose bound allows what it costs.
+use Rattle.std.proofs.Common.{List, get_or, sym, subst}
+use Rattle.flow_types.specs.declared.bound.Bound.{Bound}
+use Rattle.flow_types.specs.declared.bound.Bound.TheVariants.{AtLeast, NoPlan}
+use Rattle.flow_types.specs.declared.parts.Parts.{Parts}
+use Rattle.flow_types.specs.declared.plan.Stop.{Stop}
+use Rattle.flow_types.specs.Costs.{plan_cost}
+use Rattle.flow_types.specs.Feasible.{IsFeasible}
+use Rattle.flow_types.specs.Valid.{IsScenario}
+use Rattle.time_windows.specs.Boxes.{Box, IsInBox}
+use Rattle.time_windows.proofs.PlanFacts.{plan_kept}
+use Rattle.branch_tree.proofs.ForestFacts.{in_tree_leaf}
+use Rattle.dual_leaf.specs.Leaf.{IsBoundOn}
+use Rattle.dual_leaf.proofs.LeafFacts.{leaf_bounds}
+use Rattle.tree_search.specs.declared.found.Budget.{Budget}
+use Rattle.tree_search.specs.declared.found.Found.{Found}
+use Rattle.tree_search.specs.Nodes.{IsNodeAt}
+use Rattle.tree_search.specs.Records.{IsSearchRecord}
+use Rattle.tree_search.proofs.BoundFacts.{Allows, allows_least}
+
+-- a bound on a box, by plans
+pub bound_allows : (parts : Parts) (box : Box) (bound : Bound) (plan : List (List Stop))
+    → IsBoundOn parts box bound → IsFeasible parts plan → IsInBox box plan
+    → Allows (plan_cost parts.tables parts.flights plan) bound
+bound_allows parts box NoPlan plan is feasible inside = is plan feasible inside
+bound_allows parts box (AtLeast least) plan is feasible inside = is plan feasible inside
+
+bound_from : (parts : Parts) (box : Box) (bound : Bound)
+    → ((plan : List (List Stop)) → IsFeasible parts plan → IsInBox box plan
+    → Allows (plan_cost parts.tables parts.flights plan) bound)
+    → IsBoundOn parts box bound
+bound_from parts box NoPlan allows = allows
+bound_from parts box (AtLeast least) allows = allows
+
+module _ (parts : Parts) (root : Box) (budget : Budget) (found : Found)
+    (valid : IsScenario parts) (searched : IsSearchRecord parts root budget found) where
+  plan_allowed : (plan : List (List Stop)) → IsFeasible parts plan → IsInBox root plan
+      → Allows (plan_cost parts.tables parts.flights plan) found.bound
+  plan_allowed plan feasible inside =
+      let kept : IsInBox searched.tight plan =
+      plan_kept parts valid plan root feasible.trips feasible.turns searched.tight
+      searched.tight_is inside in
+      let leaf =
+      in_tree_leaf parts
+      (IsNodeAt parts budget.limits found.plans found.counts found.bounds) valid plan
+      feasible.trips feasible.turns searched.tight found.tree searched.tree kept in
+      subst (Allows (plan_cost parts.tables parts.flights plan)) (sym searched.bound_is)
+      (allows_least (plan_cost parts.tables parts.flights plan) found.bounds leaf.number
+      (bound_allows parts leaf.box (get_or found.bounds leaf.number NoPlan) plan
+      (leaf_bounds parts leaf.box leaf.leaf (get_or found.bounds leaf.number NoPlan) valid
+      leaf.here.inside leaf.here.bound_is) feasible leaf.inside))
+
+  pub record_bounds : IsBoundOn parts root found.bound
+  record_bounds = bound_from parts root found.bound plan_allowed
