@@ -32,8 +32,8 @@ fn choice_of(boxes: &Boxes, flight: u32) -> Option<Branch>
         (λ branch. (branch.flight ≡ flight)
             × IsBranching (box_of boxes.now flight branch.node) branch.time) }
 {
-    for node in 0..MOST_NODES {
-        let node = node as u16;
+    for at in 0..MOST_NODES {
+        let node = at as u16;
         if let Some(time) = middle_of(boxes.access(flight, node)) {
             return Some(Branch { flight, node, time });
         }
