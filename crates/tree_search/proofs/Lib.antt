@@ -8,6 +8,7 @@ pub mod OptionFacts
 pub mod PartFacts
 pub mod ProductFacts
 pub mod ReachFacts
+pub mod SearchFacts
 pub mod SeenFacts
 pub mod SoundFacts
 pub mod SplitFacts

@@ -16,8 +16,8 @@ use Rattle.tree_search.specs.Ways.{ArePartsOf, ArePending, AreSteps, IsPartOf, W
 abbrev pub planned_in : Draft → Way → ℕ
 planned_in draft way = length draft.nodes + suc (waiting_in way.steps)
 
--- in the midst: the present box is still to be seen
-pub record IsSearching (parts : Parts) (budget : Budget) (way : Way) (draft : Draft)
+-- at a box that is still to be seen
+pub record IsArrived (parts : Parts) (budget : Budget) (way : Way) (draft : Draft)
     : Type 0 where
   pub made : IsMadeFor parts way.present
   pub tight : IsTight parts (box_of way.present)
@@ -26,11 +26,16 @@ pub record IsSearching (parts : Parts) (budget : Budget) (way : Way) (draft : Dr
   pub parts_of : ArePartsOf (top_box way) way.above
   pub draft_is : IsDraft parts (top_box way) draft
   pub best : IsBest parts draft
-  pub tried : IsTried parts (box_of way.present) draft
   pub whole : (boxes : List Box) → ArePending parts way.above way.steps boxes
       → Completes parts budget.limits (top_box way) draft (box_of way.present ∷ boxes)
   pub room : planned_in draft way ≤ budget.nodes
   pub unspent : planned_in draft way + 2 ≤ budget.nodes → AreReached draft
+
+-- and its greedy plan was offered
+pub record IsSearching (parts : Parts) (budget : Budget) (way : Way) (draft : Draft)
+    : Type 0 where
+  pub arrived : IsArrived parts budget way draft
+  pub tried : IsTried parts (box_of way.present) draft
 
 -- at the end: the tree is whole
 pub record IsSearched (parts : Parts) (budget : Budget) (top : Box) (draft : Draft)
@@ -48,6 +53,17 @@ pub record IsGoneOn (parts : Parts) (budget : Budget) (old : Draft) (top : Box) 
   pub searching : IsSearching parts budget way new
   pub same : top_box way ≡ top
   pub longer : length new.nodes ≡ suc (length old.nodes)
+
+-- the same before its greedy plan is offered
+pub record IsAtNext (parts : Parts) (budget : Budget) (old : Draft) (top : Box) (way : Way)
+    (new : Draft) : Type 0 where
+  pub arrived : IsArrived parts budget way new
+  pub same : top_box way ≡ top
+  pub longer : length new.nodes ≡ suc (length old.nodes)
+
+abbrev pub IsLeft : Parts → Budget → Way → Draft → Way → Draft → Bool → Type 0
+IsLeft parts budget way old next new true = IsAtNext parts budget old (top_box way) next new
+IsLeft parts budget way old next new false = IsSearched parts budget (top_box way) new
 
 abbrev pub IsStepped : Parts → Budget → Way → Draft → Way → Draft → Bool → Type 0
 IsStepped parts budget way old next new true =

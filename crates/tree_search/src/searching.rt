@@ -1,20 +1,23 @@
 //! The search.
-ghost use Rattle.std.specs.Prelude.{◌≡◌, ◌<◌, IfOk, OnOk, [], None};
+ghost use Rattle.std.specs.Prelude.{◌≡◌, ◌∷◌, ◌+◌, ◌<◌, ◌≤◌, ◌↔◌, IsTrue, IfOk, OnOk};
+ghost use Rattle.branch_tree.specs.declared.tree.TreeNode.TheVariants.{Leaf as LeafNode, Split as SplitNode};
 ghost use Rattle.dual_leaf.specs.Leaf.{IsBoundOn};
-ghost use Rattle.dual_leaf.specs.Work.{IsRoomFor};
 ghost use Rattle.flow_types.specs.Scenario.{parts_of};
+ghost use Rattle.flow_types.specs.declared.bound.Bound.TheVariants.{NoPlan};
 ghost use Rattle.time_windows.specs.Held.{IsMadeFor, box_of};
+ghost use Rattle.time_windows.specs.Splits.{early_branch};
+ghost use Rattle.time_windows.specs.Tight.{IsTightened};
+ghost use Rattle.tree_search.specs.declared.walk.Step.TheVariants.{Early};
+ghost use Rattle.tree_search.specs.Drafts.{IsNoted};
 ghost use Rattle.tree_search.specs.Records.{IsSearchRecord};
-ghost use Rattle.tree_search.specs.Searching.{IsSearched, IsSearching, IsStepped};
+ghost use Rattle.tree_search.specs.Searching.{planned_in};
 ghost use Rattle.tree_search.specs.Visits.{IsVisited};
-ghost use Rattle.tree_search.specs.Ways.{top_box};
+ghost use Rattle.tree_search.specs.Ways.{AreSteps, IsFork, IsNextOr};
 
 use crate::draft::{Draft, note, offer};
 use crate::found::{Budget, Found};
-use crate::seeing::{Seen, see};
 use crate::walk::{Branch, Walk};
-use branch_tree::TreeNode;
-use dual_leaf::LeafWork;
+use branch_tree::{Leaf, TreeNode};
 use flow_types::{Bound, OutOfMemory, Scenario};
 use greedy_plan::{Greedy, first_plan};
 use std::alloc::Global;
@@ -34,6 +37,64 @@ fn visit(
         Greedy::Plan(plan) => offer(draft, s, plan),
         Greedy::Stuck { .. } => Ok(()),
     }
+}
+
+// Whether there is room in the budget for two nodes more, beside those that are there, the present
+// box and those that wait.
+fn has_room(budget: Budget, walk: &Walk, draft: &Draft) -> bool
+    requires { planned_in draft.now walk.now ≤ budget.nodes }
+    ensures { IsTrue result ↔ planned_in draft.now walk.now + 2 ≤ budget.nodes }
+{
+    budget.nodes - draft.nodes.items().len() as u64 - walk.waiting() > 2
+}
+
+// Writes the leaf down, and goes to the next box that waits, if there is one.
+fn leave(
+    s: &Scenario,
+    walk: &mut Walk,
+    draft: &mut Draft,
+    leaf: Leaf,
+    bound: Bound,
+) -> Result<bool, OutOfMemory>
+    requires { AreSteps (parts_of s.now) walk.old.above walk.old.steps }
+    ensures noted { OnOk result (IsNoted (LeafNode leaf) bound draft.old draft.new) }
+    ensures next { IfOk result (IsNextOr (parts_of s.now) walk.old walk.new) }
+{
+    note(draft, TreeNode::Leaf(leaf), bound)?;
+    walk.next(s)
+}
+
+// Writes the split down, and goes to its early side.
+fn split(
+    s: &Scenario,
+    walk: &mut Walk,
+    draft: &mut Draft,
+    branch: Branch,
+) -> Result<(), OutOfMemory>
+    requires { IsFork (parts_of s.now) walk.old.present branch }
+    ensures noted { OnOk result (IsNoted
+        (SplitNode branch.flight branch.node branch.time draft.old.best) NoPlan draft.old
+        draft.new) }
+    ensures above { OnOk result (walk.new.above ≡ walk.old.present ∷ walk.old.above) }
+    ensures steps { OnOk result (walk.new.steps ≡ Early branch ∷ walk.old.steps) }
+    ensures tight { OnOk result (IsTightened (parts_of s.now)
+        (early_branch branch.flight branch.node branch.time (box_of walk.old.present))
+        (box_of walk.new.present)) }
+    ensures made { OnOk result (IsMadeFor (parts_of s.now) walk.new.present) }
+{
+    let Branch { flight, node, time } = branch;
+    let cutoff = draft.best;
+    note(
+        draft,
+        TreeNode::Split {
+            flight,
+            node,
+            time,
+            cutoff,
+        },
+        Bound::NoPlan,
+    )?;
+    walk.split(s, branch)
 }
 
 /// Searches the box.

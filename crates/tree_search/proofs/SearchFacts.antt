@@ -1,0 +1,213 @@
+-- Step by step: after a leaf the search goes on at the next box that waits, or it is at its end; after
+-- a split it goes on at the early side.
+use Rattle.std.proofs.Common.{◌≡◌, ℕ, suc, ◌+◌, ◌≤◌, Bool, true, List, [], ◌∷◌, length, refl, sym, ◌∙◌, ap, subst, length-append, arith}
+use Rattle.flow_types.specs.declared.bound.Bound.{Bound}
+use Rattle.flow_types.specs.declared.bound.Bound.TheVariants.{NoPlan}
+use Rattle.flow_types.specs.declared.parts.Parts.{Parts}
+use Rattle.flow_types.specs.Valid.{IsScenario}
+use Rattle.time_windows.specs.Boxes.{Box}
+use Rattle.time_windows.specs.Held.{Held, IsMadeFor, box_of}
+use Rattle.time_windows.specs.Splits.{early_branch}
+use Rattle.time_windows.specs.Tight.{IsTightened}
+use Rattle.branch_tree.specs.declared.leaf.Leaf.{Leaf as LeafKind}
+use Rattle.branch_tree.specs.declared.tree.TreeNode.{TreeNode}
+use Rattle.branch_tree.specs.declared.tree.TreeNode.TheVariants.{Leaf, Split}
+use Rattle.tree_search.specs.declared.draft.Draft.{Draft}
+use Rattle.tree_search.specs.declared.found.Budget.{Budget}
+use Rattle.tree_search.specs.declared.walk.Branch.{Branch}
+use Rattle.tree_search.specs.declared.walk.Step.{Step}
+use Rattle.tree_search.specs.declared.walk.Step.TheVariants.{Early}
+use Rattle.tree_search.specs.Drafts.{Completes, IsBest, IsDraft, IsNoted}
+use Rattle.tree_search.specs.Nodes.{IsNodeWith}
+use Rattle.tree_search.specs.Searching.{IsArrived, IsAtNext, IsSearched, IsSearching, planned_in}
+use Rattle.tree_search.specs.Seen.{IsLeafSeen, IsSplitSeen}
+use Rattle.tree_search.specs.Visits.{IsVisited}
+use Rattle.tree_search.specs.Ways.{ArePartsOf, ArePending, AreSteps, IsNext, IsOver, IsPartOf, Way, top_box}
+use Rattle.tree_search.proofs.CompleteFacts.{all_complete, leaf_complete, split_complete}
+use Rattle.tree_search.proofs.DraftFacts.{noted_best, noted_draft, noted_still}
+use Rattle.tree_search.proofs.PartFacts.{in_early}
+use Rattle.tree_search.proofs.VisitFacts.{visited_best, visited_complete, visited_draft, visited_same, visited_still, visited_tried}
+
+module _ (parts : Parts) (budget : Budget) (way : Way) (old new : Draft)
+    (arrived : IsArrived parts budget way old) where
+  -- a node more
+  one_longer : (node : TreeNode) (bound : Bound) → IsNoted node bound old new
+      → length new.nodes ≡ suc (length old.nodes)
+  one_longer node bound noted =
+      let long = ap length noted.nodes in
+      omega (arith, long, length-append old.nodes (node ∷ []))
+
+  module _ (more : Bool) (room : planned_in old way + 2 ≤ budget.nodes → more ≡ true) where
+    module _ (leaf : LeafKind) (bound : Bound)
+        (seen : IsLeafSeen parts budget.limits old.best more (box_of way.present) leaf bound)
+        (noted : IsNoted (Leaf leaf) bound old new) where
+      is_node : IsNodeWith parts budget.limits old.best bound (box_of way.present) (Leaf leaf)
+      is_node = seen.node
+
+      leaf_whole : (boxes : List Box) → ArePending parts way.above way.steps boxes
+          → Completes parts budget.limits (top_box way) new boxes
+      leaf_whole boxes pending =
+          leaf_complete parts budget.limits (top_box way) (box_of way.present) leaf boxes old new
+          bound arrived.draft_is.counted arrived.draft_is.bounded
+          (subst (λ cutoff. IsNodeWith parts budget.limits cutoff bound (box_of way.present)
+          (Leaf leaf)) arrived.best is_node) noted (arrived.whole boxes pending)
+
+      pub leaf_next : (next : Way) → IsNext parts way next
+          → IsAtNext parts budget old (top_box way) next new
+      leaf_next next on = record {
+        arrived = record {
+          made = on.made;
+          tight = on.tight;
+          part = subst (λ top. IsPartOf top next.present) (sym same) are_parts.0;
+          steps = on.steps;
+          parts_of = subst (λ top. ArePartsOf top next.above) (sym same) are_parts.1;
+          draft_is = subst (λ top. IsDraft parts top new) (sym same)
+              (noted_draft parts (top_box way) old new (Leaf leaf) bound arrived.draft_is noted);
+          best = noted_best parts (top_box way) old new (Leaf leaf) bound arrived.best noted;
+          whole = λ boxes pending. subst
+              (λ top. Completes parts budget.limits top new (box_of next.present ∷ boxes)) (sym same)
+              (leaf_whole (box_of next.present ∷ boxes) (on.pending boxes pending));
+          room = omega (arith, arrived.room, on.fewer, one_longer (Leaf leaf) bound noted);
+          unspent = λ left.
+              let enough : planned_in old way + 2 ≤ budget.nodes =
+              omega (arith, left, on.fewer, one_longer (Leaf leaf) bound noted) in
+              noted_still parts (top_box way) old new (Leaf leaf) bound noted
+              (arrived.unspent enough) (seen.reached (room enough));
+        };
+        same = same;
+        longer = one_longer (Leaf leaf) bound noted;
+      }
+        where
+          same : top_box next ≡ top_box way
+          same = ap box_of on.top
+
+          are_parts : IsPartOf (top_box way) next.present × ArePartsOf (top_box way) next.above
+          are_parts = on.parts_of (top_box way) arrived.parts_of
+
+      pub leaf_over : IsOver parts way → IsSearched parts budget (top_box way) new
+      leaf_over over = record {
+        draft_is =
+            noted_draft parts (top_box way) old new (Leaf leaf) bound arrived.draft_is noted;
+        best = noted_best parts (top_box way) old new (Leaf leaf) bound arrived.best noted;
+        tree = all_complete parts budget.limits (top_box way) new (leaf_whole [] over.none);
+        room = omega (arith, arrived.room, over.fewer, one_longer (Leaf leaf) bound noted);
+        unspent = λ left.
+            let enough : planned_in old way + 2 ≤ budget.nodes =
+            omega (arith, left, over.fewer, one_longer (Leaf leaf) bound noted) in
+            noted_still parts (top_box way) old new (Leaf leaf) bound noted
+            (arrived.unspent enough) (seen.reached (room enough));
+      }
+
+  -- after a split
+  module _ (more : Bool) (room : more ≡ true → planned_in old way + 2 ≤ budget.nodes)
+      (branch : Branch)
+      (seen : IsSplitSeen parts budget.limits old.best more (box_of way.present) branch)
+      (noted : IsNoted (Split branch.flight branch.node branch.time old.best) NoPlan old new)
+      (after : Held)
+      (tight : IsTightened parts (early_branch branch.flight branch.node branch.time
+      (box_of way.present)) (box_of after))
+      (made : IsMadeFor parts after) where
+    enough : planned_in old way + 2 ≤ budget.nodes
+    enough = room seen.room
+
+    abbrev down : Way
+    down = record {
+      present = after;
+      above = way.present ∷ way.above;
+      steps = Early branch ∷ way.steps;
+    }
+
+    split_whole : (boxes : List Box) → ArePending parts down.above down.steps boxes
+        → Completes parts budget.limits (top_box way) new (box_of after ∷ boxes)
+    split_whole [] pending = absurd pending
+    split_whole (late ∷ boxes) (late_is, pending) =
+        split_complete parts budget.limits (top_box way) (box_of way.present) (box_of after) late
+        branch.flight branch.node branch.time old.best boxes old new NoPlan
+        (record {
+          there = seen.branch_is.there;
+          branching = seen.branch_is.branching;
+          early_is = tight;
+          late_is = late_is;
+        })
+        arrived.draft_is.counted arrived.draft_is.bounded
+        (subst (λ cutoff. IsNodeWith parts budget.limits cutoff NoPlan (box_of way.present)
+        (Split branch.flight branch.node branch.time old.best)) arrived.best seen.node) noted
+        (arrived.whole boxes pending)
+
+    split_next : IsAtNext parts budget old (top_box way) down new
+    split_next = record {
+      arrived = record {
+        made = made;
+        tight = tight.tight;
+        part = λ plan inside.
+            arrived.part plan (in_early branch.flight branch.node branch.time (box_of way.present)
+            (box_of after) plan tight.within inside);
+        steps = (record {
+          made = arrived.made;
+          there = seen.branch_is.there;
+          branching = seen.branch_is.branching;
+        }, arrived.steps);
+        parts_of = (arrived.part, arrived.parts_of);
+        draft_is = noted_draft parts (top_box way) old new
+            (Split branch.flight branch.node branch.time old.best) NoPlan arrived.draft_is noted;
+        best = noted_best parts (top_box way) old new
+            (Split branch.flight branch.node branch.time old.best) NoPlan arrived.best noted;
+        whole = split_whole;
+        room = omega (arith, enough, one_longer
+            (Split branch.flight branch.node branch.time old.best) NoPlan noted);
+        unspent = λ left.
+            noted_still parts (top_box way) old new
+            (Split branch.flight branch.node branch.time old.best) NoPlan noted
+            (arrived.unspent enough) refl;
+      };
+      same = refl;
+      longer = one_longer (Split branch.flight branch.node branch.time old.best) NoPlan noted;
+    }
+
+    pub split_on : (next : Way) → next.present ≡ after → next.above ≡ way.present ∷ way.above
+        → next.steps ≡ Early branch ∷ way.steps
+        → IsAtNext parts budget old (top_box way) next new
+    split_on next present above steps =
+        subst (λ (h : Held). IsAtNext parts budget old (top_box way) (record {
+          present = h;
+          above = next.above;
+          steps = next.steps;
+        }) new) (sym present)
+        (subst (λ (l : List Held). IsAtNext parts budget old (top_box way) (record {
+          present = after;
+          above = l;
+          steps = next.steps;
+        }) new) (sym above)
+        (subst (λ (l : List Step). IsAtNext parts budget old (top_box way) (record {
+          present = after;
+          above = way.present ∷ way.above;
+          steps = l;
+        }) new) (sym steps) split_next))
+
+-- the greedy plan of the box was offered
+pub visited_on : (parts : Parts) (budget : Budget) (way : Way) (before old new : Draft)
+    (top : Box) → IsScenario parts → IsAtNext parts budget before top way old
+    → IsVisited parts (box_of way.present) old new → IsSearching parts budget way new
+visited_on parts budget way before old new top valid next visited =
+    let arrived = next.arrived in
+    let same = ap length (visited_same parts (box_of way.present) old new visited).nodes in
+    record {
+      arrived = record {
+        made = arrived.made;
+        tight = arrived.tight;
+        part = arrived.part;
+        steps = arrived.steps;
+        parts_of = arrived.parts_of;
+        draft_is = visited_draft parts (box_of way.present) old new (top_box way) arrived.part
+            arrived.draft_is arrived.best visited;
+        best = visited_best parts (box_of way.present) old new arrived.best visited;
+        whole = λ boxes pending.
+            visited_complete parts (box_of way.present) old new budget.limits (top_box way)
+            (box_of way.present ∷ boxes) visited (arrived.whole boxes pending);
+        room = omega (arith, same, arrived.room);
+        unspent = λ left.
+            visited_still parts (box_of way.present) old new visited
+            (arrived.unspent (omega (arith, same, left)));
+      };
+      tried = visited_tried parts (box_of way.present) old new valid visited;
+    }
