@@ -1,6 +1,6 @@
 -- Step by step: after a leaf the search goes on at the next box that waits, or it is at its end; after
 -- a split it goes on at the early side.
-use Rattle.std.proofs.Common.{◌≡◌, ℕ, suc, ◌+◌, ◌≤◌, Bool, true, List, [], ◌∷◌, length, refl, sym, ◌∙◌, ap, subst, length-append, arith}
+use Rattle.std.proofs.Common.{◌≡◌, ℕ, suc, ◌+◌, ◌≤◌, Bool, false, true, List, [], ◌∷◌, length, refl, sym, ◌∙◌, ap, subst, length-append, arith}
 use Rattle.flow_types.specs.declared.bound.Bound.{Bound}
 use Rattle.flow_types.specs.declared.bound.Bound.TheVariants.{NoPlan}
 use Rattle.flow_types.specs.declared.parts.Parts.{Parts}
@@ -19,10 +19,10 @@ use Rattle.tree_search.specs.declared.walk.Step.{Step}
 use Rattle.tree_search.specs.declared.walk.Step.TheVariants.{Early}
 use Rattle.tree_search.specs.Drafts.{Completes, IsBest, IsDraft, IsNoted}
 use Rattle.tree_search.specs.Nodes.{IsNodeWith}
-use Rattle.tree_search.specs.Searching.{IsArrived, IsAtNext, IsSearched, IsSearching, planned_in}
+use Rattle.tree_search.specs.Searching.{IsArrived, IsAtNext, IsGoneOn, IsLeft, IsSearched, IsSearching, planned_in}
 use Rattle.tree_search.specs.Seen.{IsLeafSeen, IsSplitSeen}
 use Rattle.tree_search.specs.Visits.{IsVisited}
-use Rattle.tree_search.specs.Ways.{ArePartsOf, ArePending, AreSteps, IsNext, IsOver, IsPartOf, Way, top_box}
+use Rattle.tree_search.specs.Ways.{ArePartsOf, ArePending, AreSteps, IsNext, IsNextOr, IsOver, IsPartOf, Way, top_box}
 use Rattle.tree_search.proofs.CompleteFacts.{all_complete, leaf_complete, split_complete}
 use Rattle.tree_search.proofs.DraftFacts.{noted_best, noted_draft, noted_still}
 use Rattle.tree_search.proofs.PartFacts.{in_early}
@@ -211,3 +211,24 @@ visited_on parts budget way before old new top valid next visited =
       };
       tried = visited_tried parts (box_of way.present) old new valid visited;
     }
+
+pub left_leaf : (parts : Parts) (budget : Budget) (way next : Way) (old new : Draft) (more on : Bool)
+    (leaf : LeafKind) (bound : Bound) → IsArrived parts budget way old
+    → (planned_in old way + 2 ≤ budget.nodes → more ≡ true)
+    → IsLeafSeen parts budget.limits old.best more (box_of way.present) leaf bound
+    → IsNoted (Leaf leaf) bound old new → IsNextOr parts way next on
+    → IsLeft parts budget way old next new on
+left_leaf parts budget way next old new more true leaf bound arrived room seen noted is =
+    leaf_next parts budget way old new arrived more room leaf bound seen noted next is
+left_leaf parts budget way next old new more false leaf bound arrived room seen noted is =
+    leaf_over parts budget way old new arrived more room leaf bound seen noted is
+
+pub gone_on : (parts : Parts) (budget : Budget) (way : Way) (before old new : Draft) (top : Box)
+    → IsScenario parts → IsAtNext parts budget before top way old
+    → IsVisited parts (box_of way.present) old new → IsGoneOn parts budget before top way new
+gone_on parts budget way before old new top valid next visited = record {
+  searching = visited_on parts budget way before old new top valid next visited;
+  same = next.same;
+  longer =
+      ap length (visited_same parts (box_of way.present) old new visited).nodes ∙ next.longer;
+}

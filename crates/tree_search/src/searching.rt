@@ -2,6 +2,7 @@
 ghost use Rattle.std.specs.Prelude.{◌≡◌, ◌∷◌, ◌+◌, ◌<◌, ◌≤◌, ◌↔◌, IsTrue, IfOk, OnOk};
 ghost use Rattle.branch_tree.specs.declared.tree.TreeNode.TheVariants.{Leaf as LeafNode, Split as SplitNode};
 ghost use Rattle.dual_leaf.specs.Leaf.{IsBoundOn};
+ghost use Rattle.dual_leaf.specs.Work.{IsRoomFor};
 ghost use Rattle.flow_types.specs.Scenario.{parts_of};
 ghost use Rattle.flow_types.specs.declared.bound.Bound.TheVariants.{NoPlan};
 ghost use Rattle.time_windows.specs.Held.{IsMadeFor, box_of};
@@ -10,14 +11,16 @@ ghost use Rattle.time_windows.specs.Tight.{IsTightened};
 ghost use Rattle.tree_search.specs.declared.walk.Step.TheVariants.{Early};
 ghost use Rattle.tree_search.specs.Drafts.{IsNoted};
 ghost use Rattle.tree_search.specs.Records.{IsSearchRecord};
-ghost use Rattle.tree_search.specs.Searching.{planned_in};
+ghost use Rattle.tree_search.specs.Searching.{IsLeft, IsSearching, IsStepped, planned_in};
 ghost use Rattle.tree_search.specs.Visits.{IsVisited};
 ghost use Rattle.tree_search.specs.Ways.{AreSteps, IsFork, IsNextOr};
 
 use crate::draft::{Draft, note, offer};
 use crate::found::{Budget, Found};
+use crate::seeing::{Seen, see};
 use crate::walk::{Branch, Walk};
 use branch_tree::{Leaf, TreeNode};
+use dual_leaf::LeafWork;
 use flow_types::{Bound, OutOfMemory, Scenario};
 use greedy_plan::{Greedy, first_plan};
 use std::alloc::Global;
@@ -95,6 +98,66 @@ fn split(
         Bound::NoPlan,
     )?;
     walk.split(s, branch)
+}
+
+// Sees the present box, writes down what is seen, and goes to the next one, if there is one.
+fn go_on(
+    alloc: Global,
+    s: &Scenario,
+    budget: Budget,
+    work: &mut LeafWork,
+    walk: &mut Walk,
+    draft: &mut Draft,
+) -> Result<bool, OutOfMemory>
+    requires searching { IsSearching (parts_of s.now) budget walk.old draft.old }
+    requires work { IsRoomFor (parts_of s.now) work.old }
+    ensures left { IfOk result
+        (IsLeft (parts_of s.now) budget walk.old draft.old walk.new draft.new) }
+    ensures work { IsRoomFor (parts_of s.now) work.new }
+{
+    let more = has_room(budget, walk, draft);
+    let cutoff = draft.best;
+    let seen = see(
+        alloc,
+        s,
+        walk.boxes(),
+        work,
+        budget.limits,
+        cutoff,
+        more,
+    )?;
+    match seen {
+        Seen::Leaf { leaf, bound } => {
+            let next = leave(s, walk, draft, leaf, bound)?;
+            Ok(next)
+        }
+        Seen::Split(branch) => {
+            split(s, walk, draft, branch)?;
+            Ok(true)
+        }
+    }
+}
+
+// The same, and offers the greedy plan of the next box.
+fn step(
+    alloc: Global,
+    s: &Scenario,
+    budget: Budget,
+    work: &mut LeafWork,
+    walk: &mut Walk,
+    draft: &mut Draft,
+) -> Result<bool, OutOfMemory>
+    requires searching { IsSearching (parts_of s.now) budget walk.old draft.old }
+    requires work { IsRoomFor (parts_of s.now) work.old }
+    ensures stepped { IfOk result
+        (IsStepped (parts_of s.now) budget walk.old draft.old walk.new draft.new) }
+    ensures work { IsRoomFor (parts_of s.now) work.new }
+{
+    if !go_on(alloc, s, budget, work, walk, draft)? {
+        return Ok(false);
+    }
+    visit(alloc, s, walk.boxes(), draft)?;
+    Ok(true)
 }
 
 /// Searches the box.
