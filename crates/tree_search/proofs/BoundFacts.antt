@@ -1,6 +1,8 @@
 -- The least of bounds against a cost: which costs it allows, and which it reaches.
-use Rattle.std.proofs.Common.{ℕ, zero, suc, List, [], ◌∷◌, get_or, ℤ, ◌≤ℤ◌, arith}
+use Rattle.std.proofs.Common.{◌≡◌, ℕ, zero, suc, ◌+◌, ◌<◌, ◌≤◌, List, [], ◌∷◌, length, get_or, drop, ℤ, ◌≤ℤ◌, refl, sym, ◌∙◌, ap, arith}
 use Rattle.std.proofs.lemmas.Int.{ints}
+use Rattle.std.proofs.lemmas.List.{drop_all, drop_more}
+use Rattle.std.specs.Int.{int_min}
 use Rattle.exact_sums.proofs.LeastFacts.{least_of_two}
 use Rattle.flow_types.specs.declared.bound.Bound.{Bound}
 use Rattle.flow_types.specs.declared.bound.Bound.TheVariants.{AtLeast, NoPlan}
@@ -31,3 +33,52 @@ allows_least cost (bound ∷ bounds) zero allows =
     allows_lesser_left cost bound (least_of bounds) allows
 allows_least cost (bound ∷ bounds) (suc number) allows =
     allows_lesser_right cost bound (least_of bounds) (allows_least cost bounds number allows)
+
+lesser_then : (a b c : Bound) → lesser (lesser a b) c ≡ lesser a (lesser b c)
+lesser_then NoPlan b c = refl
+lesser_then (AtLeast a) NoPlan c = refl
+lesser_then (AtLeast a) (AtLeast b) NoPlan = refl
+lesser_then (AtLeast a) (AtLeast b) (AtLeast c) = ap (λ z. AtLeast z) same
+  where
+    same : int_min (int_min a b) c ≡ int_min a (int_min b c)
+    same =
+        let ab = least_of_two a b in
+        let bc = least_of_two b c in
+        let first = least_of_two (int_min a b) c in
+        let second = least_of_two a (int_min b c) in
+        omega (
+          arith,
+          ints,
+          ab.0,
+          ab.1,
+          ab.2,
+          bc.0,
+          bc.1,
+          bc.2,
+          first.0,
+          first.1,
+          first.2,
+          second.0,
+          second.1,
+          second.2,
+        )
+
+-- one bound more is less
+pub least_more : (least : Bound) (bounds : List Bound) (at : ℕ) (d : Bound)
+    → at < length bounds → lesser least (least_of (drop at bounds)) ≡ least_of bounds
+    → lesser (lesser least (get_or bounds at d)) (least_of (drop (at + 1) bounds))
+    ≡ least_of bounds
+least_more least bounds at d within is =
+    lesser_then least (get_or bounds at d) (least_of (drop (at + 1) bounds))
+    ∙ ap (λ (l : List Bound). lesser least (least_of l)) (sym (drop_more bounds at d within))
+    ∙ is
+
+pub least_all : (least : Bound) (bounds : List Bound) (at : ℕ) → length bounds ≤ at
+    → lesser least (least_of (drop at bounds)) ≡ least_of bounds → least ≡ least_of bounds
+least_all least bounds at past is =
+    sym (none least) ∙ ap (λ (l : List Bound). lesser least (least_of l))
+    (sym (drop_all at bounds past)) ∙ is
+  where
+    none : (b : Bound) → lesser b NoPlan ≡ b
+    none NoPlan = refl
+    none (AtLeast b) = refl

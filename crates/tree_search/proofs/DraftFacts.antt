@@ -1,8 +1,8 @@
 -- What plans that are offered, and nodes that are noted, leave of what is known.
-use Rattle.std.proofs.Common.{◌≡◌, ◌⊎◌, ℕ, zero, suc, ◌+◌, ◌<◌, ◌≤◌, Bool, true, false, not, int_lt, List, [], ◌∷◌, ◌++◌, length, slice_get, slice_index_or, All, AllPairs, Option, None, Some, ℤ, ◌≤ℤ◌, ◌<ℤ◌, inl, inr, refl, sym, ◌∙◌, ap, subst, length-append, arith}
+use Rattle.std.proofs.Common.{◌≡◌, ◌⊎◌, ℕ, zero, suc, ◌<◌, ◌≤◌, Bool, true, false, not, int_lt, List, [], ◌∷◌, ◌++◌, length, slice_get, slice_index_or, All, AllPairs, Option, None, Some, ℤ, ◌<ℤ◌, inl, inr, refl, sym, ◌∙◌, ap, subst, length-append, arith}
 use Rattle.std.proofs.lemmas.Bool.{cases_lt}
 use Rattle.std.proofs.lemmas.Int.{ints}
-use Rattle.std.proofs.lemmas.List.Elements.{All-nil, All-push, All-weaker}
+use Rattle.std.proofs.lemmas.List.Elements.{All-push, All-weaker}
 use Rattle.std.proofs.lemmas.List.Quantifiers.{all_pairs_push}
 use Rattle.std.proofs.lemmas.Option.{slice_get-get_or}
 use Rattle.flow_types.specs.declared.bound.Bound.{Bound}
@@ -16,9 +16,9 @@ use Rattle.relaxed_bound.specs.Reached.{is_reached}
 use Rattle.relaxed_bound.proofs.LicenceFacts.{unreached_is}
 use Rattle.scaled_simplex.proofs.Products.{isnt_less, less_isnt}
 use Rattle.tree_search.specs.declared.draft.Draft.{Draft}
-use Rattle.tree_search.specs.Drafts.{AreReached, IsBest, IsDraft, IsKept, IsLeftOut, IsNoted, IsOffered, IsSameTree}
+use Rattle.tree_search.specs.Drafts.{AreReached, IsBest, IsDraft, IsKept, IsNoted, IsOffered}
 use Rattle.tree_search.specs.Nodes.{cost_of, cutoff_after}
-use Rattle.tree_search.specs.Records.{IsCheaper, IsFirst, IsPlanIn}
+use Rattle.tree_search.specs.Records.{IsCheaper, IsPlanIn}
 
 abbrev Plan : Type 0
 Plan = List (List Stop)
@@ -54,7 +54,7 @@ module _ (parts : Parts) (plans : List Plan) where
   last_least cheaper cost (suc m) k d all within lower =
       let last_is = ap (cost_of parts) (slice_get-get_or plans m d (omega (arith, all))) in
       let below = unreached_is cost (price parts (slice_index_or plans m d))
-          (subst (λ o. is_reached o (AtLeast cost) ≡ false) last_is lower) in
+      (subst (λ o. is_reached o (AtLeast cost) ≡ false) last_is lower) in
       by below (cases_lt k m)
     where
       by : cost <ℤ price parts (slice_index_or plans m d) → (k < m) ⊎ (m ≤ k)
@@ -165,8 +165,14 @@ module _ (parts : Parts) (top : Box) (old new : Draft) where
         let counts = ap length noted.counts in
         let nodes = ap length noted.nodes in
         let few = draft.counted in
-        omega (arith, counts, nodes, few, length-append old.counts (length old.plans ∷ []),
-        length-append old.nodes (node ∷ []));
+        omega (
+          arith,
+          counts,
+          nodes,
+          few,
+          length-append old.counts (length old.plans ∷ []),
+          length-append old.nodes (node ∷ []),
+        );
     counts_to = subst (λ ps. All (λ count. count ≤ length ps) new.counts) (sym noted.plans)
         (subst (All (λ count. count ≤ length old.plans)) (sym noted.counts)
         (All-push (λ count. count ≤ length old.plans) old.counts (length old.plans)
@@ -178,8 +184,14 @@ module _ (parts : Parts) (top : Box) (old new : Draft) where
         let bounds = ap length noted.bounds in
         let nodes = ap length noted.nodes in
         let few = draft.bounded in
-        omega (arith, bounds, nodes, few, length-append old.bounds (bound ∷ []),
-        length-append old.nodes (node ∷ []));
+        omega (
+          arith,
+          bounds,
+          nodes,
+          few,
+          length-append old.bounds (bound ∷ []),
+          length-append old.nodes (node ∷ []),
+        );
   }
     where
       some : (ps : List Plan) (plan : Plan) → slice_get ps 0 ≡ Some plan → 1 ≤ length ps

@@ -1,14 +1,13 @@
 -- There is one greedy plan of a box at the most, and none where it is stuck.
-use Rattle.std.proofs.Common.{◌≡◌, ℕ, zero, suc, ◌+◌, ◌<◌, ◌≤◌, List, [], ◌∷◌, ◌++◌, length, take, slice_get, Some, inl, inr, refl, sym, ◌∙◌, ap, ap₂, subst, arith}
+use Rattle.std.proofs.Common.{◌≡◌, ℕ, zero, suc, ◌≤◌, List, [], ◌∷◌, ◌++◌, length, take, slice_get, Some, inl, inr, refl, sym, ◌∙◌, ap, ap₂, subst, arith}
 use Rattle.std.proofs.lemmas.Int.{ints}
 use Rattle.std.proofs.lemmas.List.{take_all}
 use Rattle.exact_sums.proofs.ItemFacts.{item_there}
 use Rattle.flow_types.specs.declared.parts.Parts.{Parts}
 use Rattle.flow_types.specs.declared.plan.Stop.{Stop}
-use Rattle.flow_types.specs.Costs.{trip_cost_at}
 use Rattle.time_windows.specs.Boxes.{Box, IsInBox}
 use Rattle.flight_routes.specs.TripOrder.{IsBefore, IsNoLater}
-use Rattle.greedy_plan.specs.Greedy.{AreChosen, IsChosen, IsGreedy, IsStuck, with_rest}
+use Rattle.greedy_plan.specs.Greedy.{AreChosen, IsChosen, IsGreedy, IsStuck}
 
 not_both : (a b : Stop) → IsBefore a b → IsBefore b a → ⊥
 not_both a b (inl less) (inl more) = omega (arith, less, more)
@@ -57,10 +56,10 @@ same_chosen parts box a b first second (suc n) in_a in_b =
     let x = item_there a n (omega (arith, in_a)) in
     let y = item_there b n (omega (arith, in_b)) in
     let rest = same_chosen parts box a b first second n (omega (arith, in_a))
-        (omega (arith, in_b)) in
+    (omega (arith, in_b)) in
     let same = one_chosen parts box (take n b) n x.0 y.0
-        (subst (λ trips. IsChosen parts box trips n x.0) rest (first n x.0 x.1))
-        (second n y.0 y.1) in
+    (subst (λ trips. IsChosen parts box trips n x.0) rest (first n x.0 x.1))
+    (second n y.0 y.1) in
     take_one a n x.0 x.1
     ∙ ap₂ (λ trips trip. trips ++ trip ∷ []) rest same
     ∙ sym (take_one b n y.0 y.1)
@@ -72,7 +71,7 @@ one_greedy parts box plan other first second =
     let other_long = second.whole in
     sym (take_all (length parts.flights) plan (omega (arith, long)))
     ∙ same_chosen parts box plan other first.chosen second.chosen (length parts.flights)
-        (omega (arith, long)) (omega (arith, other_long))
+    (omega (arith, long)) (omega (arith, other_long))
     ∙ take_all (length parts.flights) other (omega (arith, other_long))
 
 pub not_stuck : (parts : Parts) (box : Box) (kept : List (List Stop)) (flight : ℕ)
@@ -83,10 +82,10 @@ not_stuck parts box kept flight plan stuck greedy =
     let within = stuck.within in
     let trip = item_there plan flight (omega (arith, long, within)) in
     let same = same_chosen parts box plan kept greedy.chosen stuck.chosen flight
-        (omega (arith, long, within)) (omega (arith, count))
-        ∙ take_all flight kept (omega (arith, count)) in
+    (omega (arith, long, within)) (omega (arith, count))
+    ∙ take_all flight kept (omega (arith, count)) in
     stuck.none trip.0 (subst (λ trips. IsChosen parts box trips flight trip.0) same
-        (greedy.chosen flight trip.0 trip.1)).inside
+    (greedy.chosen flight trip.0 trip.1)).inside
 
 -- the greedy plan is in the box
 pub greedy_inside : (parts : Parts) (box : Box) (plan : List (List Stop))

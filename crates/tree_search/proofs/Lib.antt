@@ -1,8 +1,10 @@
+pub mod BeginFacts
 pub mod BoundFacts
 pub mod CompleteFacts
 pub mod CreditFacts
 pub mod DraftFacts
 pub mod EnoughFacts
+pub mod FoundFacts
 pub mod GreedyFacts
 pub mod OptionFacts
 pub mod PartFacts

@@ -1,7 +1,6 @@
 -- A plan of a side of a split, made tight, is a plan of the box.
-use Rattle.std.proofs.Common.{◌≡◌, ℕ, ◌≤◌, true, List, get_or, Option, None, Some, refl, sym, ◌∙◌, arith}
+use Rattle.std.proofs.Common.{◌≡◌, ℕ, true, List, get_or, Option, None, Some, refl, ◌∙◌, arith}
 use Rattle.flow_types.specs.declared.plan.Stop.{Stop}
-use Rattle.time_windows.specs.declared.access.Access.{Access}
 use Rattle.time_windows.specs.declared.access.Window.{Window}
 use Rattle.time_windows.specs.Boxes.{Box, IsInBox, IsInWindow, IsWindowWithin, IsWithin}
 use Rattle.time_windows.specs.Splits.{after, early_branch, late_branch, until}

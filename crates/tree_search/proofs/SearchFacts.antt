@@ -1,6 +1,6 @@
 -- Step by step: after a leaf the search goes on at the next box that waits, or it is at its end; after
 -- a split it goes on at the early side.
-use Rattle.std.proofs.Common.{◌≡◌, ℕ, suc, ◌+◌, ◌≤◌, Bool, false, true, List, [], ◌∷◌, length, refl, sym, ◌∙◌, ap, subst, length-append, arith}
+use Rattle.std.proofs.Common.{◌≡◌, suc, ◌+◌, ◌≤◌, Bool, false, true, List, [], ◌∷◌, length, refl, sym, ◌∙◌, ap, subst, length-append, arith}
 use Rattle.flow_types.specs.declared.bound.Bound.{Bound}
 use Rattle.flow_types.specs.declared.bound.Bound.TheVariants.{NoPlan}
 use Rattle.flow_types.specs.declared.parts.Parts.{Parts}
@@ -17,12 +17,12 @@ use Rattle.tree_search.specs.declared.found.Budget.{Budget}
 use Rattle.tree_search.specs.declared.walk.Branch.{Branch}
 use Rattle.tree_search.specs.declared.walk.Step.{Step}
 use Rattle.tree_search.specs.declared.walk.Step.TheVariants.{Early}
-use Rattle.tree_search.specs.Drafts.{Completes, IsBest, IsDraft, IsNoted}
+use Rattle.tree_search.specs.Drafts.{Completes, IsDraft, IsNoted}
 use Rattle.tree_search.specs.Nodes.{IsNodeWith}
 use Rattle.tree_search.specs.Searching.{IsArrived, IsAtNext, IsGoneOn, IsLeft, IsSearched, IsSearching, planned_in}
 use Rattle.tree_search.specs.Seen.{IsLeafSeen, IsSplitSeen}
 use Rattle.tree_search.specs.Visits.{IsVisited}
-use Rattle.tree_search.specs.Ways.{ArePartsOf, ArePending, AreSteps, IsNext, IsNextOr, IsOver, IsPartOf, Way, top_box}
+use Rattle.tree_search.specs.Ways.{ArePartsOf, ArePending, IsNext, IsNextOr, IsOver, IsPartOf, Way, top_box}
 use Rattle.tree_search.proofs.CompleteFacts.{all_complete, leaf_complete, split_complete}
 use Rattle.tree_search.proofs.DraftFacts.{noted_best, noted_draft, noted_still}
 use Rattle.tree_search.proofs.PartFacts.{in_early}
@@ -142,19 +142,26 @@ module _ (parts : Parts) (budget : Budget) (way : Way) (old new : Draft)
         part = λ plan inside.
             arrived.part plan (in_early branch.flight branch.node branch.time (box_of way.present)
             (box_of after) plan tight.within inside);
-        steps = (record {
-          made = arrived.made;
-          there = seen.branch_is.there;
-          branching = seen.branch_is.branching;
-        }, arrived.steps);
+        steps = (
+          record {
+            made = arrived.made;
+            there = seen.branch_is.there;
+            branching = seen.branch_is.branching;
+          },
+          arrived.steps,
+        );
         parts_of = (arrived.part, arrived.parts_of);
         draft_is = noted_draft parts (top_box way) old new
             (Split branch.flight branch.node branch.time old.best) NoPlan arrived.draft_is noted;
         best = noted_best parts (top_box way) old new
             (Split branch.flight branch.node branch.time old.best) NoPlan arrived.best noted;
         whole = split_whole;
-        room = omega (arith, enough, one_longer
-            (Split branch.flight branch.node branch.time old.best) NoPlan noted);
+        room = omega (
+          arith,
+          enough,
+          one_longer
+              (Split branch.flight branch.node branch.time old.best) NoPlan noted,
+        );
         unspent = λ left.
             noted_still parts (top_box way) old new
             (Split branch.flight branch.node branch.time old.best) NoPlan noted

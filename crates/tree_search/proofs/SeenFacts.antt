@@ -1,5 +1,5 @@
 -- What is seen of a box: a Unit leaf has a bound, and the run's leaf is kept where it may.
-use Rattle.std.proofs.Common.{◌≡◌, ◌⊎◌, ℕ, ◌+◌, ◌<◌, ◌≤◌, Bool, true, false, IsTrue, Option, Some, Result, Ok, Err, if◌then◌else◌, ℤ, inl, inr, refl, sym, ◌∙◌, subst, arith}
+use Rattle.std.proofs.Common.{◌≡◌, ℕ, ◌+◌, ◌<◌, ◌≤◌, Bool, true, false, IsTrue, Option, Some, Result, Ok, Err, if◌then◌else◌, ℤ, inl, inr, refl, sym, ◌∙◌, subst, arith}
 use Rattle.std.specs.Result.{IsOk}
 use Rattle.flow_types.specs.declared.bound.Bound.{Bound}
 use Rattle.flow_types.specs.declared.parts.Parts.{Parts}

@@ -1,6 +1,6 @@
 -- The bound of a search record is one: a plan of the root that keeps every rule is in the box of a
 -- leaf, whose bound allows what it costs.
-use Rattle.std.proofs.Common.{List, get_or, sym, subst}
+use Rattle.std.proofs.Common.{ℕ, List, get_or, sym, subst}
 use Rattle.flow_types.specs.declared.bound.Bound.{Bound}
 use Rattle.flow_types.specs.declared.bound.Bound.TheVariants.{AtLeast, NoPlan}
 use Rattle.flow_types.specs.declared.parts.Parts.{Parts}
@@ -10,11 +10,16 @@ use Rattle.flow_types.specs.Feasible.{IsFeasible}
 use Rattle.flow_types.specs.Valid.{IsScenario}
 use Rattle.time_windows.specs.Boxes.{Box, IsInBox}
 use Rattle.time_windows.proofs.PlanFacts.{plan_kept}
+use Rattle.time_windows.specs.Tight.{IsTightened}
+use Rattle.branch_tree.specs.declared.tree.TreeNode.{TreeNode}
+use Rattle.branch_tree.specs.Forests.{IsTreeOn}
 use Rattle.branch_tree.proofs.ForestFacts.{in_tree_leaf}
 use Rattle.dual_leaf.specs.Leaf.{IsBoundOn}
 use Rattle.dual_leaf.proofs.LeafFacts.{leaf_bounds}
+use Rattle.relaxed_bound.specs.declared.limits.Limits.{Limits}
 use Rattle.tree_search.specs.declared.found.Budget.{Budget}
 use Rattle.tree_search.specs.declared.found.Found.{Found}
+use Rattle.tree_search.specs.Bounds.{least_of}
 use Rattle.tree_search.specs.Nodes.{IsNodeAt}
 use Rattle.tree_search.specs.Records.{IsSearchRecord}
 use Rattle.tree_search.proofs.BoundFacts.{Allows, allows_least}
@@ -33,23 +38,31 @@ bound_from : (parts : Parts) (box : Box) (bound : Bound)
 bound_from parts box NoPlan allows = allows
 bound_from parts box (AtLeast least) allows = allows
 
-module _ (parts : Parts) (root : Box) (budget : Budget) (found : Found)
-    (valid : IsScenario parts) (searched : IsSearchRecord parts root budget found) where
+module _ (parts : Parts) (root tight : Box) (limits : Limits) (plans : List (List (List Stop)))
+    (counts : List ℕ) (bounds : List Bound) (tree : List TreeNode) (valid : IsScenario parts)
+    (tight_is : IsTightened parts root tight)
+    (tree_is : IsTreeOn parts (IsNodeAt parts limits plans counts bounds) tight tree) where
   plan_allowed : (plan : List (List Stop)) → IsFeasible parts plan → IsInBox root plan
-      → Allows (plan_cost parts.tables parts.flights plan) found.bound
+      → Allows (plan_cost parts.tables parts.flights plan) (least_of bounds)
   plan_allowed plan feasible inside =
-      let kept : IsInBox searched.tight plan =
-      plan_kept parts valid plan root feasible.trips feasible.turns searched.tight
-      searched.tight_is inside in
+      let kept : IsInBox tight plan =
+      plan_kept parts valid plan root feasible.trips feasible.turns tight tight_is inside in
       let leaf =
-      in_tree_leaf parts
-      (IsNodeAt parts budget.limits found.plans found.counts found.bounds) valid plan
-      feasible.trips feasible.turns searched.tight found.tree searched.tree kept in
-      subst (Allows (plan_cost parts.tables parts.flights plan)) (sym searched.bound_is)
-      (allows_least (plan_cost parts.tables parts.flights plan) found.bounds leaf.number
-      (bound_allows parts leaf.box (get_or found.bounds leaf.number NoPlan) plan
-      (leaf_bounds parts leaf.box leaf.leaf (get_or found.bounds leaf.number NoPlan) valid
-      leaf.here.inside leaf.here.bound_is) feasible leaf.inside))
+      in_tree_leaf parts (IsNodeAt parts limits plans counts bounds) valid plan feasible.trips
+      feasible.turns tight tree tree_is kept in
+      allows_least (plan_cost parts.tables parts.flights plan) bounds leaf.number
+      (bound_allows parts leaf.box (get_or bounds leaf.number NoPlan) plan
+      (leaf_bounds parts leaf.box leaf.leaf (get_or bounds leaf.number NoPlan) valid
+      leaf.here.inside leaf.here.bound_is) feasible leaf.inside)
 
-  pub record_bounds : IsBoundOn parts root found.bound
-  record_bounds = bound_from parts root found.bound plan_allowed
+  -- the least of the bounds of a tree is a bound on its root
+  pub tree_bounds : IsBoundOn parts root (least_of bounds)
+  tree_bounds = bound_from parts root (least_of bounds) plan_allowed
+
+pub record_bounds : (parts : Parts) (root : Box) (budget : Budget) (found : Found)
+    → IsScenario parts → IsSearchRecord parts root budget found
+    → IsBoundOn parts root found.bound
+record_bounds parts root budget found valid searched =
+    subst (IsBoundOn parts root) (sym searched.bound_is)
+    (tree_bounds parts root searched.tight budget.limits found.plans found.counts found.bounds
+    found.tree valid searched.tight_is searched.tree)

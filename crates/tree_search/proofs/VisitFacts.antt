@@ -1,16 +1,14 @@
 -- What the greedy plan of a box leaves, offered or stuck, of what is known.
-use Rattle.std.proofs.Common.{◌≡◌, ℕ, ◌≤◌, false, true, List, [], ◌∷◌, ◌++◌, length, slice_get, All, AllPairs, Option, None, Some, inl, inr, refl, sym, ◌∙◌, ap, subst, arith}
+use Rattle.std.proofs.Common.{◌≡◌, ◌≤◌, false, true, List, [], ◌∷◌, ◌++◌, length, slice_get, All, AllPairs, None, Some, inl, inr, refl, sym, ◌∙◌, ap, subst, arith}
 use Rattle.std.proofs.lemmas.List.{append-nil}
 use Rattle.std.proofs.lemmas.List.Elements.{All-cons, All-nil}
-use Rattle.flow_types.specs.declared.bound.Bound.{Bound}
 use Rattle.flow_types.specs.declared.bound.Bound.TheVariants.{AtLeast, NoPlan}
 use Rattle.flow_types.specs.declared.parts.Parts.{Parts}
 use Rattle.flow_types.specs.declared.plan.Stop.{Stop}
 use Rattle.flow_types.specs.Costs.{plan_cost}
 use Rattle.flow_types.specs.Valid.{IsScenario}
 use Rattle.time_windows.specs.Boxes.{Box, IsInBox}
-use Rattle.greedy_plan.specs.Greedy.{IsGreedy, IsStuck}
-use Rattle.dual_leaf.specs.Leaf.{IsCostIn, IsUnitBox}
+use Rattle.greedy_plan.specs.Greedy.{IsGreedy}
 use Rattle.dual_leaf.proofs.LeafFacts.{same_plan}
 use Rattle.dual_leaf.proofs.UnitSumFacts.{stuck}
 use Rattle.relaxed_bound.specs.declared.limits.Limits.{Limits}
@@ -54,7 +52,7 @@ module _ (parts : Parts) (box : Box) (old new : Draft) where
   visited_tried valid visited unit NoPlan cost = refl
   visited_tried valid (inl offered) unit (AtLeast least) (plan, feasible, inside, is) =
       let same = same_plan parts box offered.plan plan valid unit offered.feasible
-          (greedy_inside parts box offered.plan offered.greedy) feasible inside in
+      (greedy_inside parts box offered.plan offered.greedy) feasible inside in
       let cost = ap (plan_cost parts.tables parts.flights) (sym same) ∙ is in
       subst (λ c. is_reached new.best (AtLeast c) ≡ true) cost
       (offered_reached parts box old new offered.plan offered.offered)

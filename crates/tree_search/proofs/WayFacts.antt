@@ -1,5 +1,5 @@
 -- The way of a search: a step more, a step back, and the next box that waits.
-use Rattle.std.proofs.Common.{◌≡◌, ◌≢◌, ℕ, suc, ◌≤◌, List, [], ◌∷◌, ◌++◌, length, reverse, refl, sym, ◌∙◌, ap, subst, arith}
+use Rattle.std.proofs.Common.{◌≡◌, ◌≢◌, ◌≤◌, List, [], ◌∷◌, ◌++◌, length, reverse, refl, sym, ◌∙◌, ap, subst, arith}
 use Rattle.std.proofs.lemmas.List.{length-reverse, reverse-append}
 use Rattle.flow_types.specs.declared.parts.Parts.{Parts}
 use Rattle.time_windows.specs.Boxes.{Box}
@@ -10,7 +10,7 @@ use Rattle.tree_search.proofs.PartFacts.{in_late}
 use Rattle.tree_search.specs.declared.walk.Branch.{Branch}
 use Rattle.tree_search.specs.declared.walk.Step.{Step}
 use Rattle.tree_search.specs.declared.walk.Step.TheVariants.{Early, Late}
-use Rattle.tree_search.specs.Ways.{ArePartsOf, AreSteps, ArePending, IsFork, IsNext, IsNextOr, IsOver, Way, top_of, waiting_in}
+use Rattle.tree_search.specs.Ways.{ArePartsOf, AreSteps, ArePending, IsFork, IsNext, IsOver, Way, top_of, waiting_in}
 
 -- the last step comes first
 pub last_step : (steps : List Step) (step : Step) → reverse (steps ++ step ∷ []) ≡ step ∷ reverse steps
@@ -113,7 +113,7 @@ back_early parts old present next after above below new_above branch steps new_s
       parts_of = λ top are.
           let held = from.parts_of top are in (
             λ plan inside. held.0 plan (in_late branch.flight branch.node branch.time
-            (box_of next) (box_of after) plan tight.within inside),
+                (box_of next) (box_of after) plan tight.within inside),
             held,
           );
     }

@@ -1,6 +1,6 @@
 -- What a search has written down so far: plans, each cheaper than the one before, and the first nodes of
 -- its tree. No public clause cites these.
-use Rattle.std.specs.Prelude.{◌≡◌, ◌⊎◌, ℕ, ◌+◌, ◌≤◌, false, true, List, [], ◌∷◌, ◌++◌, length, All, AllPairs, Some, ℤ}
+use Rattle.std.specs.Prelude.{◌≡◌, ◌⊎◌, ℕ, ◌≤◌, false, true, List, [], ◌∷◌, ◌++◌, length, All, AllPairs, Some}
 use Rattle.flow_types.specs.declared.bound.Bound.{Bound}
 use Rattle.flow_types.specs.declared.bound.Bound.TheVariants.{AtLeast}
 use Rattle.flow_types.specs.declared.parts.Parts.{Parts}
@@ -14,7 +14,7 @@ use Rattle.dual_leaf.specs.Leaf.{IsCostIn, IsUnitBox}
 use Rattle.relaxed_bound.specs.declared.limits.Limits.{Limits}
 use Rattle.relaxed_bound.specs.Reached.{is_reached}
 use Rattle.tree_search.specs.declared.draft.Draft.{Draft}
-use Rattle.tree_search.specs.Nodes.{IsNodeAt, IsNodeWith, cutoff_after}
+use Rattle.tree_search.specs.Nodes.{IsNodeAt, cutoff_after}
 use Rattle.tree_search.specs.Records.{IsCheaper, IsFirst, IsPlanIn}
 
 pub record IsDraft (parts : Parts) (top : Box) (draft : Draft) : Type 0 where

@@ -13,7 +13,7 @@ use Rattle.greedy_plan.specs.Greedy.{IsGreedy}
 use Rattle.branch_tree.specs.Forests.{IsTreeOn}
 use Rattle.tree_search.specs.declared.found.Budget.{Budget}
 use Rattle.tree_search.specs.declared.found.Found.{Found}
-use Rattle.tree_search.specs.Bounds.{IsNearBound, least_of}
+use Rattle.tree_search.specs.Bounds.{least_of}
 use Rattle.tree_search.specs.Nodes.{IsNodeAt, cutoff_after}
 
 -- a plan of the box that keeps every rule

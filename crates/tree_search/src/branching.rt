@@ -30,7 +30,7 @@ fn choice_of(boxes: &Boxes, flight: u32) -> Option<Branch>
     ensures { MatchOption result
         ((n : ℕ) → n < most_nodes → options_of (box_of boxes.now flight n) ≤ 1)
         (λ branch. (branch.flight ≡ flight)
-            × IsBranching (box_of boxes.now flight branch.node) branch.time) }
+        × IsBranching (box_of boxes.now flight branch.node) branch.time) }
 {
     for at in 0..MOST_NODES {
         let node = at as u16;

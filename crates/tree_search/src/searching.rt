@@ -1,6 +1,7 @@
 //! The search.
-ghost use Rattle.std.specs.Prelude.{◌≡◌, ◌∷◌, ◌+◌, ◌<◌, ◌≤◌, ◌↔◌, IsTrue, IfOk, OnOk};
+ghost use Rattle.std.specs.Prelude.{◌≡◌, ◌∷◌, ◌+◌, ◌<◌, ◌≤◌, ◌↔◌, IsTrue, IfOk, OnOk, true};
 ghost use Rattle.branch_tree.specs.declared.tree.TreeNode.TheVariants.{Leaf as LeafNode, Split as SplitNode};
+ghost use Rattle.branch_tree.specs.Trees.{is_tree};
 ghost use Rattle.dual_leaf.specs.Leaf.{IsBoundOn};
 ghost use Rattle.dual_leaf.specs.Work.{IsRoomFor};
 ghost use Rattle.flow_types.specs.Scenario.{parts_of};
@@ -9,17 +10,18 @@ ghost use Rattle.time_windows.specs.Held.{IsMadeFor, box_of};
 ghost use Rattle.time_windows.specs.Splits.{early_branch};
 ghost use Rattle.time_windows.specs.Tight.{IsTightened};
 ghost use Rattle.tree_search.specs.declared.walk.Step.TheVariants.{Early};
+ghost use Rattle.tree_search.specs.Bounds.{least_of, lesser};
 ghost use Rattle.tree_search.specs.Drafts.{IsNoted};
 ghost use Rattle.tree_search.specs.Records.{IsSearchRecord};
-ghost use Rattle.tree_search.specs.Searching.{IsLeft, IsSearching, IsStepped, planned_in};
+ghost use Rattle.tree_search.specs.Searching.{IsLeft, IsSearched, IsSearching, IsStepped, planned_in};
 ghost use Rattle.tree_search.specs.Visits.{IsVisited};
-ghost use Rattle.tree_search.specs.Ways.{AreSteps, IsFork, IsNextOr};
+ghost use Rattle.tree_search.specs.Ways.{AreSteps, IsFork, IsNextOr, top_box};
 
-use crate::draft::{Draft, note, offer};
+use crate::draft::{Draft, no_draft, note, offer};
 use crate::found::{Budget, Found};
 use crate::seeing::{Seen, see};
 use crate::walk::{Branch, Walk};
-use branch_tree::{Leaf, TreeNode};
+use branch_tree::{Leaf, Tree, TreeNode};
 use dual_leaf::LeafWork;
 use flow_types::{Bound, OutOfMemory, Scenario};
 use greedy_plan::{Greedy, first_plan};
@@ -27,12 +29,7 @@ use std::alloc::Global;
 use time_windows::Boxes;
 
 // Offers the greedy plan of the box.
-fn visit(
-    alloc: Global,
-    s: &Scenario,
-    boxes: &Boxes,
-    draft: &mut Draft,
-) -> Result<(), OutOfMemory>
+fn visit(alloc: Global, s: &Scenario, boxes: &Boxes, draft: &mut Draft) -> Result<(), OutOfMemory>
     requires { IsMadeFor (parts_of s.now) boxes.now }
     ensures { OnOk result (IsVisited (parts_of s.now) (box_of boxes.now) draft.old draft.new) }
 {
@@ -117,15 +114,7 @@ fn go_on(
 {
     let more = has_room(budget, walk, draft);
     let cutoff = draft.best;
-    let seen = see(
-        alloc,
-        s,
-        walk.boxes(),
-        work,
-        budget.limits,
-        cutoff,
-        more,
-    )?;
+    let seen = see(alloc, s, walk.boxes(), work, budget.limits, cutoff, more)?;
     match seen {
         Seen::Leaf { leaf, bound } => {
             let next = leave(s, walk, draft, leaf, bound)?;
@@ -160,7 +149,75 @@ fn step(
     Ok(true)
 }
 
-/// Searches the box.
+// Searches from the tight box on, which is the way's first one, until no box waits.
+fn run(
+    alloc: Global,
+    s: &Scenario,
+    budget: Budget,
+    walk: &mut Walk,
+    draft: &mut Draft,
+) -> Result<(), OutOfMemory>
+    requires { IsSearching (parts_of s.now) budget walk.old draft.old }
+    ensures { OnOk result (IsSearched (parts_of s.now) budget (top_box walk.old) draft.new) }
+{
+    let mut work = LeafWork::new(alloc, s)?;
+    while step(alloc, s, budget, &mut work, walk, draft)? {}
+    Ok(())
+}
+
+// The least of the bounds.
+#[tactic(auto, using(crate::proofs::BoundFacts::least_more, crate::proofs::BoundFacts::least_all))]
+fn least_of(bounds: &[Bound]) -> Bound
+    ensures { result ≡ least_of bounds.now }
+{
+    let mut least = Bound::NoPlan;
+    for at in 0..bounds.len() {
+        least = lesser(least, bounds[at]);
+    }
+    least
+}
+
+// The lesser of two.
+fn lesser(first: Bound, second: Bound) -> Bound
+    ensures { result ≡ lesser first second }
+{
+    match (first, second) {
+        (Bound::NoPlan, second) => second,
+        (first, Bound::NoPlan) => first,
+        (Bound::AtLeast(first), Bound::AtLeast(second)) => Bound::AtLeast(first.min(second)),
+    }
+}
+
+// What is handed back of a whole tree.
+fn found_in(draft: Draft) -> Found
+    requires { is_tree draft.nodes ≡ true }
+    ensures plans { result.plans ≡ draft.plans }
+    ensures tree { result.tree ≡ draft.nodes }
+    ensures counts { result.counts ≡ draft.counts }
+    ensures bounds { result.bounds ≡ draft.bounds }
+    ensures bound { result.bound ≡ least_of result.bounds }
+{
+    let Draft {
+        plans,
+        nodes,
+        counts,
+        bounds,
+        best: _,
+    } = draft;
+    let bound = least_of(bounds.items());
+    match Tree::from_nodes(nodes) {
+        Err(_) => unreachable!(),
+        Ok(tree) => Found {
+            plans,
+            tree,
+            counts,
+            bounds,
+            bound,
+        },
+    }
+}
+
+/// Searches the box, which is one of the scenario.
 pub fn search(
     alloc: Global,
     s: &Scenario,
@@ -173,5 +230,11 @@ pub fn search(
     ensures sound { IfOk result (λ found. IsBoundOn (parts_of s.now) (box_of root.now)
         found.bound) }
 {
-    Err(OutOfMemory)
+    let mut boxes = root.copy(alloc)?;
+    boxes.tighten(s);
+    let mut draft = no_draft(alloc);
+    visit(alloc, s, &boxes, &mut draft)?;
+    let mut walk = Walk::new(alloc, boxes)?;
+    run(alloc, s, budget, &mut walk, &mut draft)?;
+    Ok(found_in(draft))
 }

@@ -112,5 +112,6 @@ fn bound_of(alloc: Global, s: &Scenario, boxes: &Boxes, work: &mut LeafWork, lea
     ensures bound { IsLeafBound (parts_of s.now) (box_of boxes.now) leaf.now (Ok result) }
     ensures work { IsRoomFor (parts_of s.now) work.new }
 {
-    work.leaf_bound(s, boxes, leaf, &Pool::empty(alloc)).unwrap()
+    work.leaf_bound(s, boxes, leaf, &Pool::empty(alloc))
+        .unwrap()
 }

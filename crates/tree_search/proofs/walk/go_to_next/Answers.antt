@@ -8,21 +8,21 @@ use Rattle.tree_search.proofs.walk.go_to_next.Goals as goal
 pub loop-step-preserved : goal.loop-step-preserved
 loop-step-preserved c =
     let late = popped c.loop-step.steps.items c.pop.new.self.items c.in-Some.step Late
-        (c.in-Some.ensures).items c.in-Late.is in
+    (c.in-Some.ensures).items c.in-Late.is in
     record {
       count = c.loop-step.invariant.count ∙ ap waiting_in late;
       back = back_late (parts_of c.args.s.now) (record {
-      present = c.args.trail.now.present;
-      above = c.args.trail.now.above;
-      steps = reverse c.args.steps.now.items;
-    }) c.loop-step.trail.present
+        present = c.args.trail.now.present;
+        above = c.args.trail.now.above;
+        steps = reverse c.args.steps.now.items;
+      }) c.loop-step.trail.present
           c.up.new.self.present c.loop-step.trail.above c.up.new.self.above
           (reverse c.pop.new.self.items)
           (back_same (parts_of c.args.s.now) (record {
-      present = c.args.trail.now.present;
-      above = c.args.trail.now.above;
-      steps = reverse c.args.steps.now.items;
-    }) c.loop-step.trail.present
+            present = c.args.trail.now.present;
+            above = c.args.trail.now.above;
+            steps = reverse c.args.steps.now.items;
+          }) c.loop-step.trail.present
           c.loop-step.trail.above (reverse c.loop-step.steps.items)
           (Late ∷ reverse c.pop.new.self.items) late c.loop-step.invariant.back) c.up.ensures;
     }
@@ -30,7 +30,7 @@ loop-step-preserved c =
 pub returns-in-Early-clause-next : goal.returns-in-Early-clause-next
 returns-in-Early-clause-next c =
     let early = popped c.loop-step.steps.items c.pop.new.self.items c.in-Some.step
-        (Early c.in-Early.branch) (c.in-Some.ensures).items c.in-Early.is in
+    (Early c.in-Early.branch) (c.in-Some.ensures).items c.in-Early.is in
     back_early (parts_of c.args.s.now) (record {
       present = c.args.trail.now.present;
       above = c.args.trail.now.above;

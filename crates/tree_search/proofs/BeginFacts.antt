@@ -1,0 +1,75 @@
+-- At its begin a search is at the tight root, whose greedy plan was offered.
+use Rattle.std.proofs.Common.{◌≡◌, ◌<◌, List, [], ◌∷◌, length, None, refl, sym, ◌∙◌, ap, subst, arith}
+use Rattle.flow_types.specs.declared.parts.Parts.{Parts}
+use Rattle.flow_types.specs.Valid.{IsScenario}
+use Rattle.time_windows.specs.Boxes.{Box}
+use Rattle.time_windows.specs.Held.{Held, IsMadeFor, box_of}
+use Rattle.time_windows.specs.Tight.{IsTight}
+use Rattle.tree_search.specs.declared.draft.Draft.{Draft}
+use Rattle.tree_search.specs.declared.found.Budget.{Budget}
+use Rattle.tree_search.specs.declared.walk.Step.{Step}
+use Rattle.tree_search.specs.Drafts.{Completes}
+use Rattle.tree_search.specs.Searching.{IsSearching}
+use Rattle.tree_search.specs.Visits.{IsVisited}
+use Rattle.tree_search.specs.Ways.{Way, top_box, top_of}
+use Rattle.tree_search.proofs.VisitFacts.{first_best, first_complete, first_reached, visited_best, visited_first, visited_same, visited_tried}
+
+module _ (parts : Parts) (budget : Budget) (held : Held) (old new : Draft)
+    (valid : IsScenario parts) (some : 0 < budget.nodes) (made : IsMadeFor parts held)
+    (tight : IsTight parts (box_of held)) (plans : old.plans ≡ []) (nodes : old.nodes ≡ [])
+    (counts : old.counts ≡ []) (bounds : old.bounds ≡ []) (best : old.best ≡ None)
+    (visited : IsVisited parts (box_of held) old new) where
+  abbrev here : Way
+  here = record { present = held; above = []; steps = [] }
+
+  at_root : IsSearching parts budget here new
+  at_root = record {
+    arrived = record {
+      made = made;
+      tight = tight;
+      part = λ plan inside. inside;
+      steps = refl;
+      parts_of = tt;
+      draft_is =
+          visited_first parts (box_of held) old new plans nodes counts bounds best visited;
+      best = visited_best parts (box_of held) old new
+          (first_best parts (box_of held) old new plans nodes counts bounds best) visited;
+      whole = λ boxes pending.
+          subst (λ (bs : List Box). Completes parts budget.limits (box_of held) new
+          (box_of held ∷ bs)) (sym pending)
+          (first_complete parts (box_of held) old new plans nodes counts bounds best
+          budget.limits visited);
+      room = omega (arith, some, none);
+      unspent = λ left.
+          first_reached parts (box_of held) old new plans nodes counts bounds best visited;
+    };
+    tried = visited_tried parts (box_of held) old new valid visited;
+  }
+    where
+      none : length new.nodes ≡ 0
+      none = ap length ((visited_same parts (box_of held) old new visited).nodes ∙ nodes)
+
+  pub begun_at : (way : Way) → way.present ≡ held → way.above ≡ [] → way.steps ≡ []
+      → IsSearching parts budget way new
+  begun_at way present above steps =
+      subst (λ (h : Held). IsSearching parts budget (record {
+        present = h;
+        above = way.above;
+        steps = way.steps;
+      }) new) (sym present)
+      (subst (λ (l : List Held). IsSearching parts budget (record {
+        present = held;
+        above = l;
+        steps = way.steps;
+      }) new) (sym above)
+      (subst (λ (l : List Step). IsSearching parts budget (record {
+        present = held;
+        above = [];
+        steps = l;
+      }) new) (sym steps) at_root))
+
+-- the first box of the way is that box
+pub begun_top : (way : Way) (held : Held) → way.present ≡ held → way.above ≡ []
+    → top_box way ≡ box_of held
+begun_top way held present above =
+    ap (λ (l : List Held). box_of (top_of way.present l)) above ∙ ap box_of present

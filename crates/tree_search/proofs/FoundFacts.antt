@@ -1,0 +1,117 @@
+-- What a search that is at its end hands back is a record.
+use Rattle.std.proofs.Common.{◌≡◌, ◌⊎◌, true, ℕ, ◌+◌, ◌<◌, ◌≤◌, List, length, get_or, All, inl, inr, refl, sym, ◌∙◌, ap, subst}
+use Rattle.std.proofs.lemmas.Bool.{cases_lt}
+use Rattle.std.proofs.lemmas.List.Elements.{All-weaker}
+use Rattle.flow_types.specs.declared.bound.Bound.{Bound}
+use Rattle.flow_types.specs.declared.bound.Bound.TheVariants.{NoPlan}
+use Rattle.flow_types.specs.declared.parts.Parts.{Parts}
+use Rattle.flow_types.specs.declared.plan.Stop.{Stop}
+use Rattle.flow_types.specs.Valid.{IsScenario}
+use Rattle.time_windows.specs.Boxes.{Box}
+use Rattle.time_windows.specs.Tight.{IsTightened}
+use Rattle.branch_tree.specs.declared.tree.TreeNode.{TreeNode}
+use Rattle.branch_tree.proofs.ForestFacts.{tree_on}
+use Rattle.branch_tree.specs.Trees.{is_tree}
+use Rattle.dual_leaf.specs.Leaf.{IsBoundOn}
+use Rattle.tree_search.specs.declared.draft.Draft.{Draft}
+use Rattle.tree_search.specs.declared.found.Budget.{Budget}
+use Rattle.tree_search.specs.declared.found.Found.{Found}
+use Rattle.tree_search.specs.Bounds.{least_of}
+use Rattle.tree_search.specs.Drafts.{AreReached}
+use Rattle.tree_search.specs.Nodes.{IsNodeAt, cutoff_after}
+use Rattle.tree_search.specs.Records.{IsClosed, IsPlanIn, IsSearchRecord, bound_of_cost}
+use Rattle.tree_search.specs.Searching.{IsSearched}
+use Rattle.tree_search.proofs.PartFacts.{in_within}
+use Rattle.tree_search.proofs.ReachFacts.{Reaches, bound_closed, last_allowed, reaches_from, reaches_least}
+use Rattle.tree_search.proofs.SoundFacts.{tree_bounds}
+
+-- the nodes are a tree's
+pub searched_tree : (parts : Parts) (budget : Budget) (top : Box) (draft : Draft)
+    → IsSearched parts budget top draft → is_tree draft.nodes ≡ true
+searched_tree parts budget top draft searched =
+    tree_on parts (IsNodeAt parts budget.limits draft.plans draft.counts draft.bounds) top
+    draft.nodes searched.tree
+
+abbrev made_of : List (List (List Stop)) → List TreeNode → List ℕ → List Bound → Bound → Found
+made_of plans tree counts bounds bound = record {
+  plans = plans;
+  tree = tree;
+  counts = counts;
+  bounds = bounds;
+  bound = bound;
+}
+
+module _ (parts : Parts) (root top : Box) (budget : Budget) (draft : Draft)
+    (valid : IsScenario parts) (tight : IsTightened parts root top)
+    (searched : IsSearched parts budget top draft) where
+  in_root : All (IsPlanIn parts root) draft.plans
+  in_root =
+      All-weaker (IsPlanIn parts top) (IsPlanIn parts root)
+      (λ plan is. record {
+        feasible = is.feasible;
+        inside = in_within top root plan tight.within is.inside;
+      }) draft.plans searched.draft_is.plans
+
+  sound : IsBoundOn parts root (least_of draft.bounds)
+  sound =
+      tree_bounds parts root top budget.limits draft.plans draft.counts draft.bounds draft.nodes
+      valid tight searched.tree
+
+  closed : AreReached draft
+      → least_of draft.bounds ≡ bound_of_cost (cutoff_after parts draft.plans (length draft.plans))
+  closed reached =
+      bound_closed parts (cutoff_after parts draft.plans (length draft.plans))
+      (least_of draft.bounds)
+      (subst (λ best. Reaches best (least_of draft.bounds)) searched.best
+      (reaches_least draft.best draft.bounds (λ k below.
+      reaches_from draft.best (get_or draft.bounds k NoPlan) (reached k NoPlan below))))
+      (last_allowed parts root draft.plans (least_of draft.bounds) in_root sound)
+
+  module _ (found : Found) (plans : found.plans ≡ draft.plans) (tree : found.tree ≡ draft.nodes)
+      (counts : found.counts ≡ draft.counts) (bounds : found.bounds ≡ draft.bounds)
+      (bound : found.bound ≡ least_of found.bounds) where
+    pub found_sound : IsBoundOn parts root found.bound
+    found_sound =
+        subst (IsBoundOn parts root) (sym (bound ∙ ap least_of bounds)) sound
+
+    pub found_record : IsSearchRecord parts root budget found
+    found_record =
+        subst (IsSearchRecord parts root budget) same drafted
+      where
+        handed : Found
+        handed =
+            made_of draft.plans draft.nodes draft.counts draft.bounds (least_of draft.bounds)
+
+        same : handed ≡ found
+        same =
+            ap (λ (ps : List (List (List Stop))). made_of ps draft.nodes draft.counts draft.bounds
+            (least_of draft.bounds)) (sym plans)
+            ∙ ap (λ (ns : List TreeNode). made_of found.plans ns draft.counts draft.bounds
+            (least_of draft.bounds)) (sym tree)
+            ∙ ap (λ (cs : List ℕ). made_of found.plans found.tree cs draft.bounds
+            (least_of draft.bounds)) (sym counts)
+            ∙ ap (λ (bs : List Bound). made_of found.plans found.tree found.counts bs
+            (least_of bs)) (sym bounds)
+            ∙ ap (made_of found.plans found.tree found.counts found.bounds) (sym bound)
+
+        by : (budget.nodes < length draft.nodes + 2) ⊎ (length draft.nodes + 2 ≤ budget.nodes)
+            → IsClosed parts handed ⊎ (budget.nodes < length draft.nodes + 2)
+        by (inl spent) = inr spent
+        by (inr left) = inl (closed (searched.unspent left))
+
+        drafted : IsSearchRecord parts root budget handed
+        drafted = record {
+          tight = top;
+          tight_is = tight;
+          plans = in_root;
+          cheaper = searched.draft_is.cheaper;
+          greedy = searched.draft_is.greedy;
+          counted = searched.draft_is.counted;
+          counts_to = searched.draft_is.counts_to;
+          rising = searched.draft_is.rising;
+          tree = searched.tree;
+          bounded = searched.draft_is.bounded;
+          bound_is = refl;
+          nodes = searched.room;
+          ended = by (cases_lt budget.nodes (length draft.nodes + 2));
+        }
