@@ -1,5 +1,6 @@
 pub mod ColumnFacts
 pub mod CostGrowFacts
+pub mod CostSizeFacts
 pub mod GrowFacts
 pub mod LandFacts
 pub mod NumberFacts

@@ -1,11 +1,15 @@
 -- Dividing and rounding up.
-use Rattle.std.proofs.Common.{◌≡◌, ◌⊎◌, ℕ, suc, ◌+◌, ◌-◌, ◌*◌, ◌/◌, ◌<◌, ◌≤◌, ◌^◌, true, ℤ, pos, negsuc, neg_ℤ, ◌*ℤ◌, ◌≤ℤ◌, unsigned_abs, inl, inr, sym, subst, arith}
+use Rattle.std.proofs.Common.{◌≡◌, ◌⊎◌, IfOk, Result, Ok, Err, ℕ, suc, ◌+◌, ◌-◌, ◌*◌, ◌/◌, ◌<◌, ◌≤◌, ◌^◌, true, ℤ, pos, negsuc, neg_ℤ, ◌*ℤ◌, ◌≤ℤ◌, unsigned_abs, inl, inr, sym, subst, arith}
 use Rattle.std.proofs.lemmas.Bool.{cases_lt}
 use Rattle.std.proofs.lemmas.Int.{ints}
 use Rattle.std.specs.Prelude.{int_lt}
 use Rattle.std.proofs.lemmas.Nat.{le-div}
-use Rattle.std.proofs.Math.Nat.{div-le_self, div-mul-le_self, lt-div-mul-add, mul-le-mul_right, suc-mul}
-use Rattle.dual_leaf.specs.Leaf.{IsRoundedUp}
+use Rattle.std.proofs.Math.Nat.{div-le_self, div-mul-le_self, lt-div-mul-add, mul-le-mul_left, mul-le-mul_right, suc-mul}
+use Rattle.std.proofs.Math.IntN.{zero-*ℤ}
+use Rattle.flow_types.specs.declared.bound.Bound.{Bound}
+use Rattle.flow_types.specs.declared.bound.Bound.TheVariants.{AtLeast, NoPlan}
+use Rattle.dual_leaf.specs.declared.fault.LeafFault.{LeafFault}
+use Rattle.dual_leaf.specs.Leaf.{IsNearBound, IsRoundedUp, IsSaid}
 use Rattle.dual_leaf.proofs.TimesFacts.{minus-times, neg-times}
 
 -- no greater, once it is divided
@@ -68,3 +72,32 @@ pub above_small : (size w : ℕ) → size < 2 ^ 126 → w < 2 ^ 64
     → unsigned_abs (pos ((size + (w - 1)) / w)) < 2 ^ 127
 above_small size w small weight =
     let le = div-le_self (size + (w - 1)) w in omega (arith, le, small, weight)
+
+-- what is rounded is no further from 0
+rounded_near : (value up : ℤ) (w : ℕ) → 0 < w → IsRoundedUp value w up
+    → unsigned_abs up ≤ unsigned_abs value
+rounded_near (pos v) (pos n) w weight is =
+    let more : v * 1 ≤ v * w = mul-le-mul_left v weight in
+    let least = is.below (pos v) (omega (arith, ints, more)) in
+    omega (arith, ints, least)
+rounded_near (pos v) (negsuc n) w weight is =
+    let down = minus-times n w in
+    let some : suc n * w ≡ n * w + w = suc-mul n w in
+    let reached = is.reached in
+    absurd (omega (arith, ints, reached, down, some, weight))
+rounded_near (negsuc v) (pos n) w weight is =
+    let none : pos 0 *ℤ pos w ≡ pos 0 = zero-*ℤ (pos w) in
+    let least = is.below (pos 0) (omega (arith, ints, none)) in
+    omega (arith, ints, least)
+rounded_near (negsuc v) (negsuc n) w weight is =
+    let down = minus-times n w in
+    let more : suc n * 1 ≤ suc n * w = mul-le-mul_left (suc n) weight in
+    let reached = is.reached in
+    omega (arith, ints, reached, down, more)
+
+pub said_near : (weight : ℕ) (value : ℤ) (answer : Result Bound LeafFault)
+    → unsigned_abs value < 2 ^ 115 → IsSaid weight value answer → IfOk answer IsNearBound
+said_near weight value (Ok (AtLeast least)) small said =
+    let near = rounded_near value least weight said.0 said.1 in omega (arith, small, near)
+said_near weight value (Ok NoPlan) small said = tt
+said_near weight value (Err fault) small said = tt

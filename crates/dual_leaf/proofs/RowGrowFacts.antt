@@ -43,10 +43,10 @@ pub row_grows : (at : (ℕ → ℕ) → Var → ℕ) (count : ℕ) (row : AtMost
     (start old new : Summed) → length row.terms ≤ most_terms
     → Grows at (λ value. pos count *ℤ form_value value row.terms) (length row.terms * 2 ^ 62) start
     old
-    → charge ≡ neg_ℤ (pos count *ℤ row.limit) → unsigned_abs charge < 2 ^ 82
+    → charge ≡ neg_ℤ (pos count *ℤ row.limit) → unsigned_abs charge ≤ most_capacity * 2 ^ 62
     → ((bit : ℕ → ℕ) → sum_at bit new ≡ sum_at bit old +ℤ charge *ℤ pos 1)
     → mass new ≤ mass old + unsigned_abs charge → length new.factors ≡ length old.factors
-    → Grows at (λ value. pos count *ℤ excess value row) (2 ^ 83) start new
+    → Grows at (λ value. pos count *ℤ excess value row) (2 ^ 82) start new
 row_grows at count row charge start old new few grows is small sum more same = record {
   sum = λ bit. let a = grows.sum bit in let b = sum bit in
       let c = times-minus count (form_value (at bit) row.terms) row.limit in
@@ -65,14 +65,14 @@ module _ (parts : Parts) (at : (ℕ → ℕ) → Var → ℕ) (rows : List Multi
   pub rows_more : (i : ℕ) (d : Multiplier) (start old new : Summed) → i < length rows
       → AreAddedTo parts at rows i start old → is_row parts (get_or rows i d).row ≡ true
       → Grows at (λ value. pos (get_or rows i d).value
-      *ℤ excess value (row_of parts (get_or rows i d).row)) (2 ^ 83) old new
+      *ℤ excess value (row_of parts (get_or rows i d).row)) (2 ^ 82) old new
       → AreAddedTo parts at rows (i + 1) start new
   rows_more i d start old new within before there here = record {
     known = λ k multiplier upto is. by k multiplier is (cases_lt k i) (omega (arith, upto));
     grows = grows_then at (excesses parts (take i rows))
         (λ value. pos (get_or rows i d).value
         *ℤ excess value (row_of parts (get_or rows i d).row)) (excesses parts (take (i + 1) rows))
-        (i * 2 ^ 83) (2 ^ 83) ((i + 1) * 2 ^ 83) start old new before.grows here
+        (i * 2 ^ 82) (2 ^ 82) ((i + 1) * 2 ^ 82) start old new before.grows here
         (λ value. ap (λ xs. excesses parts xs value) (take_more rows i d within)
         ∙ total-append (part value) (take i rows) (get_or rows i d ∷ [])
         ∙ ap (λ n. excesses parts (take i rows) value +ℤ n) (alone value))
@@ -101,8 +101,8 @@ module _ (parts : Parts) (at : (ℕ → ℕ) → Var → ℕ) (rows : List Multi
     known = λ k multiplier here.
         let within = slice_get_within rows k multiplier here in
         added.known k multiplier (omega (arith, within, past)) here;
-    grows = grows_as at (excesses parts (take i rows)) (excesses parts rows) (i * 2 ^ 83)
-        (length rows * 2 ^ 83) start new added.grows
+    grows = grows_as at (excesses parts (take i rows)) (excesses parts rows) (i * 2 ^ 82)
+        (length rows * 2 ^ 82) start new added.grows
         (λ value. ap (λ xs. excesses parts xs value) (sym (take_all i rows past)))
         (omega arith);
   }

@@ -23,8 +23,9 @@ use Rattle.greedy_plan.specs.FirstBound.{IsLeastSum, IsNear, plus}
 use Rattle.greedy_plan.specs.Greedy.{AreChosen, IsChosen, with_rest}
 use Rattle.greedy_plan.proofs.BoundFacts.{is_bound, sum_more, sum_none}
 use Rattle.greedy_plan.proofs.FeasibleFacts.{chosen_more, chosen_none, greedy_feasible, loads_none, one_more}
-use Rattle.dual_leaf.specs.Leaf.{IsBoundOn, IsCostIn, IsUnitBox}
+use Rattle.dual_leaf.specs.Leaf.{IsBoundOn, IsCostIn, IsNearBound, IsUnitBox}
 use Rattle.dual_leaf.specs.UnitSums.{IsNext, IsNextTrip, IsSoFar, IsSumOf, bound_of}
+use Rattle.dual_leaf.proofs.SumsFacts.{abs_le}
 use Rattle.dual_leaf.proofs.UnitBoxFacts.{one_trip}
 use Rattle.dual_leaf.proofs.UnitFitFacts.{trip_fits}
 
@@ -219,6 +220,17 @@ module _ (parts : Parts) (valid : IsScenario parts) (box : Box) (unit : IsUnitBo
   whole_sound count loads (Some sum) all is = λ plan feasible inside.
       is_bound parts box (AtLeast sum)
       (subst (λ n. IsLeastSum parts box n sum) all is.least) plan feasible.trips inside
+
+  pub whole_near : (count : ℕ) (loads : Tally) (sum : Option ℤ) → count ≡ length parts.flights
+      → IsSoFar parts box count loads sum → IsNearBound (bound_of sum)
+  whole_near count loads None all is = tt
+  whole_near count loads (Some sum) all is =
+      let few = valid.flights_few in
+      let low = is.near.low in
+      let high = is.near.high in
+      let small = abs_le sum (2 ^ 114) (omega (arith, ints, high, few, all))
+      (omega (arith, ints, low, few, all)) in
+      omega (arith, small)
 
 -- the trip that was found, as the code says it
 pub next_trip : (parts : Parts) (box : Box) (trips : List (List Stop)) (number : ℕ)

@@ -232,7 +232,7 @@ module _ (parts : Parts) (scenario : IsScenario parts) (numbering : Numbering) (
     (range : HasRange weight rows) (count : ℕ) (start old new : Summed)
     (clear : start ≡ nothing count)
     (cost : Grows (choice_in parts numbering held)
-    (λ value. pos weight *ℤ priced_value value (cost_row parts)) (2 ^ 124) start old)
+    (λ value. pos weight *ℤ priced_value value (cost_row parts)) (2 ^ 114) start old)
     (added : AreAdded parts (choice_in parts numbering held) rows old new) where
   clear_sum : (bit : ℕ → ℕ) → sum_at bit start ≡ pos 0
   clear_sum bit = ap (sum_at bit) clear ∙ none 0 count
@@ -251,7 +251,7 @@ module _ (parts : Parts) (scenario : IsScenario parts) (numbering : Numbering) (
       none = let is = sum_by-replicate unsigned_abs count (pos 0) in
           let zero_of : count * 0 ≡ 0 = omega arith in omega (arith, is, zero_of)
 
-  pub leaf_near : unsigned_abs (least_sum new) < 2 ^ 126
+  pub leaf_near : unsigned_abs (least_sum new) < 2 ^ 115
   leaf_near =
       let few = range.few in
       let a = cost.mass in

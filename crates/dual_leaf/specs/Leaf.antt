@@ -1,5 +1,5 @@
 -- The bound of a leaf on a tight box, or why it has none.
-use Rattle.std.specs.Prelude.{◌≡◌, ◌⊎◌, ◌≢◌, ℕ, ◌<◌, List, Result, Ok, Err, ℤ, pos, ◌*ℤ◌, ◌≤ℤ◌}
+use Rattle.std.specs.Prelude.{◌≡◌, ◌⊎◌, ◌≢◌, ℕ, ◌^◌, ◌<◌, List, Result, Ok, Err, ℤ, pos, ◌*ℤ◌, ◌≤ℤ◌, unsigned_abs}
 use Rattle.flow_types.specs.declared.bound.Bound.{Bound}
 use Rattle.flow_types.specs.declared.bound.Bound.TheVariants.{AtLeast, NoPlan}
 use Rattle.flow_types.specs.declared.parts.Parts.{Parts}
@@ -94,3 +94,8 @@ abbrev pub IsBoundOn : Parts → Box → Bound → Type 0
 IsBoundOn parts box NoPlan = IsCostIn parts box NoPlan
 IsBoundOn parts box (AtLeast least) = (plan : List (List Stop)) → IsFeasible parts plan
     → IsInBox box plan → least ≤ℤ plan_cost parts.tables parts.flights plan
+
+-- not too far from 0
+abbrev pub IsNearBound : Bound → Type 0
+IsNearBound NoPlan = Unit {0}
+IsNearBound (AtLeast least) = unsigned_abs least < 2 ^ 115

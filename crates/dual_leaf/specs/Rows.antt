@@ -13,11 +13,11 @@ pub record AreAddedTo (parts : Parts) (at : (ℕ → ℕ) → Var → ℕ) (rows
     (old new : Summed) : Type 0 where
   pub known : (k : ℕ) (multiplier : Multiplier) → k < count → slice_get rows k ≡ Some multiplier
       → is_row parts multiplier.row ≡ true
-  pub grows : Grows at (excesses parts (take count rows)) (count * 2 ^ 83) old new
+  pub grows : Grows at (excesses parts (take count rows)) (count * 2 ^ 82) old new
 
 -- all are
 pub record AreAdded (parts : Parts) (at : (ℕ → ℕ) → Var → ℕ) (rows : List Multiplier)
     (old new : Summed) : Type 0 where
   pub known : (k : ℕ) (multiplier : Multiplier) → slice_get rows k ≡ Some multiplier
       → is_row parts multiplier.row ≡ true
-  pub grows : Grows at (excesses parts rows) (length rows * 2 ^ 83) old new
+  pub grows : Grows at (excesses parts rows) (length rows * 2 ^ 82) old new

@@ -18,9 +18,9 @@ use time_windows::Boxes;
 // So many times the factor.
 fn times(weight: u64, term: Term) -> i128
     requires weight { weight < 2 ^ 62 }
-    requires small { unsigned_abs term.factor ≤ 200000000000 }
+    requires small { unsigned_abs term.factor ≤ 2000000000 }
     ensures product { result ≡ pos weight *ℤ term.factor }
-    ensures small { unsigned_abs result < 2 ^ 100 }
+    ensures small { unsigned_abs result < 2 ^ 93 }
 {
     i128::from(weight) * i128::from(term.factor)
 }
@@ -38,10 +38,10 @@ fn add_step(
     requires there { IsThere (parts_of s.now).flights term.variable }
     requires positions { length sums.old.factors ≡ columns.now.count }
     requires weight { weight < 2 ^ 62 }
-    requires small { unsigned_abs term.factor ≤ 200000000000 }
-    requires room { mass sums.old + 2 ^ 100 < 2 ^ 126 }
+    requires small { unsigned_abs term.factor ≤ 2000000000 }
+    requires room { mass sums.old + 2 ^ 93 < 2 ^ 126 }
     ensures { Grows (choice_in (parts_of s.now) columns.now boxes.now)
-        (λ value. pos weight *ℤ (term.factor *ℤ pos (value term.variable))) (2 ^ 100) sums.old
+        (λ value. pos weight *ℤ (term.factor *ℤ pos (value term.variable))) (2 ^ 93) sums.old
         sums.new }
 {
     let more = times(weight, term);
@@ -62,12 +62,12 @@ fn add_late(
     requires flight { flight < length (parts_of s.now).flights }
     requires positions { length sums.old.factors ≡ columns.now.count }
     requires weight { weight < 2 ^ 62 }
-    requires room { mass sums.old + 2 ^ 110 < 2 ^ 126 }
+    requires room { mass sums.old + 2 ^ 102 < 2 ^ 126 }
     ensures { Grows (choice_in (parts_of s.now) columns.now boxes.now)
         (λ value. pos weight *ℤ form_value value
         (steps (late_step_at (parts_of s.now).tables (flight_at s.now flight))
         (late_variable flight (flight_at s.now flight))
-        (most_late_at (parts_of s.now).day.periods (flight_at s.now flight)))) (2 ^ 110) sums.old
+        (most_late_at (parts_of s.now).day.periods (flight_at s.now flight)))) (2 ^ 102) sums.old
         sums.new }
 {
     for delay in 0..most_late(s, flight) {
@@ -89,12 +89,12 @@ fn add_wait(
     requires flight { flight < length (parts_of s.now).flights }
     requires positions { length sums.old.factors ≡ columns.now.count }
     requires weight { weight < 2 ^ 62 }
-    requires room { mass sums.old + 2 ^ 110 < 2 ^ 126 }
+    requires room { mass sums.old + 2 ^ 102 < 2 ^ 126 }
     ensures { Grows (choice_in (parts_of s.now) columns.now boxes.now)
         (λ value. pos weight *ℤ form_value value
         (steps (wait_step_at (parts_of s.now).tables (flight_at s.now flight))
         (wait_variable flight (flight_at s.now flight))
-        (most_wait_at (parts_of s.now).day.periods (flight_at s.now flight)))) (2 ^ 110) sums.old
+        (most_wait_at (parts_of s.now).day.periods (flight_at s.now flight)))) (2 ^ 102) sums.old
         sums.new }
 {
     for delay in 0..most_wait(s, flight) {
@@ -115,10 +115,10 @@ fn add_flight(
     requires flight { flight < length (parts_of s.now).flights }
     requires positions { length sums.old.factors ≡ columns.now.count }
     requires weight { weight < 2 ^ 62 }
-    requires room { mass sums.old + 2 ^ 111 < 2 ^ 126 }
+    requires room { mass sums.old + 2 ^ 103 < 2 ^ 126 }
     ensures { Grows (choice_in (parts_of s.now) columns.now boxes.now)
         (λ value. pos weight *ℤ form_value value (terms_at (parts_of s.now) flight
-        (flight_at s.now flight))) (2 ^ 111) sums.old sums.new }
+        (flight_at s.now flight))) (2 ^ 103) sums.old sums.new }
 {
     add_late(sums, columns, s, boxes, flight, weight);
     add_wait(sums, columns, s, boxes, flight, weight);
@@ -137,7 +137,7 @@ fn constant_times(s: &Scenario, weight: u64) -> i128
 fn constant_share(s: &Scenario, weight: u64) -> i128
     requires weight { weight < 2 ^ 62 }
     ensures product { result ≡ pos weight *ℤ (cost_row (parts_of s.now)).constant }
-    ensures small { unsigned_abs result ≤ 2 ^ 122 }
+    ensures small { unsigned_abs result ≤ 2 ^ 104 }
 {
     constant_times(s, weight)
 }
@@ -147,9 +147,9 @@ pub fn add_cost(sums: &mut Sums, columns: &Columns, s: &Scenario, boxes: &Boxes,
     requires ready { IsReady (parts_of s.now) columns.now boxes.now }
     requires positions { length sums.old.factors ≡ columns.now.count }
     requires weight { weight < 2 ^ 62 }
-    requires room { mass sums.old + 2 ^ 124 < 2 ^ 126 }
+    requires room { mass sums.old + 2 ^ 114 < 2 ^ 126 }
     ensures { Grows (choice_in (parts_of s.now) columns.now boxes.now)
-        (λ value. pos weight *ℤ priced_value value (cost_row (parts_of s.now))) (2 ^ 124) sums.old
+        (λ value. pos weight *ℤ priced_value value (cost_row (parts_of s.now))) (2 ^ 114) sums.old
         sums.new }
 {
     sums.land(Landing::Surely, constant_share(s, weight));

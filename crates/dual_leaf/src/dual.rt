@@ -35,7 +35,7 @@ pub fn dual_value(
     requires positions { length sums.old.factors ≡ columns.now.count }
     requires range { HasRange weight rows.now }
     ensures value { IsValued (parts_of s.now) (box_of boxes.now) weight rows.now result }
-    ensures near { IfOk result (λ value. unsigned_abs value < 2 ^ 126) }
+    ensures near { IfOk result (λ value. unsigned_abs value < 2 ^ 115) }
     ensures positions { length sums.new.factors ≡ columns.now.count }
 {
     sums.clear();

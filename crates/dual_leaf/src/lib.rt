@@ -23,7 +23,8 @@
 //! Proved: `leaf_bound` gives exactly the bound of the leaf, or exactly the first fault (`bound`),
 //! and no plan in the box that keeps every rule costs less, whoever chose the multipliers
 //! (`sound`). So it is of any bound that the definition gives a leaf (`leaf_bounds_are_bounds`),
-//! which serves trees of leaves.
+//! which serves trees of leaves. What `leaf_bound` gives is nearer to 0 than 2^115 (`near`), so
+//! that sums with it have room.
 //!
 //! A Dual leaf is worked out in sums: a constant, and a factor for each variable that is free. Each
 //! term of the cost row and of the rows is looked up in the box, and lands in the constant, at a

@@ -24,7 +24,7 @@ fn charge(row: &RowBuffer, count: u64) -> i128
     requires count { count < 2 ^ 62 }
     requires limit { unsigned_abs row.now.limit ≤ most_capacity }
     ensures charge { result ≡ neg_ℤ (pos count *ℤ row.now.limit) }
-    ensures small { unsigned_abs result < 2 ^ 82 }
+    ensures small { unsigned_abs result ≤ most_capacity * 2 ^ 62 }
 {
     -(i128::from(count) * i128::from(row.limit()))
 }
@@ -45,9 +45,9 @@ fn add_row(
     requires small { All (λ term. unsigned_abs term.factor ≤ 1) row.now.terms }
     requires few { length row.now.terms ≤ most_terms }
     requires limit { unsigned_abs row.now.limit ≤ most_capacity }
-    requires room { mass sums.old + 2 ^ 83 < 2 ^ 126 }
+    requires room { mass sums.old + 2 ^ 82 < 2 ^ 126 }
     ensures { Grows (choice_in (parts_of s.now) columns.now boxes.now)
-        (λ value. pos count *ℤ excess value row.now) (2 ^ 83) sums.old sums.new }
+        (λ value. pos count *ℤ excess value row.now) (2 ^ 82) sums.old sums.new }
 {
     add_terms(sums, columns, s, boxes, row.terms(), count);
     sums.land(Landing::Surely, charge(row, count));
@@ -68,11 +68,11 @@ fn add_multiplier(
     requires visits { AreVisitsOf (parts_of s.now) visits.now }
     requires positions { length sums.old.factors ≡ columns.now.count }
     requires count { multiplier.value < 2 ^ 62 }
-    requires room { mass sums.old + 2 ^ 83 < 2 ^ 126 }
+    requires room { mass sums.old + 2 ^ 82 < 2 ^ 126 }
     ensures told { result ≡ is_row (parts_of s.now) multiplier.row }
     ensures grows { result ≡ true → Grows (choice_in (parts_of s.now) columns.now boxes.now)
         (λ value. pos multiplier.value *ℤ excess value (row_of (parts_of s.now) multiplier.row))
-        (2 ^ 83) sums.old sums.new }
+        (2 ^ 82) sums.old sums.new }
     ensures positions { length sums.new.factors ≡ length sums.old.factors }
 {
     if !buffer.fill_with(s, visits, multiplier.row) {
@@ -99,7 +99,7 @@ pub fn add_rows(
     requires positions { length sums.old.factors ≡ columns.now.count }
     requires counts { All (λ multiplier. multiplier.value < 2 ^ 62) rows.now }
     requires few { length rows.now < 2 ^ 32 }
-    requires room { mass sums.old + 2 ^ 115 < 2 ^ 126 }
+    requires room { mass sums.old + 2 ^ 114 < 2 ^ 126 }
     ensures rows { MatchOption result
         (AreAdded (parts_of s.now) (choice_in (parts_of s.now) columns.now boxes.now) rows.now
         sums.old sums.new)

@@ -7,7 +7,7 @@ ghost use Rattle.plan_rules.specs.Loads.{AreLoads, IsMadeFor as AreLoadsFor};
 ghost use Rattle.time_windows.specs.Held.{IsMadeFor, box_of};
 ghost use Rattle.greedy_plan.specs.FirstBound.{IsNear, plus};
 ghost use Rattle.greedy_plan.specs.Greedy.{with_rest};
-ghost use Rattle.dual_leaf.specs.Leaf.{IsBoundOn, IsCostIn, IsUnitBox};
+ghost use Rattle.dual_leaf.specs.Leaf.{IsBoundOn, IsCostIn, IsNearBound, IsUnitBox};
 ghost use Rattle.dual_leaf.specs.UnitSums.{IsNext, IsSoFar, bound_of};
 
 use flight_routes::Work;
@@ -26,6 +26,7 @@ pub fn unit_cost(work: &mut Work, loads: &mut Loads, s: &Scenario, boxes: &Boxes
     requires loads { AreLoadsFor (parts_of s.now) loads.old }
     ensures cost { IsCostIn (parts_of s.now) (box_of boxes.now) result }
     ensures sound { IsBoundOn (parts_of s.now) (box_of boxes.now) result }
+    ensures near { IsNearBound result }
     ensures work { IsWorkFor (parts_of s.now) work.new }
     ensures loads { AreLoadsFor (parts_of s.now) loads.new }
 {

@@ -6,7 +6,7 @@ ghost use Rattle.time_windows.specs.Tight.{IsTight};
 ghost use Rattle.bytime_model.specs.Visits.{AreVisitsOf};
 ghost use Rattle.branch_tree.specs.Leaves.{HasRange};
 ghost use Rattle.dual_leaf.specs.Columns.{AreColumnsOf};
-ghost use Rattle.dual_leaf.specs.Leaf.{IsBoundOn, IsDualAnswer};
+ghost use Rattle.dual_leaf.specs.Leaf.{IsBoundOn, IsDualAnswer, IsNearBound};
 
 use crate::bound::said;
 use crate::columns::Columns;
@@ -57,7 +57,7 @@ impl LeafWork {
     ghost use Rattle.time_windows.specs.Held.{IsMadeFor, box_of};
     ghost use Rattle.time_windows.specs.Tight.{IsTight};
     ghost use Rattle.branch_tree.specs.Leaves.{IsInRange};
-    ghost use Rattle.dual_leaf.specs.Leaf.{IsBoundOn, IsLeafBound};
+    ghost use Rattle.dual_leaf.specs.Leaf.{IsBoundOn, IsLeafBound, IsNearBound};
     ghost use Rattle.dual_leaf.specs.Work.{IsRoomFor};
 
     /// Room for the leaves of the scenario: 20 bytes for each variable that the tight root box
@@ -88,6 +88,8 @@ impl LeafWork {
     /// variables, of the weight times the cost plus each multiplier times what its row is above its
     /// limit (the Lagrangian dual). With the weight 0 a value above 0 gives `NoPlan`.
     ///
+    /// The bound is nearer to 0 than 2^115.
+    ///
     /// The fault is the first of those that `LeafFault` lists. No cut has a row yet, whatever the
     /// pool. It takes no memory, and time for each node; for a Dual leaf also for each period by
     /// which a flight may be late or wait, and for the rows that the leaf names; for a Unit leaf as
@@ -105,6 +107,7 @@ impl LeafWork {
         requires range { IsInRange leaf.now }
         ensures bound { IsLeafBound (parts_of s.now) (box_of boxes.now) leaf.now result }
         ensures sound { IfOk result (IsBoundOn (parts_of s.now) (box_of boxes.now)) }
+        ensures near { IfOk result IsNearBound }
         ensures made { IsRoomFor (parts_of s.now) self.new }
     {
         match leaf {
@@ -143,6 +146,7 @@ fn dual_bound(
     requires range { HasRange weight rows.now }
     ensures bound { IsDualAnswer (parts_of s.now) (box_of boxes.now) weight rows.now result }
     ensures sound { IfOk result (IsBoundOn (parts_of s.now) (box_of boxes.now)) }
+    ensures near { IfOk result IsNearBound }
     ensures positions { length sums.new.factors ≡ columns.now.count }
 {
     if let Some(closed) = first_closed(s, boxes) {

@@ -7,4 +7,4 @@ abbrev pub invariant-loop-flight : goal.invariant-loop-flight
 invariant-loop-flight l =
     Grows (choice_in l.fn.s.parts l.fn.columns l.fn.boxes)
     (part_cost l.fn.s.parts l.fn.weight l.flight)
-    (2 ^ 122 + l.flight * 2 ^ 111) l.fn.sums l.sums
+    (2 ^ 104 + l.flight * 2 ^ 103) l.fn.sums l.sums

@@ -14,5 +14,5 @@ loop-delay-preserved c =
     (late_variable c.args.flight (flight_at c.args.s.now c.args.flight)) c.loop-delay.delay
     c.args.sums.now c.loop-delay.sums c.add_step.new.sums c.loop-delay.invariant
     (subst (λ (term : Term). Grows at
-    (λ value. pos c.args.weight *ℤ (term.factor *ℤ pos (value term.variable))) (2 ^ 100)
+    (λ value. pos c.args.weight *ℤ (term.factor *ℤ pos (value term.variable))) (2 ^ 93)
     c.loop-delay.sums c.add_step.new.sums) c.late_term.ensures c.add_step.ensures)

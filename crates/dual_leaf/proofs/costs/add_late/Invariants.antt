@@ -10,4 +10,4 @@ invariant-loop-delay l =
     (λ value. pos l.fn.weight *ℤ form_value value
     (steps (late_step_at l.fn.s.parts.tables (slice_get l.fn.s.parts.flights l.fn.flight))
     (late_variable l.fn.flight (slice_get l.fn.s.parts.flights l.fn.flight)) l.delay))
-    (l.delay * 2 ^ 100) l.fn.sums l.sums
+    (l.delay * 2 ^ 93) l.fn.sums l.sums

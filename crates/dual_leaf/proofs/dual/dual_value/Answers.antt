@@ -1,4 +1,4 @@
-use Rattle.std.proofs.Common.{◌∙◌, ◌^◌, ◌<◌, sym, subst, unsigned_abs}
+use Rattle.std.proofs.Common.{◌∙◌, ◌^◌, ◌<◌, sym, subst, unsigned_abs, arith}
 use Rattle.flow_types.specs.Scenario.{parts_of}
 use Rattle.time_windows.specs.Held.{box_of}
 use Rattle.dual_leaf.specs.Dual.{IsDualValue}
@@ -19,7 +19,7 @@ returns-in-None-clause-value c =
     c.requires.ready c.args.weight rows c.requires.range _ _ _ _ c.clear.ensures c.add_cost.ensures
     added in
     let whole = whole_near c.least.result
-    (subst (λ z. unsigned_abs z < 2 ^ 126) (sym c.least.ensures) near) in (
+    (subst (λ z. unsigned_abs z < 2 ^ 126) (sym c.least.ensures) (omega (arith, near))) in (
       added.known,
       subst (IsDualValue parts (box_of c.args.boxes.now) c.args.weight rows)
           (sym c.least.ensures ∙ sym whole) value,
@@ -31,5 +31,6 @@ returns-in-None-clause-near c =
     let near = leaf_near (parts_of c.args.s.now) c.args.s.now.valid c.args.columns.now
     c.args.boxes.now c.requires.ready c.args.weight c.args.rows.now c.requires.range _ _ _ _
     c.clear.ensures c.add_cost.ensures c.in-None.ensures.rows in
-    let here = subst (λ z. unsigned_abs z < 2 ^ 126) (sym c.least.ensures) near in
-    subst (λ z. unsigned_abs z < 2 ^ 126) (sym (whole_near c.least.result here)) here
+    let here = subst (λ z. unsigned_abs z < 2 ^ 115) (sym c.least.ensures) near in
+    subst (λ z. unsigned_abs z < 2 ^ 115)
+    (sym (whole_near c.least.result (omega (arith, here)))) here
