@@ -1,11 +1,13 @@
 -- The least of bounds against a cost: which costs it allows, and which it reaches.
-use Rattle.std.proofs.Common.{◌≡◌, ℕ, zero, suc, ◌+◌, ◌<◌, ◌≤◌, List, [], ◌∷◌, length, get_or, drop, ℤ, ◌≤ℤ◌, refl, sym, ◌∙◌, ap, arith}
+use Rattle.std.proofs.Common.{◌≡◌, ℕ, zero, suc, ◌+◌, ◌<◌, ◌≤◌, List, [], ◌∷◌, length, get_or, drop, ℤ, ◌≤ℤ◌, All, ◌⊎◌, inl, inr, refl, sym, ◌∙◌, ap, subst, arith}
 use Rattle.std.proofs.lemmas.Int.{ints}
 use Rattle.std.proofs.lemmas.List.{drop_all, drop_more}
+use Rattle.std.proofs.lemmas.List.Elements.{All-tail}
 use Rattle.std.specs.Int.{int_min}
 use Rattle.exact_sums.proofs.LeastFacts.{least_of_two}
 use Rattle.flow_types.specs.declared.bound.Bound.{Bound}
 use Rattle.flow_types.specs.declared.bound.Bound.TheVariants.{AtLeast, NoPlan}
+use Rattle.dual_leaf.specs.Leaf.{IsNearBound}
 use Rattle.tree_search.specs.Bounds.{least_of, lesser}
 
 -- a plan may cost so much
@@ -82,3 +84,19 @@ least_all least bounds at past is =
     none : (b : Bound) → lesser b NoPlan ≡ b
     none NoPlan = refl
     none (AtLeast b) = refl
+
+near_lesser : (a b : Bound) → IsNearBound a → IsNearBound b → IsNearBound (lesser a b)
+near_lesser NoPlan b first second = second
+near_lesser (AtLeast a) NoPlan first second = first
+near_lesser (AtLeast a) (AtLeast b) first second = by (least_of_two a b).2
+  where
+    by : (int_min a b ≡ a) ⊎ (int_min a b ≡ b) → IsNearBound (AtLeast (int_min a b))
+    by (inl is) = subst (λ z. IsNearBound (AtLeast z)) (sym is) first
+    by (inr is) = subst (λ z. IsNearBound (AtLeast z)) (sym is) second
+
+-- the least of bounds that aren't far from 0 isn't
+pub near_least : (bounds : List Bound) → All IsNearBound bounds → IsNearBound (least_of bounds)
+near_least [] each = tt
+near_least (bound ∷ bounds) each =
+    near_lesser bound (least_of bounds) (each 0 NoPlan (omega arith))
+    (near_least bounds (All-tail IsNearBound bound bounds each))

@@ -11,6 +11,7 @@ use Rattle.flow_types.specs.declared.parts.Parts.{Parts}
 use Rattle.flow_types.specs.declared.plan.Stop.{Stop}
 use Rattle.flow_types.specs.Costs.{plan_cost}
 use Rattle.time_windows.specs.Boxes.{Box}
+use Rattle.dual_leaf.specs.Leaf.{IsNearBound}
 use Rattle.branch_tree.specs.declared.tree.TreeNode.{TreeNode}
 use Rattle.relaxed_bound.specs.Reached.{is_reached}
 use Rattle.relaxed_bound.proofs.LicenceFacts.{unreached_is}
@@ -112,6 +113,7 @@ module _ (parts : Parts) (top : Box) (old new : Draft) where
         draft.counts_to);
     rising = subst (AllPairs (λ before after. before ≤ after)) (sym kept.tree.counts) draft.rising;
     bounded = ap length kept.tree.bounds ∙ draft.bounded ∙ sym (ap length kept.tree.nodes);
+    near = subst (All IsNearBound) (sym kept.tree.bounds) draft.near;
   }
 
   pub offered_draft : (plan : Plan) → IsDraft parts top old → IsBest parts old
@@ -148,9 +150,9 @@ module _ (parts : Parts) (top : Box) (old new : Draft) where
   offered_still plan (inr left) reached = subst AreReached (sym left.same) reached
 
   -- a node more
-  pub noted_draft : (node : TreeNode) (bound : Bound) → IsDraft parts top old
-      → IsNoted node bound old new → IsDraft parts top new
-  noted_draft node bound draft noted = record {
+  pub noted_draft : (node : TreeNode) (bound : Bound) → IsNearBound bound
+      → IsDraft parts top old → IsNoted node bound old new → IsDraft parts top new
+  noted_draft node bound near draft noted = record {
     plans = subst (All (IsPlanIn parts top)) (sym noted.plans) draft.plans;
     cheaper = subst (AllPairs (IsCheaper parts)) (sym noted.plans) draft.cheaper;
     greedy = λ plan greedy.
@@ -192,6 +194,8 @@ module _ (parts : Parts) (top : Box) (old new : Draft) where
           length-append old.bounds (bound ∷ []),
           length-append old.nodes (node ∷ []),
         );
+    near = subst (All IsNearBound) (sym noted.bounds)
+        (All-push IsNearBound old.bounds bound draft.near near);
   }
     where
       some : (ps : List Plan) (plan : Plan) → slice_get ps 0 ≡ Some plan → 1 ≤ length ps

@@ -21,6 +21,7 @@ use Rattle.tree_search.specs.Drafts.{AreReached}
 use Rattle.tree_search.specs.Nodes.{IsNodeAt, cutoff_after}
 use Rattle.tree_search.specs.Records.{IsClosed, IsPlanIn, IsSearchRecord, bound_of_cost}
 use Rattle.tree_search.specs.Searching.{IsSearched}
+use Rattle.tree_search.proofs.BoundFacts.{near_least}
 use Rattle.tree_search.proofs.PartFacts.{in_within}
 use Rattle.tree_search.proofs.ReachFacts.{Reaches, bound_closed, last_allowed, reaches_from, reaches_least}
 use Rattle.tree_search.proofs.SoundFacts.{tree_bounds}
@@ -112,6 +113,7 @@ module _ (parts : Parts) (root top : Box) (budget : Budget) (draft : Draft)
           tree = searched.tree;
           bounded = searched.draft_is.bounded;
           bound_is = refl;
+          near = near_least draft.bounds searched.draft_is.near;
           nodes = searched.room;
           ended = by (cases_lt budget.nodes (length draft.nodes + 2));
         }

@@ -62,7 +62,8 @@ module _ (parts : Parts) (budget : Budget) (way : Way) (old new : Draft)
           steps = on.steps;
           parts_of = subst (λ top. ArePartsOf top next.above) (sym same) are_parts.1;
           draft_is = subst (λ top. IsDraft parts top new) (sym same)
-              (noted_draft parts (top_box way) old new (Leaf leaf) bound arrived.draft_is noted);
+              (noted_draft parts (top_box way) old new (Leaf leaf) bound seen.near
+              arrived.draft_is noted);
           best = noted_best parts (top_box way) old new (Leaf leaf) bound arrived.best noted;
           whole = λ boxes pending. subst
               (λ top. Completes parts budget.limits top new (box_of next.present ∷ boxes)) (sym same)
@@ -87,7 +88,8 @@ module _ (parts : Parts) (budget : Budget) (way : Way) (old new : Draft)
       pub leaf_over : IsOver parts way → IsSearched parts budget (top_box way) new
       leaf_over over = record {
         draft_is =
-            noted_draft parts (top_box way) old new (Leaf leaf) bound arrived.draft_is noted;
+            noted_draft parts (top_box way) old new (Leaf leaf) bound seen.near
+              arrived.draft_is noted;
         best = noted_best parts (top_box way) old new (Leaf leaf) bound arrived.best noted;
         tree = all_complete parts budget.limits (top_box way) new (leaf_whole [] over.none);
         room = omega (arith, arrived.room, over.fewer, one_longer (Leaf leaf) bound noted);
@@ -152,7 +154,8 @@ module _ (parts : Parts) (budget : Budget) (way : Way) (old new : Draft)
         );
         parts_of = (arrived.part, arrived.parts_of);
         draft_is = noted_draft parts (top_box way) old new
-            (Split branch.flight branch.node branch.time old.best) NoPlan arrived.draft_is noted;
+            (Split branch.flight branch.node branch.time old.best) NoPlan tt
+            arrived.draft_is noted;
         best = noted_best parts (top_box way) old new
             (Split branch.flight branch.node branch.time old.best) NoPlan arrived.best noted;
         whole = split_whole;

@@ -9,7 +9,7 @@ use Rattle.time_windows.specs.Splits.{IsBranching}
 use Rattle.time_windows.specs.Tight.{IsTight}
 use Rattle.branch_tree.specs.declared.leaf.Leaf.{Leaf}
 use Rattle.dual_leaf.specs.declared.fault.LeafFault.{LeafFault}
-use Rattle.dual_leaf.specs.Leaf.{IsLeafBound, IsLive, IsUnitBound, IsUnitBox}
+use Rattle.dual_leaf.specs.Leaf.{IsLeafBound, IsLive, IsNearBound, IsUnitBound, IsUnitBox}
 use Rattle.relaxed_bound.specs.declared.limits.Limits.{Limits}
 use Rattle.relaxed_bound.specs.Reached.{is_reached}
 use Rattle.relaxed_bound.specs.Relaxed.{relaxed_leaf}
@@ -55,9 +55,9 @@ pub run_seen : (parts : Parts) (limits : Limits) (cutoff : Option ℤ) (more : B
     (branch : Branch) (leaf : Leaf) (bound : Bound) → IsBoxOf parts box → IsLive box
     → IsBranchOf parts box branch → leaf ≡ relaxed_leaf parts box limits cutoff
     → IsLeafBound parts box leaf (Ok bound)
-    → (more ≡ true → is_reached cutoff bound ≡ true)
+    → (more ≡ true → is_reached cutoff bound ≡ true) → IsNearBound bound
     → IsLeafSeen parts limits cutoff more box leaf bound
-run_seen parts limits cutoff more box branch leaf bound made live branch_is is bound_is reached =
+run_seen parts limits cutoff more box branch leaf bound made live branch_is is bound_is reached near =
     record {
       node = record {
         inside = made;
@@ -69,6 +69,7 @@ run_seen parts limits cutoff more box branch leaf bound made live branch_is is b
         });
       };
       reached = reached;
+      near = near;
     }
 
 pub apart : (b : Bool) → b ≡ true → b ≡ false → ⊥

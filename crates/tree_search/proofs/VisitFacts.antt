@@ -9,6 +9,7 @@ use Rattle.flow_types.specs.Costs.{plan_cost}
 use Rattle.flow_types.specs.Valid.{IsScenario}
 use Rattle.time_windows.specs.Boxes.{Box, IsInBox}
 use Rattle.greedy_plan.specs.Greedy.{IsGreedy}
+use Rattle.dual_leaf.specs.Leaf.{IsNearBound}
 use Rattle.dual_leaf.proofs.LeafFacts.{same_plan}
 use Rattle.dual_leaf.proofs.UnitSumFacts.{stuck}
 use Rattle.relaxed_bound.specs.declared.limits.Limits.{Limits}
@@ -121,6 +122,7 @@ module _ (parts : Parts) (box : Box) (old new : Draft) (plans : old.plans ≡ []
         rising = subst (AllPairs (λ before after. before ≤ after)) (sym no_counts)
             (λ i j d less within. absurd (omega (arith, within)));
         bounded = ap length no_bounds ∙ sym (ap length no_nodes);
+        near = subst (All IsNearBound) (sym no_bounds) (All-nil IsNearBound);
       }
 
   pub visited_first : IsVisited parts box old new → IsDraft parts box new

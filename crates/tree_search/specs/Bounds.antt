@@ -1,5 +1,5 @@
 -- The least of bounds; that there is no plan is above all numbers.
-use Rattle.std.specs.Prelude.{◌^◌, ◌<◌, List, [], ◌∷◌, unsigned_abs}
+use Rattle.std.specs.Prelude.{List, [], ◌∷◌}
 use Rattle.std.specs.Int.{int_min}
 use Rattle.flow_types.specs.declared.bound.Bound.{Bound}
 use Rattle.flow_types.specs.declared.bound.Bound.TheVariants.{AtLeast, NoPlan}
@@ -12,8 +12,3 @@ lesser (AtLeast first) (AtLeast second) = AtLeast (int_min first second)
 abbrev pub least_of : List Bound → Bound
 least_of [] = NoPlan
 least_of (bound ∷ bounds) = lesser bound (least_of bounds)
-
--- not too far from 0
-abbrev pub IsNearBound : Bound → Type 0
-IsNearBound NoPlan = Unit {0}
-IsNearBound (AtLeast least) = unsigned_abs least < 2 ^ 115

@@ -10,7 +10,7 @@ use Rattle.time_windows.specs.Boxes.{Box}
 use Rattle.greedy_plan.specs.Greedy.{IsGreedy}
 use Rattle.branch_tree.specs.declared.tree.TreeNode.{TreeNode}
 use Rattle.branch_tree.specs.Forests.{IsTreeOn, Leads}
-use Rattle.dual_leaf.specs.Leaf.{IsCostIn, IsUnitBox}
+use Rattle.dual_leaf.specs.Leaf.{IsCostIn, IsNearBound, IsUnitBox}
 use Rattle.relaxed_bound.specs.declared.limits.Limits.{Limits}
 use Rattle.relaxed_bound.specs.Reached.{is_reached}
 use Rattle.tree_search.specs.declared.draft.Draft.{Draft}
@@ -26,6 +26,7 @@ pub record IsDraft (parts : Parts) (top : Box) (draft : Draft) : Type 0 where
   pub counts_to : All (λ count. count ≤ length draft.plans) draft.counts
   pub rising : AllPairs (λ before after. before ≤ after) draft.counts
   pub bounded : length draft.bounds ≡ length draft.nodes
+  pub near : All IsNearBound draft.bounds
 
 -- the best is what the last plan costs
 abbrev pub IsBest : Parts → Draft → Type 0

@@ -11,6 +11,7 @@ use Rattle.time_windows.specs.Boxes.{Box, IsInBox}
 use Rattle.time_windows.specs.Tight.{IsTightened}
 use Rattle.greedy_plan.specs.Greedy.{IsGreedy}
 use Rattle.branch_tree.specs.Forests.{IsTreeOn}
+use Rattle.dual_leaf.specs.Leaf.{IsNearBound}
 use Rattle.tree_search.specs.declared.found.Budget.{Budget}
 use Rattle.tree_search.specs.declared.found.Found.{Found}
 use Rattle.tree_search.specs.Bounds.{least_of}
@@ -56,5 +57,6 @@ pub record IsSearchRecord (parts : Parts) (root : Box) (budget : Budget) (found 
       (IsNodeAt parts budget.limits found.plans found.counts found.bounds) tight found.tree
   pub bounded : length found.bounds ≡ length found.tree
   pub bound_is : found.bound ≡ least_of found.bounds
+  pub near : IsNearBound found.bound
   pub nodes : length found.tree ≤ budget.nodes
   pub ended : IsClosed parts found ⊎ (budget.nodes < length found.tree + 2)

@@ -6,6 +6,7 @@ use Rattle.flow_types.specs.declared.parts.Parts.{Parts}
 use Rattle.time_windows.specs.Boxes.{Box, options_of}
 use Rattle.time_windows.specs.Splits.{IsBranching}
 use Rattle.branch_tree.specs.declared.leaf.Leaf.{Leaf as LeafKind}
+use Rattle.dual_leaf.specs.Leaf.{IsNearBound}
 use Rattle.relaxed_bound.specs.declared.limits.Limits.{Limits}
 use Rattle.relaxed_bound.specs.Reached.{is_reached}
 use Rattle.tree_search.specs.declared.seeing.Seen.{Seen}
@@ -28,6 +29,7 @@ pub record IsLeafSeen (parts : Parts) (limits : Limits) (cutoff : Option ℤ) (m
     (box : Box) (leaf : LeafKind) (bound : Bound) : Type 0 where
   pub node : IsLeafNode parts limits cutoff bound box leaf
   pub reached : more ≡ true → is_reached cutoff bound ≡ true
+  pub near : IsNearBound bound
 
 -- a split, for which there is room
 pub record IsSplitSeen (parts : Parts) (limits : Limits) (cutoff : Option ℤ) (more : Bool)

@@ -3,7 +3,7 @@ ghost use Rattle.std.specs.Prelude.{◌≡◌, IfOk, Ok, Result, true};
 ghost use Rattle.std.specs.Result.{IsOk};
 ghost use Rattle.branch_tree.specs.Leaves.{IsInRange};
 ghost use Rattle.dual_leaf.specs.declared.fault.LeafFault.{LeafFault};
-ghost use Rattle.dual_leaf.specs.Leaf.{IsCostIn, IsLeafBound, IsLive, IsUnitBox};
+ghost use Rattle.dual_leaf.specs.Leaf.{IsCostIn, IsLeafBound, IsLive, IsNearBound, IsUnitBox};
 ghost use Rattle.dual_leaf.specs.Work.{IsRoomFor};
 ghost use Rattle.flow_types.specs.Scenario.{parts_of};
 ghost use Rattle.flow_types.specs.declared.bound.Bound.{Bound};
@@ -110,6 +110,7 @@ fn bound_of(alloc: Global, s: &Scenario, boxes: &Boxes, work: &mut LeafWork, lea
     requires some { (answer : Result Bound LeafFault)
         → IsLeafBound (parts_of s.now) (box_of boxes.now) leaf.now answer → IsOk answer }
     ensures bound { IsLeafBound (parts_of s.now) (box_of boxes.now) leaf.now (Ok result) }
+    ensures near { IsNearBound result }
     ensures work { IsRoomFor (parts_of s.now) work.new }
 {
     work.leaf_bound(s, boxes, leaf, &Pool::empty(alloc))

@@ -11,7 +11,7 @@ returns-else-more-clause-seen c =
     run_seen (parts_of c.args.s.now) c.args.limits c.args.cutoff c.args.more
     (box_of c.args.boxes.now) c.args.branch c.in_ok-leaf.field-0.leaf c.bound_of-bound.result
     c.requires.made.inside c.requires.live c.requires.branch c.in_ok-leaf.ensures.leaf
-    c.bound_of-bound.ensures.bound reached
+    c.bound_of-bound.ensures.bound reached c.bound_of-bound.ensures.near
   where
     reached : c.args.more ≡ true → is_reached c.args.cutoff c.bound_of-bound.result ≡ true
     reached room = elim c.else-more.branch
