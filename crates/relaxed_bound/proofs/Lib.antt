@@ -1,3 +1,4 @@
 pub mod LicenceFacts
 pub mod BareFacts
+pub mod PointFacts
 pub mod ToldFacts

@@ -1,4 +1,5 @@
 pub mod Licence
+pub mod Point
 pub mod Reached
 pub mod Relaxed
 pub mod Root

@@ -1,5 +1,5 @@
 //! The leaf that a run tells.
-ghost use Rattle.std.specs.Prelude.{◌≡◌, [], IfOk, Ok, false};
+ghost use Rattle.std.specs.Prelude.{◌≡◌, [], IfOk, IfSome, Ok, false};
 ghost use Rattle.branch_tree.specs.declared.leaf.Leaf.TheVariants.{Dual};
 ghost use Rattle.branch_tree.specs.Leaves.{IsInRange};
 ghost use Rattle.dual_leaf.specs.Leaf.{IsLeafBound};
@@ -9,16 +9,18 @@ ghost use Rattle.relaxed_bound.specs.Licence.{IsLicensed, end_of};
 ghost use Rattle.relaxed_bound.specs.Reached.{is_reached};
 ghost use Rattle.relaxed_bound.specs.Relaxed.{relaxed_leaf, told_leaf};
 ghost use Rattle.relaxed_bound.specs.Telling.{AreWeights, HasBound, IsRunLeaf};
+ghost use Rattle.relaxed_bound.specs.Point.{IsPointIn, IsPointOf};
+ghost use Rattle.scaled_simplex.specs.Fractions.{AreWorth};
 ghost use Rattle.scaled_simplex.specs.Run.{simplex_run};
 ghost use Rattle.time_windows.specs.Held.{IsMadeFor, box_of};
 ghost use Rattle.time_windows.specs.Tight.{IsTight};
 
 use crate::limits::Limits;
 use branch_tree::{Leaf, Multipliers};
-use bytime_model::RowNames;
+use bytime_model::{RowNames, Vars};
 use flow_types::{OutOfMemory, Scenario};
-use presolve::{Presolved, Refused, leaf_of, program_within};
-use scaled_simplex::{End, Program, Solver, Weights};
+use presolve::{Flags, Presolved, Refused, leaf_of, program_within};
+use scaled_simplex::{End, Fractions, Numerators, Program, Run, Solver, Weights};
 use std::alloc::Global;
 use time_windows::Boxes;
 use valid_cuts::Pool;
@@ -30,6 +32,22 @@ pub struct Relaxed {
     pub leaf: Leaf,
     /// How the run ended.
     pub end: End,
+    /// The run's point, where it ended Optimal and the point's denominator isn't too far from 0.
+    pub point: Option<Point>,
+}
+
+/// A point of the relaxation, which keeps every row: a fraction for each variable that the box
+/// leaves free.
+#[derive(Debug, Drop)]
+pub struct Point {
+    /// The variables.
+    pub columns: Vars,
+    /// Whether the number is that of 1 less the variable.
+    pub flipped: Flags,
+    /// The numerators, one for each of these.
+    pub numerators: Numerators,
+    /// Their denominator, above 0.
+    pub denominator: i128,
 }
 
 // How a run ended, and what it tells.
@@ -37,6 +55,27 @@ pub struct Relaxed {
 struct Ended {
     end: End,
     weights: Weights,
+    fractions: Option<Fractions>,
+}
+
+// What a run comes to.
+#[derive(Drop)]
+struct Ran {
+    leaf: Leaf,
+    end: End,
+    fractions: Option<Fractions>,
+}
+
+// The run's point, where it ended Optimal.
+fn fractions_of(alloc: Global, run: &Run<'_>) -> Result<Option<Fractions>, OutOfMemory>
+    ensures { IfOk result
+        (λ fractions. IfSome fractions (AreWorth run.now.problem run.now.outcome)) }
+{
+    if run.end() != End::Optimal {
+        return Ok(None);
+    }
+    let fractions = run.point(alloc)?;
+    Ok(Some(fractions))
 }
 
 // What a run of the program tells. Its tableau is dropped then.
@@ -50,12 +89,19 @@ fn run_program(
         ≡ (simplex_run program.now limits.pivots limits.cells cutoff).end) }
     ensures weights { IfOk result (λ ended. AreWeights program.now cutoff
         (simplex_run program.now limits.pivots limits.cells cutoff) ended.weights) }
+    ensures fractions { IfOk result (λ ended. IfSome ended.fractions (AreWorth program.now
+        (simplex_run program.now limits.pivots limits.cells cutoff))) }
 {
     let solver = Solver::new(alloc, program, limits.cells)?;
     let run = solver.run(limits.pivots, cutoff)?;
     let end = run.end();
+    let fractions = fractions_of(alloc, &run)?;
     let weights = run.multipliers(alloc)?;
-    Ok(Ended { end, weights })
+    Ok(Ended {
+        end,
+        weights,
+        fractions,
+    })
 }
 
 // The leaf with this weight, and these multipliers of the rows with these names.
@@ -75,15 +121,52 @@ fn run_relaxed(
     presolved: &Presolved,
     limits: Limits,
     cutoff: Option<i64>,
-) -> Result<Relaxed, OutOfMemory>
-    ensures end { IfOk result (λ relaxed. relaxed.end
+) -> Result<Ran, OutOfMemory>
+    ensures end { IfOk result (λ ran. ran.end
         ≡ (simplex_run presolved.now.program limits.pivots limits.cells cutoff).end) }
-    ensures leaf { IfOk result (λ relaxed. IsRunLeaf presolved.now.program presolved.now.kept cutoff
-        (simplex_run presolved.now.program limits.pivots limits.cells cutoff) relaxed.leaf) }
+    ensures leaf { IfOk result (λ ran. IsRunLeaf presolved.now.program presolved.now.kept cutoff
+        (simplex_run presolved.now.program limits.pivots limits.cells cutoff) ran.leaf) }
+    ensures fractions { IfOk result (λ ran. IfSome ran.fractions
+        (AreWorth presolved.now.program
+        (simplex_run presolved.now.program limits.pivots limits.cells cutoff))) }
 {
-    let Ended { end, weights } = run_program(alloc, &presolved.program, limits, cutoff)?;
+    let Ended {
+        end,
+        weights,
+        fractions,
+    } = run_program(alloc, &presolved.program, limits, cutoff)?;
     let leaf = told_leaf(alloc, &presolved.kept, &weights)?;
-    Ok(Relaxed { leaf, end })
+    Ok(Ran {
+        leaf,
+        end,
+        fractions,
+    })
+}
+
+// The point of these fractions, if they are one.
+fn point_in(presolved: Presolved, fractions: Option<Fractions>) -> Option<Point>
+    ensures { IfSome result (IsPointOf presolved fractions) }
+{
+    match fractions {
+        Some(Fractions::Point {
+            numerators,
+            denominator,
+        }) => {
+            let Presolved {
+                program: _,
+                columns,
+                kept: _,
+                flipped,
+            } = presolved;
+            Some(Point {
+                columns,
+                flipped,
+                numerators,
+                denominator,
+            })
+        }
+        _ => None,
+    }
 }
 
 // The leaf of one unit of the cost, in which no row counts.
@@ -104,7 +187,7 @@ fn bare_leaf(alloc: Global) -> Leaf
 /// It takes what `program_within` takes, and beside the program 20 bytes for each entry of the
 /// tableau, or some times that, since lists grow and rows keep blocks that are up to four times too
 /// long. Time: for each pivot the rows that have an entry in its column.
-#[tactic(auto, using(crate::proofs::BareFacts::bare_is, crate::proofs::BareFacts::bare_range, crate::proofs::BareFacts::bare_has, crate::proofs::BareFacts::bare_end, crate::proofs::BareFacts::bare_licensed, crate::proofs::ToldFacts::run_is, crate::proofs::ToldFacts::run_has, crate::proofs::ToldFacts::run_end, crate::proofs::ToldFacts::run_licensed))]
+#[tactic(auto, using(crate::proofs::BareFacts::bare_is, crate::proofs::BareFacts::bare_range, crate::proofs::BareFacts::bare_has, crate::proofs::BareFacts::bare_end, crate::proofs::BareFacts::bare_licensed, crate::proofs::ToldFacts::run_is, crate::proofs::ToldFacts::run_has, crate::proofs::ToldFacts::run_end, crate::proofs::ToldFacts::run_licensed, crate::proofs::PointFacts::point_is))]
 pub fn relax(
     alloc: Global,
     s: &Scenario,
@@ -121,6 +204,8 @@ pub fn relax(
     ensures range { IfOk result (λ relaxed. IsInRange relaxed.leaf) }
     ensures some { IfOk result (λ relaxed. HasBound (parts_of s.now) (box_of boxes.now)
         relaxed.leaf) }
+    ensures point { IfOk result (λ relaxed. IfSome relaxed.point
+        (IsPointIn (parts_of s.now) (box_of boxes.now))) }
     ensures licensed { IfOk result (λ relaxed. (bound : Bound)
         → IsLeafBound (parts_of s.now) (box_of boxes.now) relaxed.leaf (Ok bound)
         → is_reached cutoff bound ≡ false
@@ -128,12 +213,18 @@ pub fn relax(
 {
     match program_within(alloc, s, boxes, &Pool::empty(alloc), limits.cells) {
         Ok(presolved) => {
-            let relaxed = run_relaxed(alloc, &presolved, limits, cutoff)?;
-            Ok(relaxed)
+            let Ran {
+                leaf,
+                end,
+                fractions,
+            } = run_relaxed(alloc, &presolved, limits, cutoff)?;
+            let point = point_in(presolved, fractions);
+            Ok(Relaxed { leaf, end, point })
         }
         Err(Refused::Wide) => Ok(Relaxed {
             leaf: bare_leaf(alloc),
             end: End::Wide,
+            point: None,
         }),
         Err(Refused::OutOfMemory) => Err(OutOfMemory),
     }

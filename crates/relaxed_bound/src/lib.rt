@@ -42,7 +42,7 @@ mod reached;
 mod root;
 
 pub use bound::relaxed_bound;
-pub use leaf::{Relaxed, relax};
+pub use leaf::{Point, Relaxed, relax};
 pub use limits::Limits;
 pub use reached::is_reached;
 pub use root::root_bound;
