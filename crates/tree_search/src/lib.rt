@@ -1,7 +1,6 @@
 //! The search for the least plan in a box.
 #![tactic(auto)]
 
-mod branching;
 mod draft;
 mod found;
 mod laws;
