@@ -28,6 +28,7 @@ module _ (before mid now : FilesSeen) (kept : AreKept before mid) (parts : Parts
         failed = λ has. rose_since before.faults mid.faults now.faults kept.faults
             (fault.failed (subst (λ (held : Option Held). HasName held plan) (sym kept.held) has));
         text = fault.text;
+        no_record = fault.no_record;
       }
 
   since : (answer : Printed) → IsOfPlanOf parts (change mid now) plan answer

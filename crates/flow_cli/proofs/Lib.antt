@@ -1,3 +1,4 @@
+pub mod AnswerFacts
 pub mod JudgingFacts
 pub mod TextFacts
 mod WorkedCases
@@ -5,3 +6,4 @@ mod WorkedRuns
 mod WorkedVerdicts
 pub mod ReportFacts
 pub mod PlanningFacts
+pub mod WordFacts

@@ -9,6 +9,7 @@ use Rattle.flow_types.specs.declared.plan.Stop.{Stop}
 use Rattle.flow_types.specs.Feasible.{IsFeasible, KeepsTurn}
 use Rattle.worked_days.specs.Days.{plan_with, trip_at, two_flights}
 use Rattle.worked_days.proofs.WorkedDay.{beside_is, feasible_is, there_is}
+use Rattle.tree_search.specs.declared.found.Budget.{Budget}
 use Rattle.flow_cli.specs.Texts.{report_text}
 use Rattle.flow_cli.specs.Words.{Judged, Planned, asked}
 
@@ -55,11 +56,27 @@ report_of_infeasible parts = refl
 
 -- The words ask for a plan where they are `plan` and one name, and for a verdict where they are
 -- `judge` and two.
-a_day_to_plan : asked (codes "plan" ∷ codes "day.csv" ∷ []) ≡ Some (Planned (codes "day.csv"))
+abbrev budget : ℕ → ℕ → ℕ → Budget
+budget nodes pivots cells =
+    record { nodes = nodes; limits = record { pivots = pivots; cells = cells } }
+
+abbrev pub default_budget : Budget
+default_budget = budget 2001 20000 2000000
+
+abbrev day : List ℕ
+day = codes "day.csv"
+
+a_day_to_plan : asked (codes "plan" ∷ day ∷ []) ≡ Some (Planned day default_budget)
 a_day_to_plan = refl
 
-a_plan_to_judge : asked (codes "judge" ∷ codes "day.csv" ∷ codes "plan.csv" ∷ [])
-    ≡ Some (Judged (codes "day.csv") (codes "plan.csv"))
+options_before_and_behind :
+    asked (codes "plan" ∷ codes "--cells" ∷ codes "16000000" ∷ day ∷ codes "--pivots" ∷ codes "0"
+    ∷ codes "--nodes" ∷ codes "00000021" ∷ [])
+    ≡ Some (Planned day (budget 21 0 16000000))
+options_before_and_behind = refl
+
+a_plan_to_judge : asked (codes "judge" ∷ day ∷ codes "plan.csv" ∷ [])
+    ≡ Some (Judged day (codes "plan.csv"))
 a_plan_to_judge = refl
 
 no_words : asked [] ≡ None
@@ -74,19 +91,52 @@ an_empty_name = refl
 an_option_for_a_name : asked (codes "plan" ∷ codes "--nodes" ∷ []) ≡ None
 an_option_for_a_name = refl
 
-a_word_too_many : asked (codes "plan" ∷ codes "day.csv" ∷ codes "day.csv" ∷ []) ≡ None
+a_number_for_a_name : asked (codes "plan" ∷ codes "--nodes" ∷ codes "21" ∷ []) ≡ None
+a_number_for_a_name = refl
+
+an_option_without_its_number : asked (codes "plan" ∷ day ∷ codes "--nodes" ∷ []) ≡ None
+an_option_without_its_number = refl
+
+an_option_twice :
+    asked (codes "plan" ∷ day ∷ codes "--nodes" ∷ codes "21" ∷ codes "--nodes" ∷ codes "21" ∷ [])
+    ≡ None
+an_option_twice = refl
+
+no_nodes : asked (codes "plan" ∷ day ∷ codes "--nodes" ∷ codes "0" ∷ []) ≡ None
+no_nodes = refl
+
+too_few_cells : asked (codes "plan" ∷ day ∷ codes "--cells" ∷ codes "999" ∷ []) ≡ None
+too_few_cells = refl
+
+too_many_pivots : asked (codes "plan" ∷ day ∷ codes "--pivots" ∷ codes "1000001" ∷ []) ≡ None
+too_many_pivots = refl
+
+too_many_digits : asked (codes "plan" ∷ day ∷ codes "--nodes" ∷ codes "000000021" ∷ []) ≡ None
+too_many_digits = refl
+
+a_number_with_a_sign : asked (codes "plan" ∷ day ∷ codes "--nodes" ∷ codes "+21" ∷ []) ≡ None
+a_number_with_a_sign = refl
+
+an_option_and_its_number_in_a_word : asked (codes "plan" ∷ day ∷ codes "--nodes=21" ∷ []) ≡ None
+an_option_and_its_number_in_a_word = refl
+
+an_option_that_is_not_there_yet :
+    asked (codes "plan" ∷ day ∷ codes "--rounds" ∷ codes "64" ∷ []) ≡ None
+an_option_that_is_not_there_yet = refl
+
+a_word_too_many : asked (codes "plan" ∷ day ∷ day ∷ []) ≡ None
 a_word_too_many = refl
 
-another_command : asked (codes "Plan" ∷ codes "day.csv" ∷ []) ≡ None
+another_command : asked (codes "Plan" ∷ day ∷ []) ≡ None
 another_command = refl
 
-a_longer_command : asked (codes "planes" ∷ codes "day.csv" ∷ []) ≡ None
+a_longer_command : asked (codes "planes" ∷ day ∷ []) ≡ None
 a_longer_command = refl
 
-no_plan_to_judge : asked (codes "judge" ∷ codes "day.csv" ∷ []) ≡ None
+no_plan_to_judge : asked (codes "judge" ∷ day ∷ []) ≡ None
 no_plan_to_judge = refl
 
-an_option_for_a_plan : asked (codes "judge" ∷ codes "day.csv" ∷ codes "-" ∷ []) ≡ None
+an_option_for_a_plan : asked (codes "judge" ∷ day ∷ codes "-" ∷ []) ≡ None
 an_option_for_a_plan = refl
 
 -- The plan of the earliest trips keeps every rule where two may leave in a period.

@@ -51,17 +51,19 @@ unchanged held =
 abbrev EndsOn : Held → List (List ℕ) → List ℕ → Status → Type 0
 EndsOn held words text status =
     let empty : SinkSeen = record { written = Some []; faults = 0 } in
-    Ends (unchanged held) (change empty (record { written = Some text; faults = 0 })) words status
+    Ends (unchanged held) (change empty (record { written = Some text; faults = 0 })) words
+    (record { status = status; records = [] })
 
 -- a run with this answer
 run_answers : (held : Held) (words : List (List ℕ)) (text : List ℕ) (status : Status)
-    → IsAnswer (unchanged held) (asked words) (record { text = text; status = status })
+    → IsAnswer (unchanged held) (asked words) (record { text = text; status = status; records = [] })
     → EndsOn held words text status
 run_answers held words text status of_words = inl (record {
-  answer = record { text = text; status = status };
+  answer = record { text = text; status = status; records = [] };
   of_words = of_words;
   quiet = λ other. refl;
   ends = refl;
+  records = refl;
   whole = refl;
   unfailed = refl;
 })
@@ -107,7 +109,7 @@ module _ (text plan : List ℕ) (few : length text ≤ most_text_bytes)
 
   no_day : scenario_of text ≡ Err fault
       → IsNoDay (Some files) day_name
-      (record { text = codes "refused,11,4,BackLeg\n"; status = BadScenario })
+      (record { text = codes "refused,11,4,BackLeg\n"; status = BadScenario; records = [] })
   no_day read = record {
     bytes = text;
     source = day_text;
@@ -115,6 +117,7 @@ module _ (text plan : List ℕ) (few : length text ≤ most_text_bytes)
     read = read;
     ends = refl;
     text = sym fault_is_printed;
+    no_record = refl;
   }
 
   plan_is_refused : scenario_of text ≡ Err fault
@@ -133,7 +136,7 @@ module _ (text plan : List ℕ) (few : length text ≤ most_text_bytes)
   module _ (leave : ℕ) (read : scenario_of text ≡ Ok (two_flights leave 9 9)) where
     judged : (printed : List ℕ) (status : Status)
         → plan_of (two_flights leave 9 9) plan ≡ Ok on_time
-        → IsVerdict (two_flights leave 9 9) on_time (record { text = printed; status = status })
+        → IsVerdict (two_flights leave 9 9) on_time (record { text = printed; status = status; records = [] })
         → EndsOn files judge_words printed status
     judged printed status plan_read verdict =
         run_answers files judge_words printed status
@@ -155,7 +158,7 @@ module _ (text plan : List ℕ) (few : length text ≤ most_text_bytes)
   unfolding digits
   run_is_kept read plan_read =
       judged 2 read (codes "keeps,0\n") Done plan_read
-      (inl (record { feasible = keeps; ends = refl; text = refl }))
+      (inl (record { feasible = keeps; ends = refl; text = refl; no_record = refl }))
 
   first_is_departures : first_broken (two_flights 1 9 9) on_time ≡ Some (over Dep 0 0 2 1)
   first_is_departures = refl
@@ -171,6 +174,7 @@ module _ (text plan : List ℕ) (few : length text ≤ most_text_bytes)
         broken = first_rule (two_flights 1 9 9) on_time (over Dep 0 0 2 1) first_is_departures;
         ends = refl;
         text = refl;
+        no_record = refl;
       }))
 
   -- a text that is no plan of the day
@@ -189,6 +193,7 @@ module _ (text plan : List ℕ) (few : length text ≤ most_text_bytes)
           read = plan_read;
           ends = refl;
           text = sym fault_is_printed;
+          no_record = refl;
         }));
       }))
 
@@ -205,12 +210,13 @@ run_is_fault =
       failed = λ has. absurd
           (false≢true (subst IsSome (get-from_entries nat_list_cmp_total [] day_name) has));
       text = refl;
+      no_record = refl;
     }))))
 
 run_is_usage : EndsOn no_files (codes "plan" ∷ []) usage_text Usage
 run_is_usage =
     run_answers no_files (codes "plan" ∷ []) usage_text Usage
-    (record { ends = refl; text = refl })
+    (record { ends = refl; text = refl; no_record = refl })
 
 -- A text of a byte too many is refused by its size.
 size_is_printed : too_long_text (most_text_bytes + 1) ≡ codes "refused,toolong,67108865\n"

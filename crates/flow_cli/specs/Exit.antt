@@ -6,7 +6,7 @@ use Rattle.flow_outside.specs.Seen.{FilesSeen, SinkSeen}
 use Rattle.flow_cli.specs.Answer.{Ends}
 use Rattle.flow_cli.specs.Outside.{Change}
 use Rattle.flow_cli.specs.Status.{number_of}
-use Rattle.flow_cli.specs.declared.status.Status.{Status}
+use Rattle.flow_cli.specs.declared.answer.Ran.{Ran}
 
 -- the words behind the program's name, none where the environment has no such words
 abbrev pub words_given : {Y Z E : Type 0} → Result (IntoIter (String Y) Z) E → List (List ℕ)
@@ -16,6 +16,6 @@ words_given (Err error) = []
 -- the number is that of the status of a run with these words
 pub record ExitsWith (files : Change FilesSeen) (out : Change SinkSeen) (words : List (List ℕ))
     (number : ℕ) : Type 0 where
-  pub status : Status
-  pub ends : Ends files out words status
-  pub is_number : number ≡ number_of status
+  pub ran : Ran
+  pub ends : Ends files out words ran
+  pub is_number : number ≡ number_of ran.status

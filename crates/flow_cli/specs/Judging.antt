@@ -1,5 +1,5 @@
 -- What is answered where a plan of a day is to be judged.
-use Rattle.std.specs.Prelude.{◌≡◌, ◌⊎◌, List, ℕ, Option, Some, Ok, Err}
+use Rattle.std.specs.Prelude.{◌≡◌, ◌⊎◌, List, [], ℕ, Option, Some, Ok, Err}
 use Rattle.flow_outside.specs.Held.{Held}
 use Rattle.flow_outside.specs.Seen.{FilesSeen}
 use Rattle.flow_types.specs.declared.fault.Fault.{Fault}
@@ -22,6 +22,7 @@ pub record TellsCost (parts : Parts) (plan : List (List Stop)) (answer : Printed
   pub feasible : IsFeasible parts plan
   pub ends : answer.status ≡ Done
   pub text : answer.text ≡ keeps_text (plan_cost parts.tables parts.flights plan)
+  pub no_record : answer.records ≡ []
 
 -- The plan breaks a rule: the first one is printed. It is broken with the values that are printed,
 -- and each rule before it is kept.
@@ -32,6 +33,7 @@ pub record TellsBrokenRule (parts : Parts) (plan : List (List Stop))
   pub broken : IsFirstBroken parts plan rule
   pub ends : answer.status ≡ Broken
   pub text : answer.text ≡ broken_text parts plan rule
+  pub no_record : answer.records ≡ []
 
 abbrev pub IsVerdict : Parts → List (List Stop) → Printed → Type 0
 IsVerdict parts plan answer = TellsCost parts plan answer ⊎ TellsBrokenRule parts plan answer
@@ -54,6 +56,7 @@ pub record IsNoPlan (held : Option Held) (parts : Parts) (name : List ℕ)
   pub read : plan_of parts bytes ≡ Err fault
   pub ends : answer.status ≡ BadPlan
   pub text : answer.text ≡ fault_text fault
+  pub no_record : answer.records ≡ []
 
 -- the answer where the plan of a day that was read is to be judged
 abbrev pub IsOfPlanOf : Parts → Change FilesSeen → List ℕ → Printed → Type 0

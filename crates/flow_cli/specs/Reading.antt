@@ -1,5 +1,5 @@
 -- What is read under a name: a text, the day of a text, or why there is none.
-use Rattle.std.specs.Prelude.{◌≡◌, ◌⊎◌, ℕ, ◌<◌, ◌≤◌, List, length, codes, Option, Ok, Err}
+use Rattle.std.specs.Prelude.{◌≡◌, ◌⊎◌, ℕ, ◌<◌, ◌≤◌, List, [], length, codes, Option, Ok, Err}
 use Rattle.flow_outside.specs.Counts.{Rose}
 use Rattle.flow_outside.specs.Held.{Held, IfTold, HasName}
 use Rattle.flow_outside.specs.Seen.{FilesSeen}
@@ -31,12 +31,14 @@ pub record IsTooMany (held : Option Held) (name : List ℕ) (answer : Printed) :
   pub source : IfTold held name (λ told. size ≡ length told)
   pub above : most_text_bytes < size
   pub text : answer.text ≡ too_long_text size
+  pub no_record : answer.records ≡ []
 
 -- the name isn't there, or a call failed
 pub record IsFailed (files : Change FilesSeen) (name : List ℕ) (answer : Printed) : Type 0 where
   pub ends : answer.status ≡ ReadFault
   pub failed : HasName files.before.held name → Rose files.before.faults files.now.faults
   pub text : answer.text ≡ codes "fault,read\n"
+  pub no_record : answer.records ≡ []
 
 -- the answer where the text of a name isn't read
 abbrev pub IsUnread : Change FilesSeen → List ℕ → Printed → Type 0
@@ -57,6 +59,7 @@ pub record IsNoDay (held : Option Held) (name : List ℕ) (answer : Printed) : T
   pub read : scenario_of bytes ≡ Err fault
   pub ends : answer.status ≡ BadScenario
   pub text : answer.text ≡ fault_text fault
+  pub no_record : answer.records ≡ []
 
 -- the answer where there is no day under the name
 abbrev pub IsWithoutDay : Change FilesSeen → List ℕ → Printed → Type 0

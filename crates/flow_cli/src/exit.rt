@@ -7,6 +7,7 @@ ghost use Rattle.flow_cli.specs.Answer.{Ends};
 ghost use Rattle.flow_cli.specs.Exit.{ExitsWith, words_given};
 ghost use Rattle.flow_cli.specs.Outside.{change};
 
+use crate::answer::Ran;
 use crate::running::run;
 use crate::status::Status;
 use flow_outside::{Files, Sink};
@@ -29,8 +30,8 @@ pub fn exit_code<F: Files, S: Sink>(
         (change (S.seen out.old) (S.seen out.new)) (words_given args) (exit_status result) }
     ensures kept { AreKept (F.seen files.old) (F.seen files.new) }
 {
-    let status = run_given(alloc, args, files, out);
-    ExitCode::from(status.number())
+    let ran = run_given(alloc, args, files, out);
+    ExitCode::from(ran.status.number())
 }
 
 /// Runs the program on the words that are given.
@@ -39,14 +40,14 @@ fn run_given<F: Files, S: Sink>(
     args: io::Result<env::Args>,
     files: &mut F,
     out: &mut S,
-) -> Status
+) -> Ran
     ensures ends { Ends (change (F.seen files.old) (F.seen files.new))
         (change (S.seen out.old) (S.seen out.new)) (words_given args) result }
     ensures kept { AreKept (F.seen files.old) (F.seen files.new) }
 {
     match words_of(alloc, args) {
         Ok(words) => run(alloc, &words, files, out),
-        Err(OutOfMemory) => Status::OutOfMemory,
+        Err(OutOfMemory) => Ran::without_record(alloc, Status::OutOfMemory),
     }
 }
 

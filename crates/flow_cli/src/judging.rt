@@ -50,7 +50,11 @@ fn judge_of<F: Files>(
     let text = text_of(alloc, files, name)?;
     match read_plan(alloc, s, &text) {
         Ok(plan) => Ok(judge_plan(alloc, s, &plan)?),
-        Err(Refusal::Text(fault)) => Ok(Answer::of(fault_line(alloc, fault)?, Status::BadPlan)),
+        Err(Refusal::Text(fault)) => Ok(Answer::of(
+            alloc,
+            fault_line(alloc, fault)?,
+            Status::BadPlan,
+        )),
         Err(Refusal::OutOfMemory) => Err(EarlyEnd::OutOfMemory),
     }
 }
@@ -63,8 +67,9 @@ fn judge_plan(alloc: Global, s: &Scenario, plan: &Plan) -> Result<Answer, OutOfM
     first_broken_rules_are_first();
     let mut loads = Loads::new(alloc, s)?;
     match judge(&mut loads, s, plan) {
-        Verdict::Keeps { cost } => Ok(Answer::of(keeps_line(alloc, cost)?, Status::Done)),
+        Verdict::Keeps { cost } => Ok(Answer::of(alloc, keeps_line(alloc, cost)?, Status::Done)),
         Verdict::Breaks(broken) => Ok(Answer::of(
+            alloc,
             broken_line(alloc, s, plan, broken)?,
             Status::Broken,
         )),

@@ -11,15 +11,18 @@
 //!         let mut words = Vec::new(alloc);
 //!         words.push(String::from_str(alloc, "plan")?)?;
 //!         words.push(String::from_str(alloc, "day.csv")?)?;
-//!         Ok(run(alloc, &words, files, out) == Status::Done)
+//!         Ok(run(alloc, &words, files, out).status == Status::Done)
 //!     }
 //!
 //! What is printed and how a run ends is said by `run`'s contract: in `specs/Answer.antt`, and for
-//! each command in `specs/Planning.antt` and `specs/Judging.antt`. From the status to the number
+//! each command in `specs/Planning.antt` and `specs/Judging.antt`; what words ask for is said in
+//! `specs/Words.antt`. Where a day was planned, `run` hands back the record of the search whose
+//! numbers it printed. From the status to the number
 //! that the process ends with, and from the words of the environment to those of `run`, it is said
 //! by `exit_code`'s, in `specs/Exit.antt`.
 //!
-//! Memory: the words, a text, the scenario, the plan with its loads, and the answer.
+//! Memory: the words, a text, the scenario, its search or the plan with its loads, and the answer.
+//! The record's last plan is printed where it lies.
 #![tactic(auto)]
 
 mod answer;
@@ -28,7 +31,6 @@ mod faults;
 mod judging;
 mod laws;
 mod lines;
-mod outcome;
 mod planning;
 mod reading;
 mod report;
@@ -37,6 +39,7 @@ mod status;
 mod verdicts;
 mod words;
 
+pub use answer::{FoundList, Ran};
 pub use exit::exit_code;
 pub use laws::{reports_are_read_as_their_plans, reports_tell_their_claims};
 pub use running::run;

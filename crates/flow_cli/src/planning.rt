@@ -1,42 +1,70 @@
 //! The command `plan`.
-ghost use Rattle.std.specs.Prelude.{◌≡◌, IfOk};
+ghost use Rattle.std.specs.Prelude.{◌≡◌, ◌<◌, IfOk, IfSome};
 ghost use Rattle.flow_outside.specs.Seen.{AreKept};
 ghost use Rattle.flow_types.specs.Scenario.{parts_of};
+ghost use Rattle.flow_types.specs.Bounds.{IsBound};
+ghost use Rattle.flow_types.specs.Feasible.{IsFeasible};
+ghost use Rattle.time_windows.specs.Boxes.{root_box};
+ghost use Rattle.tree_search.specs.Records.{IsSearchRecord};
 ghost use Rattle.flow_cli.specs.Answers.{IfAnswered, work_status};
 ghost use Rattle.flow_cli.specs.Outside.{change, printed_by};
-ghost use Rattle.flow_cli.specs.Planning.{IsOfPlan, IsPlannedDay};
+ghost use Rattle.flow_cli.specs.Planning.{IsEnough, IsOfPlan, IsOpen, IsPlannedDay, IsSpent, last_plan};
 ghost use Rattle.flow_cli.specs.Reading.{IsQuiet};
 
 use crate::answer::{Answer, EarlyEnd};
-use crate::outcome::{cost_kept, outcome_in};
 use crate::reading::day_of;
-use crate::report::{plan_report, status_of};
+use crate::report::{plan_report, status_in};
 use flow_outside::Files;
 use flow_types::{OutOfMemory, Scenario};
 use std::alloc::Global;
 use time_windows::{Boxes, trips_are_in_the_root_box};
+use tree_search::{Budget, Found, enough_nodes_close, search};
 
-/// The answer where the day of a name is to be planned.
-pub fn plan_named<F: Files>(alloc: Global, files: &mut F, name: &str) -> Result<Answer, EarlyEnd>
+/// The answer where the day of a name is to be planned, by a search that may spend so much.
+pub fn plan_named<F: Files>(
+    alloc: Global,
+    files: &mut F,
+    name: &str,
+    budget: Budget,
+) -> Result<Answer, EarlyEnd>
+    requires nodes { 0 < budget.nodes }
     ensures answered { IfAnswered result
-        (IsOfPlan (change (F.seen files.old) (F.seen files.new)) name.now) }
+        (IsOfPlan (change (F.seen files.old) (F.seen files.new)) name.now budget) }
     ensures quiet { IsQuiet (change (F.seen files.old) (F.seen files.new)) (work_status result) }
     ensures kept { AreKept (F.seen files.old) (F.seen files.new) }
 {
     let s = day_of(alloc, files, name)?;
-    Ok(plan_day(alloc, &s)?)
+    Ok(plan_day(alloc, &s, budget)?)
 }
 
-// The answer to a day: the greedy plan in the tight root box, and the bound that goes with it.
-fn plan_day(alloc: Global, s: &Scenario) -> Result<Answer, OutOfMemory>
-    ensures { IfOk result (λ answer. IsPlannedDay (parts_of s.now) (printed_by answer)) }
+// The answer to a day.
+fn plan_day(alloc: Global, s: &Scenario, budget: Budget) -> Result<Answer, OutOfMemory>
+    requires nodes { 0 < budget.nodes }
+    ensures { IfOk result (λ answer. IsPlannedDay (parts_of s.now) budget (printed_by answer)) }
 {
-    let mut boxes = Boxes::root(alloc, s)?;
-    boxes.tighten(s);
-    let outcome = outcome_in(alloc, s, &boxes)?;
+    let found = search_day(alloc, s, budget)?;
+    let text = plan_report(alloc, s, &found)?;
+    let status = status_in(s, &found);
+    Ok(Answer::of_record(alloc, text, status, found)?)
+}
+
+// The record of a search of all plans of the day.
+#[tactic(auto, using(crate::proofs::PlanningFacts::record_of_day, crate::proofs::PlanningFacts::bound_of_day, crate::proofs::PlanningFacts::last_is_feasible, crate::proofs::PlanningFacts::spent_of_day, crate::proofs::PlanningFacts::closed_of_day))]
+fn search_day(alloc: Global, s: &Scenario, budget: Budget) -> Result<Found, OutOfMemory>
+    requires nodes { 0 < budget.nodes }
+    ensures record { IfOk result
+        (IsSearchRecord (parts_of s.now) (root_box (parts_of s.now)) budget) }
+    ensures feasible { IfOk result
+        (λ found. IfSome (last_plan found) (IsFeasible (parts_of s.now))) }
+    ensures bound { IfOk result (λ found. IsBound (parts_of s.now) found.bound) }
+    ensures spent { IfOk result
+        (λ found. IsOpen (parts_of s.now) found → IsSpent budget found) }
+    ensures closed { IfOk result
+        (λ found. IsEnough (parts_of s.now) budget → IsOpen (parts_of s.now) found → ⊥) }
+{
     trips_are_in_the_root_box();
-    Ok(Answer::of(
-        plan_report(alloc, s, &outcome, 1)?,
-        status_of(cost_kept(&outcome.kept), outcome.bound),
-    ))
+    enough_nodes_close();
+    let root = Boxes::root(alloc, s)?;
+    let found = search(alloc, s, &root, budget)?;
+    Ok(found)
 }

@@ -27,10 +27,12 @@ pub fn text_of<F: Files>(alloc: Global, files: &mut F, name: &str) -> Result<Vec
     match load(alloc, files, name, MOST_TEXT_BYTES) {
         Ok(text) => Ok(text),
         Err(LoadFault::Read) => Err(EarlyEnd::Answered(Answer::fixed(
+            alloc,
             b"fault,read\n",
             Status::ReadFault,
         ))),
         Err(LoadFault::TooLong(size)) => Err(EarlyEnd::Answered(Answer::of(
+            alloc,
             too_long_line(alloc, size)?,
             Status::TooLong,
         ))),
@@ -52,6 +54,7 @@ pub fn day_of<F: Files>(alloc: Global, files: &mut F, name: &str) -> Result<Scen
     match read_scenario(alloc, &text) {
         Ok(s) => Ok(s),
         Err(Refusal::Text(fault)) => Err(EarlyEnd::Answered(Answer::of(
+            alloc,
             fault_line(alloc, fault)?,
             Status::BadScenario,
         ))),

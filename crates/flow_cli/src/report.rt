@@ -1,22 +1,24 @@
 //! What is printed of a day that was planned.
-ghost use Rattle.std.specs.Prelude.{◌≡◌, ◌++◌, Option, None, Some, IfOk, IfSome, OnOk, codes, option_map};
+ghost use Rattle.std.specs.Prelude.{◌≡◌, ◌++◌, IfOk, IfSome, OnOk, codes, length};
 ghost use Rattle.std.specs.Fmt.{decimal};
-ghost use Rattle.flow_cli.specs.Planning.{IsCosted, plan_kept};
+ghost use Rattle.flow_types.specs.Feasible.{IsFeasible};
 ghost use Rattle.flow_types.specs.Scenario.{parts_of};
 ghost use Rattle.flow_cli.specs.Lines.{line_text};
+ghost use Rattle.flow_cli.specs.Planning.{last_cost, last_plan};
 ghost use Rattle.flow_cli.specs.Status.{status_of};
 ghost use Rattle.flow_cli.specs.Texts.{bound_word, claim_text, cost_word, report_text, status_word, trips_text};
 
 use crate::lines::put_line;
-use crate::outcome::Outcome;
 use crate::status::Status;
-use flow_types::{Bound, OutOfMemory, Plan, Scenario, Trip};
+use flow_types::{Bound, OutOfMemory, Scenario, Trip};
+use plan_rules::cost;
 use plan_text::trip_line;
 use std::alloc::Global;
 use text_records::put;
+use tree_search::Found;
 
-/// The status of a plan's cost, if there is one, beside the bound.
-pub fn status_of(cost: Option<i64>, bound: Bound) -> Status
+// The status of a plan's cost, if there is one, beside the bound.
+fn status_of(cost: Option<i64>, bound: Bound) -> Status
     ensures { result ≡ status_of cost bound }
 {
     match bound {
@@ -116,26 +118,43 @@ fn put_trips(
     Ok(())
 }
 
-/// The text that is printed for an outcome: the status, the cost, the bound and the number of
-/// nodes, and a line for each trip of the plan, if there is one.
-pub fn plan_report(
-    alloc: Global,
-    s: &Scenario,
-    outcome: &Outcome,
-    nodes: u64,
-) -> Result<Vec<u8>, OutOfMemory>
-    requires { IfSome outcome.now.kept (λ kept. IsCosted (parts_of s.now) kept.plan kept.cost) }
+// What the last plan costs, if there is one.
+fn last_cost(s: &Scenario, found: &Found) -> Option<i64>
+    requires { IfSome (last_plan found.now) (IsFeasible (parts_of s.now)) }
+    ensures { result ≡ last_cost (parts_of s.now) found.now }
+{
+    match found.plans.items().last() {
+        None => None,
+        Some(plan) => Some(cost(s, plan)),
+    }
+}
+
+/// The status of a record.
+pub fn status_in(s: &Scenario, found: &Found) -> Status
+    requires { IfSome (last_plan found.now) (IsFeasible (parts_of s.now)) }
+    ensures { result ≡ status_of (last_cost (parts_of s.now) found.now) found.now.bound }
+{
+    status_of(last_cost(s, found), found.bound)
+}
+
+/// The text that is printed of a record: the status, the cost, the bound and the number of nodes,
+/// and a line for each trip of the last plan, if there is one.
+pub fn plan_report(alloc: Global, s: &Scenario, found: &Found) -> Result<Vec<u8>, OutOfMemory>
+    requires { IfSome (last_plan found.now) (IsFeasible (parts_of s.now)) }
     ensures { IfOk result
         (λ text. text.items ≡ report_text (parts_of s.now)
-        (plan_kept outcome.now) outcome.now.bound nodes) }
+        (last_plan found.now) found.now.bound (length found.now.tree)) }
 {
     let mut out = Vec::new(alloc);
-    match &outcome.kept {
-        None => put_claim(alloc, &mut out, None, outcome.bound, nodes)?,
-        Some(kept) => {
-            put_claim(alloc, &mut out, Some(kept.cost), outcome.bound, nodes)?;
-            put_trips(alloc, &mut out, s, kept.plan.items())?;
-        }
+    put_claim(
+        alloc,
+        &mut out,
+        last_cost(s, found),
+        found.bound,
+        found.tree.nodes(),
+    )?;
+    if let Some(plan) = found.plans.items().last() {
+        put_trips(alloc, &mut out, s, plan.items())?;
     }
     Ok(out)
 }

@@ -8,7 +8,7 @@ ghost use Rattle.flow_cli.specs.Outside.{change, printed_by};
 ghost use Rattle.flow_cli.specs.Reading.{IsQuiet};
 ghost use Rattle.flow_cli.specs.Words.{asked};
 
-use crate::answer::{Answer, EarlyEnd};
+use crate::answer::{Answer, EarlyEnd, Ran};
 use crate::judging::judge_named;
 use crate::planning::plan_named;
 use crate::status::Status;
@@ -27,32 +27,38 @@ make N
 trial N
 ";
 
-/// Runs the program: the words are `plan` and the name of a day, or `judge`, the name of a day and
-/// that of a plan. The texts are read from the files, at most 64 MiB of each, the day's first; the
-/// day is planned, or its plan is judged, and the answer is written.
+/// Runs the program: the words are `plan` and the name of a day, with options that say how much its
+/// search may spend, or `judge`, the name of a day and that of a plan. The texts are read from the
+/// files, at most 64 MiB of each, the day's first; the day is planned, or its plan is judged, and
+/// the answer is written.
 ///
 /// The status says what the answer is. `Done`, `Infeasible` and `OpenGap` come for a day that is
-/// planned, `Done` and `Broken` for a plan that is judged. `Usage` comes for any other words,
+/// planned, with the record whose numbers were printed: `OpenGap` only where its nodes and two more
+/// are more than it might have. `Done` and `Broken` come for a plan that is judged; then and with
+/// every other status there is no record. `Usage` comes for any other words,
 /// `ReadFault` where a name isn't there or a call fails, `TooLong` for a longer text, `BadScenario`
 /// for a text that is no scenario, `BadPlan` for a text that is no plan, `WriteFault` where the
 /// answer isn't written to its end, and `OutOfMemory` where there is no memory; then nothing is
 /// written. What the files hold stays as it was, and so does their count of faults where the answer
-/// isn't that a read failed. It takes memory for a text, the scenario, the plan with its loads, and
-/// the answer.
-pub fn run<F: Files, S: Sink>(alloc: Global, words: &[String], files: &mut F, out: &mut S) -> Status
+/// isn't that a read failed. It takes memory for a text, the scenario, its search or the plan with
+/// its loads, and the answer.
+pub fn run<F: Files, S: Sink>(alloc: Global, words: &[String], files: &mut F, out: &mut S) -> Ran
     ensures answered { Ends (change (F.seen files.old) (F.seen files.new))
         (change (S.seen out.old) (S.seen out.new)) (map string_bytes words.now) result }
     // WriteFault comes only where the output failed.
-    ensures write_fault { result ≡ Status.WriteFault
+    ensures write_fault { result.status ≡ Status.WriteFault
         → Rose (S.seen out.old).faults (S.seen out.new).faults }
     ensures kept { AreKept (F.seen files.old) (F.seen files.new) }
     ensures write_counts { (S.seen out.old).faults ≤ (S.seen out.new).faults }
 {
     match answer_to(alloc, words, files) {
-        Err(OutOfMemory) => Status::OutOfMemory,
+        Err(OutOfMemory) => Ran::without_record(alloc, Status::OutOfMemory),
         Ok(answer) => match put_all(out, &answer.text) {
-            Err(_) => Status::WriteFault,
-            Ok(()) => answer.status,
+            Err(_) => Ran::without_record(alloc, Status::WriteFault),
+            Ok(()) => Ran {
+                status: answer.status,
+                records: answer.records,
+            },
         },
     }
 }
@@ -86,8 +92,8 @@ fn work<F: Files>(alloc: Global, words: &[String], files: &mut F) -> Result<Answ
     ensures kept { AreKept (F.seen files.old) (F.seen files.new) }
 {
     match command_of(words) {
-        Some(Command::Plan { name }) => plan_named(alloc, files, name),
+        Some(Command::Plan { name, budget }) => plan_named(alloc, files, name, budget),
         Some(Command::Judge { name, plan }) => judge_named(alloc, files, name, plan),
-        None => Ok(Answer::fixed(USAGE, Status::Usage)),
+        None => Ok(Answer::fixed(alloc, USAGE, Status::Usage)),
     }
 }
