@@ -8,7 +8,8 @@
 //!     files.add("day.csv", TWO_FLIGHTS)?;
 //!     files.fail(2)?;
 //!     let mut out = MemorySink::new(alloc, 1_000, 16)?;
-//!     assert_eq!(rt; run(alloc, &words, &mut files, &mut out), Status::ReadFault);
+//!     let ran = run(alloc, &words, &mut files, &mut out);
+//!     assert_eq!(rt; ran.status, Status::ReadFault);
 //!     assert_eq!(rt; out.bytes(), b"fault,read\n");
 #![tactic(auto)]
 

@@ -14,6 +14,15 @@ trip,F1,ORIG,0,S,0,DEST,2
 trip,F2,ORIG,1,S,1,DEST,3
 ";
 
+// The same plan where the run of the relaxation may make no pivot, and no box may be split.
+const OPEN: &str = "status,open
+cost,1
+bound,-8
+nodes,1
+trip,F1,ORIG,0,S,0,DEST,2
+trip,F2,ORIG,1,S,1,DEST,3
+";
+
 const VERDICT: &str = "broken,departures,ORIG,0,2,1\n";
 
 const FAULT: &str = "fault,read\n";
@@ -32,7 +41,8 @@ fn a_call_that_fails_is_answered(rt: HostRuntime) -> Result<(), Fail> {
     let alloc = rt.alloc();
     // The words, the call on the files and the one on the output that fail (0 for none), what
     // stands written, and the status. Each text is asked for its size once and read once, and 16
-    // bytes are written in a call.
+    // bytes are written in a call. A record is handed back where the whole report of a day is
+    // written.
     let rows = [
         ("plan day.csv", 0, 0, REPORT, Status::Done),
         ("plan day.csv", 1, 0, FAULT, Status::ReadFault),
@@ -40,6 +50,13 @@ fn a_call_that_fails_is_answered(rt: HostRuntime) -> Result<(), Fail> {
         ("plan day.csv", 3, 0, REPORT, Status::Done),
         ("plan day.csv", 0, 1, "", Status::WriteFault),
         ("plan day.csv", 0, 3, &REPORT[..32], Status::WriteFault),
+        (
+            "plan --nodes 1 day.csv --pivots 0",
+            0,
+            0,
+            OPEN,
+            Status::OpenGap,
+        ),
         ("judge day.csv plan.csv", 0, 0, VERDICT, Status::Broken),
         ("judge day.csv plan.csv", 2, 0, FAULT, Status::ReadFault),
         ("judge day.csv plan.csv", 3, 0, FAULT, Status::ReadFault),
@@ -60,13 +77,53 @@ fn a_call_that_fails_is_answered(rt: HostRuntime) -> Result<(), Fail> {
         files.fail(read)?;
         let mut out = MemorySink::new(alloc, 1_000, 16)?;
         out.fail(write)?;
-        let ends = run(alloc, &words_of(alloc, line)?, &mut files, &mut out);
-        if ends == Status::OutOfMemory {
+        let ran = run(alloc, &words_of(alloc, line)?, &mut files, &mut out);
+        if ran.status == Status::OutOfMemory {
             assert!(rt; out.bytes().is_empty());
             return Err(Fail::from("no memory"));
         }
-        assert_eq!(rt; ends, status, "{line}, {read}, {write}");
+        let is_planned = matches!(ran.status, Status::Done | Status::OpenGap);
+        assert_eq!(rt; ran.status, status, "{line}, {read}, {write}");
         assert_eq!(rt; out.bytes(), written.as_bytes(), "{line}, {read}, {write}");
+        assert_eq!(rt;
+            ran.records.items().len(),
+            usize::from(is_planned),
+            "{line}"
+        );
+    }
+    Ok(())
+}
+
+// What the second flight costs by tables: the greedy plan lets it wait, for 3, and the least one
+// lets the first flight wait, for 1.
+const TABLES: &[u8] = b"table,TT,0,5,10,15,20,25
+table,CC,0,2,4,6,8
+cost,F2,TT,CC
+";
+
+#[test]
+fn a_plan_is_found_that_the_greedy_one_is_not(rt: HostRuntime) -> Result<(), Fail> {
+    let alloc = rt.alloc();
+    let mut day = Vec::from_slice(alloc, TWO_FLIGHTS)?;
+    day.extend_from_slice(TABLES)?;
+    let mut files = MemoryFiles::new(alloc);
+    files.add("day.csv", &day)?;
+    let mut out = MemorySink::new(alloc, 1_000, 1_000)?;
+    let ran = run(
+        alloc,
+        &words_of(alloc, "plan day.csv")?,
+        &mut files,
+        &mut out,
+    );
+    assert_eq!(rt; ran.status, Status::Done);
+    assert!(rt;
+        out.bytes()
+            .starts_with(b"status,optimal\ncost,1\nbound,1\nnodes,")
+    );
+    assert!(rt; out.bytes().ends_with(b"\ntrip,F1,ORIG,1,S,1,DEST,3\ntrip,F2,ORIG,0,S,0,DEST,2\n"));
+    // first the greedy plan, and at last the cheaper one
+    for found in ran.records.items() {
+        assert!(rt; found.plans.items().len() >= 2);
     }
     Ok(())
 }
