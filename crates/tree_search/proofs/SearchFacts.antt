@@ -89,7 +89,7 @@ module _ (parts : Parts) (budget : Budget) (way : Way) (old new : Draft)
       leaf_over over = record {
         draft_is =
             noted_draft parts (top_box way) old new (Leaf leaf) bound seen.near
-              arrived.draft_is noted;
+            arrived.draft_is noted;
         best = noted_best parts (top_box way) old new (Leaf leaf) bound arrived.best noted;
         tree = all_complete parts budget.limits (top_box way) new (leaf_whole [] over.none);
         room = omega (arith, arrived.room, over.fewer, one_longer (Leaf leaf) bound noted);

@@ -1,14 +1,16 @@
 //! Where a box is split.
-ghost use Rattle.std.specs.Prelude.{◌≡◌, ◌≤◌, ◌<◌, ℕ, MatchOption, length};
+ghost use Rattle.std.specs.Prelude.{◌≡◌, ◌≤◌, ◌<◌, ℕ, IfSome, IsTrue, MatchOption};
 ghost use Rattle.flow_types.specs.Limits.{most_nodes};
 ghost use Rattle.flow_types.specs.Scenario.{parts_of};
 ghost use Rattle.time_windows.specs.Boxes.{IsProper, options_of};
 ghost use Rattle.time_windows.specs.Held.{IsMadeFor, box_of};
 ghost use Rattle.time_windows.specs.Splits.{IsBranching};
-ghost use Rattle.tree_search.specs.Seen.{IsChoiceIn};
+ghost use Rattle.tree_search.specs.Seen.{IsBranchOf, IsChoiceIn};
 
 use crate::walk::Branch;
+use bytime_model::Var;
 use flow_types::{MOST_NODES, Scenario};
+use relaxed_bound::Point;
 use time_windows::{Access, Boxes};
 
 /// A branch of the box: the middle of the window of the first node that has several options. None
@@ -23,6 +25,67 @@ pub fn first_choice(s: &Scenario, boxes: &Boxes) -> Option<Branch>
         }
     }
     None
+}
+
+/// The branch of the box at the variable that is nearest to a half at the point, of several the
+/// first; the known one where the point has none. A node that the point has entered half by a
+/// period splits the flights that wait there for one another.
+pub fn nearest_half(s: &Scenario, boxes: &Boxes, point: &Point, known: Branch) -> Branch
+    requires { IsBranchOf (parts_of s.now) (box_of boxes.now) known }
+    ensures { IsBranchOf (parts_of s.now) (box_of boxes.now) result }
+{
+    let columns = point.columns.items();
+    let numerators = point.numerators.items();
+    let mut best = known;
+    let mut least = u128::MAX;
+    for at in 0..columns.len().min(numerators.len()) {
+        let distance = distance_from_half(numerators[at], point.denominator);
+        if distance < least {
+            if let Some(branch) = branch_at(s, boxes, columns[at]) {
+                best = branch;
+                least = distance;
+            }
+        }
+    }
+    best
+}
+
+// How far a fraction is from a half, over twice its denominator. Of numbers that aren't fractions from
+// 0 to 1 it is whatever it is.
+fn distance_from_half(numerator: i128, denominator: i128) -> u128 {
+    numerator
+        .wrapping_mul(2)
+        .wrapping_sub(denominator)
+        .unsigned_abs()
+}
+
+// The branch at the variable, if there is one: by its period its flight enters its node.
+fn branch_at(s: &Scenario, boxes: &Boxes, variable: Var) -> Option<Branch>
+    ensures { IfSome result (IsBranchOf (parts_of s.now) (box_of boxes.now)) }
+{
+    match variable {
+        Var::Inside { .. } => None,
+        Var::By { flight, node, time } => {
+            let there = (flight as usize) < s.flights().len();
+            if there && is_branching(boxes.access(flight, node), time) {
+                Some(Branch { flight, node, time })
+            } else {
+                None
+            }
+        }
+    }
+}
+
+// Whether both sides leave something out.
+fn is_branching(access: Access, time: u16) -> bool
+    ensures { IsTrue result → IsBranching access time }
+{
+    match access.window {
+        None => false,
+        Some(window) => {
+            window.lo <= time && (time < window.hi || (time == window.hi && !access.must))
+        }
+    }
 }
 
 // That of the flight.

@@ -12,12 +12,12 @@ ghost use Rattle.time_windows.specs.Held.{IsMadeFor, box_of};
 ghost use Rattle.time_windows.specs.Tight.{IsTight};
 ghost use Rattle.tree_search.specs.Seen.{IsBranchOf, IsSeen};
 
-use crate::branching::first_choice;
+use crate::branching::{first_choice, nearest_half};
 use crate::walk::Branch;
 use branch_tree::Leaf;
 use dual_leaf::LeafWork;
 use flow_types::{Bound, OutOfMemory, Scenario};
-use relaxed_bound::{Limits, is_reached, relax};
+use relaxed_bound::{Limits, Point, Relaxed, is_reached, relax};
 use std::alloc::Global;
 use time_windows::Boxes;
 use valid_cuts::Pool;
@@ -92,12 +92,28 @@ fn see_open(
     ensures seen { IfOk result (IsSeen (parts_of s.now) limits cutoff more (box_of boxes.now)) }
     ensures work { IsRoomFor (parts_of s.now) work.new }
 {
-    let leaf = relax(alloc, s, boxes, limits, cutoff)?.leaf;
+    let Relaxed {
+        leaf,
+        end: _,
+        point,
+    } = relax(alloc, s, boxes, limits, cutoff)?;
     let bound = bound_of(alloc, s, boxes, work, &leaf);
     if more && !is_reached(cutoff, bound) {
+        let branch = choose(s, boxes, &point, branch);
         Ok(Seen::Split(branch))
     } else {
         Ok(Seen::Leaf { leaf, bound })
+    }
+}
+
+// Where to split the box, which has this branch.
+fn choose(s: &Scenario, boxes: &Boxes, point: &Option<Point>, known: Branch) -> Branch
+    requires { IsBranchOf (parts_of s.now) (box_of boxes.now) known }
+    ensures { IsBranchOf (parts_of s.now) (box_of boxes.now) result }
+{
+    match point {
+        None => known,
+        Some(point) => nearest_half(s, boxes, point, known),
     }
 }
 
