@@ -1,13 +1,14 @@
 #!/usr/bin/env python3
-"""Prints a knot: a small day on which few flights want the same little room at once. The same text for a seed.
+"""Prints a knot: a small day on which few flights want the same little room at once.
 
     bench/knots.py SEED >DAY
 
-It has 5 to 7 flights in 9 to 14 periods, three airports and three sectors, most of which take one flight at a time;
-one sector is closed for a while. Most are to leave within two periods, each by one of two or three
-ways, and some wait for the aircraft of another one. What waiting costs is told by prices or by tables.
+The text is always the same for a seed. It has 5 to 7 flights in 9 to 14 periods, three airports
+and three sectors, most of which take one flight at a time; one sector is closed for a while. Most
+flights are to leave in the first two periods, each by one of two or three ways, and some wait for
+the aircraft of another one. What waiting costs is told by prices or by tables.
 
-A random number is only drawn below a bound, so that the texts don't hang on how Python shuffles.
+All that is drawn is a fraction from 0 to 1, so the texts don't hang on how Python shuffles.
 """
 import random
 import sys
@@ -33,7 +34,7 @@ class Drawn:
 
 
 def network(drawn, origin, destination):
-    """The legs of two or three ways: over one sector or over another, and where there is a third, over both."""
+    """The legs of two or three ways: over one sector, over another, and maybe over both."""
     first, second = drawn.some(2, [f"Z{k}" for k in range(SECTORS)])
     legs = [(origin, first, 0), (origin, second, drawn.between(0, 1))]
     if drawn.between(0, 2):
@@ -44,7 +45,7 @@ def network(drawn, origin, destination):
 
 
 def shortest(legs, origin, destination):
-    """The least time by any way. The legs stand in an order in which a place is reached before it is left."""
+    """The least time by any way, of legs that stand in an order in which they can be flown."""
     least = {origin: 0}
     for start, end, time in legs:
         least[end] = min(least.get(end, 99), least[start] + time)
@@ -89,7 +90,8 @@ def knot(seed):
         legs = network(drawn, origin, destination)
         arrives = min(leaves + shortest(legs, origin, destination), periods - 1)
         ground, air, records = costs(drawn, flight, waits, late)
-        yield f"flight,F{flight},{origin},{destination},{leaves},{arrives},{waits},{late},{ground},{air}"
+        times = f"{leaves},{arrives},{waits},{late}"
+        yield f"flight,F{flight},{origin},{destination},{times},{ground},{air}"
         for start, end, time in legs:
             yield f"leg,F{flight},{start},{end},{time}"
         yield from records

@@ -3,16 +3,19 @@
 
     bench/least.py DAY
 
-It lists all trips of each flight, and tries each flight's trips from the cheapest on, depth first, with counts of what
-is taken; it turns back where the trips so far and the cheapest ones of the flights to come cost no less than the best
-plan that was found. Nothing of it is shared with the program. The day has to be one that the program reads, without
-quotes. Days of more than some ten flights take too long.
+It lists all trips of each flight, and tries each flight's trips from the cheapest on, depth first,
+with counts of what is taken; it turns back where the trips so far and the cheapest ones of the
+flights to come cost no less than the best plan that was found. It shares nothing with the program.
+The day has to be one that the program reads, without quotes. Days of more than some ten flights
+take too long.
 """
 import collections
 import itertools
 import sys
 
-Flight = collections.namedtuple("Flight", "origin destination leaves arrives waits late ground air legs tables")
+Flight = collections.namedtuple(
+    "Flight", "origin destination leaves arrives waits late ground air legs tables"
+)
 Trip = collections.namedtuple("Trip", "cost leaves arrives taken")
 
 
@@ -20,10 +23,11 @@ class Day:
     """The records of a text."""
 
     def __init__(self, text):
-        self.periods, self.room, self.flights, self.tables, self.connections = 0, {}, {}, {}, []
+        self.periods, self.connections = 0, []
+        self.room, self.flights, self.tables = {}, {}, {}
         for line in text.splitlines():
             kind, *fields = line.split(",")
-            if kind in ("day", "airport", "sector", "cap", "flight", "leg", "connect", "table", "cost"):
+            if kind != "note":
                 getattr(self, kind)(*fields)
 
     def fill(self, what, place, first, last, room):
@@ -60,7 +64,7 @@ class Day:
 
 
 def ways(day, flight):
-    """All lists of stops from the origin to the destination: places, each with the period in which it is entered."""
+    """All lists of stops to the destination: places, each with the period in which it is entered."""
     latest = min(flight.leaves + flight.waits, day.periods - 1)
     begun = [[(flight.origin, period)] for period in range(flight.leaves, latest + 1)]
     while begun:
@@ -109,10 +113,12 @@ def least_cost(day):
 
     def in_time(name, trip):
         for first, second, turnaround in day.connections:
-            if name == second and first in plan and trip.leaves < plan[first].arrives + turnaround:
-                return False
-            if name == first and second in plan and plan[second].leaves < trip.arrives + turnaround:
-                return False
+            if name == second and first in plan:
+                if trip.leaves < plan[first].arrives + turnaround:
+                    return False
+            if name == first and second in plan:
+                if plan[second].leaves < trip.arrives + turnaround:
+                    return False
         return True
 
     def place(at, cost):
