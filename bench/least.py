@@ -64,7 +64,7 @@ class Day:
 
 
 def ways(day, flight):
-    """All lists of stops to the destination: places, each with the period in which it is entered."""
+    """All lists of stops to the destination: places, each with the period of its entry."""
     latest = min(flight.leaves + flight.waits, day.periods - 1)
     begun = [[(flight.origin, period)] for period in range(flight.leaves, latest + 1)]
     while begun:
@@ -97,7 +97,7 @@ def trip_of(flight, stops):
 
 
 def trips_of(day, flight):
-    """All its trips from the cheapest on. Of several that take the same one is enough: they cost the same."""
+    """All its trips from the cheapest on; of several that take the same, and so cost it, one."""
     trips = {trip_of(flight, stops) for stops in ways(day, flight)}
     return sorted(trip for trip in trips if all(day.room[what] > 0 for what in trip.taken))
 
@@ -130,7 +130,7 @@ def least_cost(day):
         for trip in trips[at]:
             if best is not None and cost + trip.cost + rest[at + 1] >= best:
                 return
-            if not in_time(name, trip) or any(room[what] == 0 for what in trip.taken):
+            if not in_time(name, trip) or any(not room[what] for what in trip.taken):
                 continue
             for what in trip.taken:
                 room[what] -= 1
