@@ -1,4 +1,34 @@
-//! The search for the least plan in a box.
+//! The search for the least plan in a box: gaps are closed by splits, and an open gap is a spent
+//! budget.
+//!
+//! A caller says what it may spend, and gets a record, whatever it has come to:
+//!
+//!     let root = Boxes::root(alloc, &s)?;
+//!     let limits = Limits { pivots: 20_000, cells: 2_000_000 };
+//!     let found = search(alloc, &s, &root, Budget { nodes: 2001, limits })?;
+//!     println!("{} plans, {} nodes", found.plans.items().len(), found.tree.nodes());
+//!     match found.bound {
+//!         Bound::AtLeast(least) => println!("no plan in the box costs less than {least}"),
+//!         Bound::NoPlan => println!("no plan is in the box"),
+//!     }
+//!
+//! It goes depth first, the early side of a split before the late one. For each box the greedy plan
+//! is made, and kept where it is cheaper than the last. An empty box is done with, and so is one in
+//! which there is no choice. Else the run of the box's relaxation gives a leaf: where its bound
+//! reaches what the best plan costs, or where there is no room for two nodes more, the box is done
+//! with; and else it is split.
+//!
+//! The definitions stand in `specs/`: `Records` (what is handed back), `Nodes` (what is known of each
+//! node), `Bounds` (the least of bounds) and `Budgets` (a number of nodes that is enough). `Ways`,
+//! `Drafts`, `Visits`, `Seen` and `Searching` serve the proofs.
+//!
+//! Proved: `search` hands back a record (`record`), and no plan in the box that keeps every rule
+//! costs less than its bound (`sound`). Whoever made it, the bound of a record is one
+//! (`search_records_are_bounds`), and one with enough nodes is closed (`enough_nodes_close`).
+//!
+//! Memory: one box and the log of what changed on the way, some 110 bytes for each node of the tree
+//! and 24 for each row of a Dual leaf, the plans, and what one run and one leaf take. Time: for each
+//! node a greedy plan and a run.
 #![tactic(auto)]
 
 mod branching;
