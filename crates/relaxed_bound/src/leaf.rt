@@ -148,10 +148,12 @@ fn point_in(presolved: Presolved, fractions: Option<Fractions>) -> Option<Point>
     ensures { IfSome result (IsPointOf presolved fractions) }
 {
     match fractions {
-        Some(Fractions::Point {
-            numerators,
-            denominator,
-        }) => {
+        Some(
+            Fractions::Point {
+                numerators,
+                denominator,
+            },
+        ) => {
             let Presolved {
                 program: _,
                 columns,
