@@ -5,7 +5,7 @@ ghost use Rattle.flight_routes.specs.Fits.{IsTripThatFits};
 ghost use Rattle.flow_types.specs.Feasible.{IsFeasible};
 ghost use Rattle.flow_types.specs.Scenario.{parts_of};
 ghost use Rattle.flight_routes.specs.Work.{IsWorkFor};
-ghost use Rattle.plan_rules.specs.Loads.{AreLoads, no_trips};
+ghost use Rattle.plan_rules.specs.Loads.{AreLoads, IsMadeFor as AreLoadsFor, no_trips};
 ghost use Rattle.time_windows.specs.Held.{IsMadeFor, box_of};
 ghost use Rattle.greedy_plan.specs.Greedy.{IfPlanned, IsGreedyAnswer, IsOneMore, with_rest};
 
@@ -13,6 +13,7 @@ use flight_routes::Work;
 use flow_types::{OutOfMemory, Plan, Scenario, Trip};
 use plan_rules::Loads;
 use std::alloc::Global;
+use std::marker::Model;
 use time_windows::Boxes;
 
 /// How far the greedy plan comes.
@@ -24,20 +25,78 @@ pub enum Greedy {
     Stuck { kept: Plan, flight: u32 },
 }
 
-/// The greedy plan in the box: in the order of the flights, each takes the cheapest of its trips in
-/// the box that fit beside those before it, and of several the first in the order of trips. It keeps
-/// every rule. Where no trip of a flight fits, it is stuck there.
+/// The room in which greedy plans are made, made once for a scenario: twelve bytes a place and
+/// period, eight a flight, and 0.9 MB.
+#[derive(Debug, Drop)]
+pub struct PlanWork {
+    work: Work,
+    loads: Loads,
+}
+
+impl Model for PlanWork {
+    ghost use Rattle.greedy_plan.specs.Work.{PlanRoom};
+
+    ghost Value = { PlanRoom };
+
+    ghost view = { λ a. record {
+      work = a.work;
+      loads = a.loads;
+    } };
+}
+
+impl PlanWork {
+    ghost use Rattle.std.specs.Prelude.{IfOk};
+    ghost use Rattle.flow_types.specs.Feasible.{IsFeasible};
+    ghost use Rattle.flow_types.specs.Scenario.{parts_of};
+    ghost use Rattle.time_windows.specs.Held.{IsMadeFor, box_of};
+    ghost use Rattle.greedy_plan.specs.Greedy.{IfPlanned, IsGreedyAnswer};
+    ghost use Rattle.greedy_plan.specs.Work.{IsPlanRoomFor};
+
+    /// Room for the greedy plans of the scenario.
+    pub fn new(alloc: Global, s: &Scenario) -> Result<PlanWork, OutOfMemory>
+        ensures { IfOk result (IsPlanRoomFor (parts_of s.now)) }
+    {
+        Ok(PlanWork {
+            work: Work::new(alloc, s)?,
+            loads: Loads::new(alloc, s)?,
+        })
+    }
+
+    /// The greedy plan in the box: in the order of the flights, each takes the cheapest of its
+    /// trips in the box that fit beside those before it, and of several the first in the order of
+    /// trips. It keeps every rule. Where no trip of a flight fits, it is stuck there.
+    ///
+    /// The box is one of the scenario that the room was made for. It takes memory for the plan
+    /// alone; time as a least trip for each flight.
+    pub fn first_plan(
+        &mut self,
+        alloc: Global,
+        s: &Scenario,
+        boxes: &Boxes,
+    ) -> Result<Greedy, OutOfMemory>
+        requires made { IsPlanRoomFor (parts_of s.now) self.old }
+        requires boxes { IsMadeFor (parts_of s.now) boxes.now }
+        ensures greedy { IfOk result (IsGreedyAnswer (parts_of s.now) (box_of boxes.now)) }
+        ensures feasible { IfOk result
+            (λ greedy. IfPlanned greedy (IsFeasible (parts_of s.now))) }
+        ensures made { IsPlanRoomFor (parts_of s.now) self.new }
+    {
+        self.loads.clear();
+        choose_trips(alloc, s, boxes, &mut self.work, &mut self.loads)
+    }
+}
+
+/// The greedy plan in the box, which is one of the scenario, with room of its own: what
+/// `PlanWork::first_plan` answers.
 ///
-/// The box is one of the scenario. It takes memory for the plan, for loads, and for the room in
-/// which least trips are found; time as a least trip for each flight.
+/// It takes the memory of `PlanWork`, and the plan.
 pub fn first_plan(alloc: Global, s: &Scenario, boxes: &Boxes) -> Result<Greedy, OutOfMemory>
     requires { IsMadeFor (parts_of s.now) boxes.now }
     ensures greedy { IfOk result (IsGreedyAnswer (parts_of s.now) (box_of boxes.now)) }
     ensures feasible { IfOk result (λ greedy. IfPlanned greedy (IsFeasible (parts_of s.now))) }
 {
-    let mut loads = Loads::new(alloc, s)?;
-    let mut work = Work::new(alloc, s)?;
-    choose_trips(alloc, s, boxes, &mut work, &mut loads)
+    let mut work = PlanWork::new(alloc, s)?;
+    work.first_plan(alloc, s, boxes)
 }
 
 // Chooses a trip for each flight, as far as there is one that fits.
@@ -53,6 +112,8 @@ fn choose_trips(
     requires loads { AreLoads (parts_of s.now) (no_trips (parts_of s.now)) loads.old }
     ensures greedy { IfOk result (IsGreedyAnswer (parts_of s.now) (box_of boxes.now)) }
     ensures feasible { IfOk result (λ greedy. IfPlanned greedy (IsFeasible (parts_of s.now))) }
+    ensures work { IsWorkFor (parts_of s.now) work.new }
+    ensures made { AreLoadsFor (parts_of s.now) loads.new }
 {
     let mut plan = Plan::empty(alloc);
     for number in 0..s.flights().len() {
@@ -86,6 +147,7 @@ fn choose_trip(
     ensures none { result ≡ Ok false → (stops : List Stop) → IsTripThatFits (parts_of s.now)
         (box_of boxes.now) (with_rest (parts_of s.now).flights plan.old) flight stops → ⊥ }
     ensures work { IsWorkFor (parts_of s.now) work.new }
+    ensures made { AreLoadsFor (parts_of s.now) loads.new }
 {
     if work.least_fit(s, boxes, flight, loads).is_none() {
         return Ok(false);

@@ -19,13 +19,17 @@
 //! it (`greedy`), and it keeps every rule (`feasible`); the bound is exactly that sum, or a flight
 //! has no trip, and it bounds every plan in the box (`first_bounds_are_bounds`).
 //!
-//! Memory: the plan, loads, and the room for least trips, which each call makes once; and for the
-//! bound prices of 0, 24 bytes a place and period and eight a connection and period. Time: a least
-//! trip for each flight, once for the plan and once for the bound.
+//! Whoever wants greedy plans of many boxes makes the room for them once: `PlanWork::new`, and then
+//! `PlanWork::first_plan` for each box.
+//!
+//! Memory: the plan, loads, and the room for least trips, which `PlanWork` keeps and each call of
+//! `first_plan` makes once; and for the bound prices of 0, 24 bytes a place and period and eight a
+//! connection and period. Time: a least trip for each flight, once for the plan and once for the
+//! bound.
 #![tactic(auto)]
 
 mod bound;
 mod first;
 
 pub use bound::{first_bound, first_bounds_are_bounds};
-pub use first::{Greedy, first_plan};
+pub use first::{Greedy, PlanWork, first_plan};
