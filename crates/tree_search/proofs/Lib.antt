@@ -16,3 +16,4 @@ pub mod SoundFacts
 pub mod SplitFacts
 pub mod VisitFacts
 pub mod WayFacts
+pub mod WorkedRecords

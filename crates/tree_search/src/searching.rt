@@ -6,6 +6,7 @@ ghost use Rattle.dual_leaf.specs.Leaf.{IsBoundOn};
 ghost use Rattle.dual_leaf.specs.Work.{IsRoomFor};
 ghost use Rattle.flow_types.specs.Scenario.{parts_of};
 ghost use Rattle.flow_types.specs.declared.bound.Bound.TheVariants.{NoPlan};
+ghost use Rattle.greedy_plan.specs.Work.{IsPlanRoomFor};
 ghost use Rattle.time_windows.specs.Held.{IsMadeFor, box_of};
 ghost use Rattle.time_windows.specs.Splits.{early_branch};
 ghost use Rattle.time_windows.specs.Tight.{IsTightened};
@@ -24,16 +25,25 @@ use crate::walk::{Branch, Walk};
 use branch_tree::{Leaf, Tree, TreeNode};
 use dual_leaf::LeafWork;
 use flow_types::{Bound, OutOfMemory, Scenario};
-use greedy_plan::{Greedy, first_plan};
+use greedy_plan::{Greedy, PlanWork};
 use std::alloc::Global;
 use time_windows::Boxes;
 
 // Offers the greedy plan of the box.
-fn visit(alloc: Global, s: &Scenario, boxes: &Boxes, draft: &mut Draft) -> Result<(), OutOfMemory>
-    requires { IsMadeFor (parts_of s.now) boxes.now }
-    ensures { OnOk result (IsVisited (parts_of s.now) (box_of boxes.now) draft.old draft.new) }
+fn visit(
+    alloc: Global,
+    s: &Scenario,
+    boxes: &Boxes,
+    plans: &mut PlanWork,
+    draft: &mut Draft,
+) -> Result<(), OutOfMemory>
+    requires boxes { IsMadeFor (parts_of s.now) boxes.now }
+    requires plans { IsPlanRoomFor (parts_of s.now) plans.old }
+    ensures visited { OnOk result
+        (IsVisited (parts_of s.now) (box_of boxes.now) draft.old draft.new) }
+    ensures plans { IsPlanRoomFor (parts_of s.now) plans.new }
 {
-    match first_plan(alloc, s, boxes)? {
+    match plans.first_plan(alloc, s, boxes)? {
         Greedy::Plan(plan) => offer(draft, s, plan),
         Greedy::Stuck { .. } => Ok(()),
     }
@@ -102,19 +112,19 @@ fn go_on(
     alloc: Global,
     s: &Scenario,
     budget: Budget,
-    work: &mut LeafWork,
+    leaves: &mut LeafWork,
     walk: &mut Walk,
     draft: &mut Draft,
 ) -> Result<bool, OutOfMemory>
     requires searching { IsSearching (parts_of s.now) budget walk.old draft.old }
-    requires work { IsRoomFor (parts_of s.now) work.old }
+    requires leaves { IsRoomFor (parts_of s.now) leaves.old }
     ensures left { IfOk result
         (IsLeft (parts_of s.now) budget walk.old draft.old walk.new draft.new) }
-    ensures work { IsRoomFor (parts_of s.now) work.new }
+    ensures leaves { IsRoomFor (parts_of s.now) leaves.new }
 {
     let more = has_room(budget, walk, draft);
     let cutoff = draft.best;
-    let seen = see(alloc, s, walk.boxes(), work, budget.limits, cutoff, more)?;
+    let seen = see(alloc, s, walk.boxes(), leaves, budget.limits, cutoff, more)?;
     match seen {
         Seen::Leaf { leaf, bound } => {
             let next = leave(s, walk, draft, leaf, bound)?;
@@ -132,20 +142,23 @@ fn step(
     alloc: Global,
     s: &Scenario,
     budget: Budget,
-    work: &mut LeafWork,
+    plans: &mut PlanWork,
+    leaves: &mut LeafWork,
     walk: &mut Walk,
     draft: &mut Draft,
 ) -> Result<bool, OutOfMemory>
     requires searching { IsSearching (parts_of s.now) budget walk.old draft.old }
-    requires work { IsRoomFor (parts_of s.now) work.old }
+    requires plans { IsPlanRoomFor (parts_of s.now) plans.old }
+    requires leaves { IsRoomFor (parts_of s.now) leaves.old }
     ensures stepped { IfOk result
         (IsStepped (parts_of s.now) budget walk.old draft.old walk.new draft.new) }
-    ensures work { IsRoomFor (parts_of s.now) work.new }
+    ensures plans { IsPlanRoomFor (parts_of s.now) plans.new }
+    ensures leaves { IsRoomFor (parts_of s.now) leaves.new }
 {
-    if !go_on(alloc, s, budget, work, walk, draft)? {
+    if !go_on(alloc, s, budget, leaves, walk, draft)? {
         return Ok(false);
     }
-    visit(alloc, s, walk.boxes(), draft)?;
+    visit(alloc, s, walk.boxes(), plans, draft)?;
     Ok(true)
 }
 
@@ -154,14 +167,16 @@ fn run(
     alloc: Global,
     s: &Scenario,
     budget: Budget,
+    plans: &mut PlanWork,
     walk: &mut Walk,
     draft: &mut Draft,
 ) -> Result<(), OutOfMemory>
-    requires { IsSearching (parts_of s.now) budget walk.old draft.old }
+    requires searching { IsSearching (parts_of s.now) budget walk.old draft.old }
+    requires plans { IsPlanRoomFor (parts_of s.now) plans.old }
     ensures { OnOk result (IsSearched (parts_of s.now) budget (top_box walk.old) draft.new) }
 {
-    let mut work = LeafWork::new(alloc, s)?;
-    while step(alloc, s, budget, &mut work, walk, draft)? {}
+    let mut leaves = LeafWork::new(alloc, s)?;
+    while step(alloc, s, budget, plans, &mut leaves, walk, draft)? {}
     Ok(())
 }
 
@@ -224,7 +239,7 @@ fn found_in(draft: Draft) -> Found
 /// is neither a plan nor a bound, or fewer than two nodes of the budget were left (branch and bound,
 /// after Land and Doig 1960).
 ///
-/// It takes a copy of the box, what `LeafWork` takes, for each node some 110 bytes and what its leaf
+/// It takes a copy of the box, what `PlanWork` and `LeafWork` take, for each node some 110 bytes and what its leaf
 /// takes, 24 bytes a row, and for one box at a time what its run takes. The box stays as it was.
 pub fn search(
     alloc: Global,
@@ -241,8 +256,9 @@ pub fn search(
     let mut boxes = root.copy(alloc)?;
     boxes.tighten(s);
     let mut draft = no_draft(alloc);
-    visit(alloc, s, &boxes, &mut draft)?;
+    let mut plans = PlanWork::new(alloc, s)?;
+    visit(alloc, s, &boxes, &mut plans, &mut draft)?;
     let mut walk = Walk::new(alloc, boxes)?;
-    run(alloc, s, budget, &mut walk, &mut draft)?;
+    run(alloc, s, budget, &mut plans, &mut walk, &mut draft)?;
     Ok(found_in(draft))
 }

@@ -8,13 +8,13 @@ use Rattle.tree_search.proofs.BeginFacts.{begun_at, begun_top}
 use Rattle.tree_search.proofs.FoundFacts.{found_record, found_sound, searched_tree}
 use Rattle.tree_search.proofs.searching.search.Goals as goal
 
-pub run-requires : goal.run-requires
-run-requires c =
+pub run-requires-clause-searching : goal.run-requires-clause-searching
+run-requires-clause-searching c =
     begun_at (parts_of c.args.s.now) c.args.budget c.tighten.new.self c.no_draft-draft.result
     c.visit.new.draft c.args.s.now.valid c.requires.nodes c.tighten.ensures.made
     c.tighten.ensures.tight.tight c.no_draft-draft.ensures.plans c.no_draft-draft.ensures.nodes
     c.no_draft-draft.ensures.counts c.no_draft-draft.ensures.bounds c.no_draft-draft.ensures.best
-    c.in_ok-visit.ensures c.in_ok-walk.walk c.in_ok-walk.ensures.present
+    c.in_ok-visit.ensures.visited c.in_ok-walk.walk c.in_ok-walk.ensures.present
     c.in_ok-walk.ensures.above c.in_ok-walk.ensures.steps
 
 pub found_in-requires : goal.found_in-requires

@@ -14,4 +14,4 @@ returns-clause-stepped c =
     (subst (IsLeft (parts_of c.args.s.now) c.args.budget c.args.walk.now c.args.draft.now
     c.go_on.new.walk c.go_on.new.draft) c.if-not-branch.false c.in_ok-go_on.ensures.left)
     (subst (λ (h : Held). IsVisited (parts_of c.args.s.now) (box_of h) c.go_on.new.draft
-    c.visit.new.draft) c.boxes.ensures c.in_ok-visit.ensures)
+    c.visit.new.draft) c.boxes.ensures c.in_ok-visit.ensures.visited)
