@@ -1,13 +1,17 @@
 //! Bounds of a box by runs with little room, few pivots or a cutoff, and programs that have no room.
+ghost use Rattle.flow_types.specs.Scenario.{parts_of};
+ghost use Rattle.time_windows.specs.Held.{IsMadeFor, box_of};
+ghost use Rattle.time_windows.specs.Tight.{IsTight};
 
-use crate::leaves::day_of;
+use crate::leaves::{day_of, tight_root};
+use dual_leaf::LeafWork;
 use flow_types::{Bound, Scenario};
 use presolve::{Refused, program_within};
-use relaxed_bound::{Limits, relaxed_bound};
+use relaxed_bound::{Limits, relax};
 use std::alloc::Global;
 use std::process::Abort;
 use std::test::Fail;
-use time_windows::{Boxes, Tight};
+use time_windows::Boxes;
 use valid_cuts::Pool;
 use worked_days::TWO_FLIGHTS;
 
@@ -46,7 +50,25 @@ fn up_to(cutoff: i64) -> Case {
     }
 }
 
-// What is said of each run on the tight root box, by an independent program.
+// The bound of the leaf that a run tells.
+fn bound_by_run(alloc: Global, s: &Scenario, boxes: &Boxes, case: Case) -> Result<Bound, Fail>
+    requires made { IsMadeFor (parts_of s.now) boxes.now }
+    requires tight { IsTight (parts_of s.now) (box_of boxes.now) }
+{
+    let Case {
+        cells,
+        pivots,
+        cutoff,
+    } = case;
+    let leaf = relax(alloc, s, boxes, Limits { pivots, cells }, cutoff)?.leaf;
+    let mut work = LeafWork::new(alloc, s)?;
+    match work.leaf_bound(s, boxes, &leaf, &Pool::empty(alloc)) {
+        Ok(bound) => Ok(bound),
+        Err(_) => Err(Fail::from("a leaf without a bound")),
+    }
+}
+
+// What is said of a run on the tight root box, by an independent program.
 fn try_case(
     rt: &impl Abort,
     alloc: Global,
@@ -54,20 +76,10 @@ fn try_case(
     case: Case,
     least: i128,
 ) -> Result<(), Fail> {
-    let mut boxes = Boxes::root(alloc, s)?;
-    match boxes.tighten(s) {
-        Tight::Empty(..) => Err(Fail::from("no plan")),
-        Tight::Live => {
-            let Case {
-                cells,
-                pivots,
-                cutoff,
-            } = case;
-            let bound = relaxed_bound(alloc, s, &boxes, Limits { pivots, cells }, cutoff)?;
-            assert_eq!(rt; bound, Bound::AtLeast(least), "{case:?}");
-            Ok(())
-        }
-    }
+    let boxes = tight_root(alloc, s)?;
+    let bound = bound_by_run(alloc, s, &boxes, case)?;
+    assert_eq!(rt; bound, Bound::AtLeast(least), "{case:?}");
+    Ok(())
 }
 
 #[test]
@@ -104,8 +116,7 @@ fn bounds_on_the_day_of_two_flights(rt: HostRuntime) -> Result<(), Fail> {
 // Whether the program of the tight root box is given up in room for so many entries. Its first
 // tableau has 284.
 fn is_given_up(alloc: Global, s: &Scenario, cells: u32) -> Result<bool, Fail> {
-    let mut boxes = Boxes::root(alloc, s)?;
-    boxes.tighten(s);
+    let boxes = tight_root(alloc, s)?;
     match program_within(alloc, s, &boxes, &Pool::empty(alloc), cells) {
         Ok(_) => Ok(false),
         Err(Refused::Wide) => Ok(true),

@@ -32,6 +32,7 @@ empty: not empty
 unit: not unit 0 0
 ";
 
+/// The day of a text.
 pub fn day_of(alloc: Global, text: &[u8]) -> Result<Scenario, Fail> {
     if text.len() > MOST_BYTES {
         return Err(Fail::from("a long text"));
@@ -51,7 +52,8 @@ fn tighten(s: &Scenario, boxes: &mut Boxes)
     boxes.tighten(s);
 }
 
-fn tight_root(alloc: Global, s: &Scenario) -> Result<Boxes, Fail>
+/// The tight root box.
+pub fn tight_root(alloc: Global, s: &Scenario) -> Result<Boxes, Fail>
     ensures made { IfOk result (IsMadeFor (parts_of s.now)) }
     ensures tight { IfOk result (λ boxes. IsTight (parts_of s.now) (box_of boxes)) }
 {

@@ -24,8 +24,7 @@ use Rattle.presolve.specs.Presolved.{entries_of}
 use Rattle.presolve.specs.Relaxed.{kept_of, program_of}
 use Rattle.relaxed_bound.specs.declared.limits.Limits.{Limits}
 use Rattle.relaxed_bound.specs.Licence.{IsLicensed, end_of}
-use Rattle.relaxed_bound.specs.Relaxed.{outcome_leaf, relaxed_leaf}
-use Rattle.relaxed_bound.specs.Telling.{HasBound}
+use Rattle.relaxed_bound.specs.Relaxed.{HasBound, outcome_leaf, relaxed_leaf}
 
 no_item : (position : ℕ) (multiplier : Multiplier) → slice_get [] position ≡ Some multiplier → ⊥
 no_item position multiplier at = cc at

@@ -35,8 +35,8 @@ use Rattle.presolve.proofs.PromiseFacts.{kept_are}
 use Rattle.relaxed_bound.specs.declared.limits.Limits.{Limits}
 use Rattle.relaxed_bound.specs.Licence.{IsLicensed, end_of}
 use Rattle.relaxed_bound.specs.Reached.{is_reached}
-use Rattle.relaxed_bound.specs.Relaxed.{outcome_leaf, relaxed_leaf, told_leaf}
-use Rattle.relaxed_bound.specs.Telling.{AreWeights, HasBound, IsRunLeaf, IsWorthOf}
+use Rattle.relaxed_bound.specs.Relaxed.{HasBound, outcome_leaf, relaxed_leaf, told_leaf}
+use Rattle.relaxed_bound.specs.Telling.{AreWeights, IsRunLeaf, IsWorthOf}
 use Rattle.relaxed_bound.proofs.LicenceFacts.{licensed}
 
 -- a number that isn't far from 0

@@ -2,5 +2,4 @@ pub mod Licence
 pub mod Point
 pub mod Reached
 pub mod Relaxed
-pub mod Root
 pub mod Telling

@@ -1,6 +1,6 @@
--- The bound of a box by its relaxation: that of the Dual leaf whose weight and multipliers a run of
--- the box's program tells.
-use Rattle.std.specs.Prelude.{List, Option, ℤ, Ok, unsigned_abs}
+-- The Dual leaf whose weight and multipliers a run of the box's program tells.
+use Rattle.std.specs.Prelude.{List, Option, Result, ℤ, unsigned_abs}
+use Rattle.std.specs.Result.{IsOk}
 use Rattle.flow_types.specs.declared.bound.Bound.{Bound}
 use Rattle.flow_types.specs.declared.parts.Parts.{Parts}
 use Rattle.scaled_simplex.specs.Multipliers.{multipliers_of}
@@ -9,7 +9,8 @@ use Rattle.time_windows.specs.Boxes.{Box}
 use Rattle.bytime_model.specs.declared.names.RowName.{RowName}
 use Rattle.branch_tree.specs.declared.leaf.Leaf.{Leaf}
 use Rattle.branch_tree.specs.declared.leaf.Leaf.TheVariants.{Dual}
-use Rattle.dual_leaf.specs.Leaf.{IsLeafBound}
+use Rattle.dual_leaf.specs.declared.fault.LeafFault.{LeafFault}
+use Rattle.dual_leaf.specs.Leaf.{IsLeafBound, IsLive}
 use Rattle.presolve.specs.Leaf.{leaf_rows}
 use Rattle.presolve.specs.Relaxed.{kept_of, program_of}
 use Rattle.relaxed_bound.specs.declared.limits.Limits.{Limits}
@@ -29,6 +30,8 @@ abbrev pub relaxed_leaf : Parts → Box → Limits → Option ℤ → Leaf
 relaxed_leaf parts box limits cutoff =
     outcome_leaf parts box (simplex_run (program_of parts box) limits.pivots limits.cells cutoff)
 
-abbrev pub IsRelaxedBound : Parts → Box → Limits → Option ℤ → Bound → Type 0
-IsRelaxedBound parts box limits cutoff bound =
-    IsLeafBound parts box (relaxed_leaf parts box limits cutoff) (Ok bound)
+-- on a live box the leaf has no fault
+abbrev pub HasBound : Parts → Box → Leaf → Type 0
+HasBound parts box leaf =
+    IsLive box → (answer : Result Bound LeafFault) → IsLeafBound parts box leaf answer
+    → IsOk answer

@@ -1,8 +1,5 @@
 -- What the end of a run tells, and the leaf that it gives. No public clause cites these.
-use Rattle.std.specs.Prelude.{◌≡◌, ◌≤◌, List, All, Option, Result, ℤ, nat_abs}
-use Rattle.std.specs.Result.{IsOk}
-use Rattle.flow_types.specs.declared.bound.Bound.{Bound}
-use Rattle.flow_types.specs.declared.parts.Parts.{Parts}
+use Rattle.std.specs.Prelude.{◌≡◌, ◌≤◌, List, All, Option, ℤ, nat_abs}
 use Rattle.row_arena.specs.Rows.{most_entry}
 use Rattle.scaled_simplex.specs.declared.solver.Weights.{Weights}
 use Rattle.scaled_simplex.specs.declared.end.End.TheVariants.{Optimal}
@@ -10,12 +7,9 @@ use Rattle.scaled_simplex.specs.LastPoint.{HasPoint, IsBelow}
 use Rattle.scaled_simplex.specs.Multipliers.{IsTold, multipliers_of}
 use Rattle.scaled_simplex.specs.Program.{IsProblem, Problem}
 use Rattle.scaled_simplex.specs.Run.{Outcome, weight_in}
-use Rattle.time_windows.specs.Boxes.{Box}
 use Rattle.bytime_model.specs.declared.names.RowName.{RowName}
 use Rattle.branch_tree.specs.declared.leaf.Leaf.{Leaf}
 use Rattle.branch_tree.specs.Leaves.{IsInRange}
-use Rattle.dual_leaf.specs.declared.fault.LeafFault.{LeafFault}
-use Rattle.dual_leaf.specs.Leaf.{IsLeafBound, IsLive}
 use Rattle.relaxed_bound.specs.Relaxed.{told_leaf}
 
 -- after Optimal there is a point of the program that costs the value, which is below the cutoff
@@ -41,9 +35,3 @@ pub record IsRunLeaf (problem : Problem) (names : List RowName) (cutoff : Option
   pub range : IsInRange leaf
   pub told : IsTold problem outcome
   pub worth : IsWorthOf problem cutoff outcome
-
--- on a live box the leaf has no fault
-abbrev pub HasBound : Parts → Box → Leaf → Type 0
-HasBound parts box leaf =
-    IsLive box → (answer : Result Bound LeafFault) → IsLeafBound parts box leaf answer
-    → IsOk answer
