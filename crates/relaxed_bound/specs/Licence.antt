@@ -4,12 +4,11 @@ use Rattle.std.specs.Prelude.{◌≡◌, ◌⊎◌, Option, None, Some, ℤ, pos
 use Rattle.flow_types.specs.declared.parts.Parts.{Parts}
 use Rattle.scaled_simplex.specs.declared.end.End.{End}
 use Rattle.scaled_simplex.specs.declared.end.End.TheVariants.{Limit, Wide}
-use Rattle.scaled_simplex.specs.Run.{simplex_run}
 use Rattle.time_windows.specs.Boxes.{Box}
 use Rattle.bytime_model.specs.declared.variables.Var.{Var}
 use Rattle.presolve.specs.Points.{IsRelaxationPoint, relaxation_cost}
-use Rattle.presolve.specs.Relaxed.{program_of}
 use Rattle.relaxed_bound.specs.declared.limits.Limits.{Limits}
+use Rattle.relaxed_bound.specs.Relaxed.{run_of}
 
 -- a cost over a denominator is at most the cutoff less 1; without a cutoff, whatever it is
 abbrev pub IsBelowCutoff : Option ℤ → ℤ → ℤ → Type 0
@@ -25,8 +24,7 @@ pub record IsCheapPoint (parts : Parts) (box : Box) (cutoff : Option ℤ) : Type
 
 -- how the run on the box ends
 abbrev pub end_of : Parts → Box → Limits → Option ℤ → End
-end_of parts box limits cutoff =
-    (simplex_run (program_of parts box) limits.pivots limits.cells cutoff).end
+end_of parts box limits cutoff = (run_of parts box limits cutoff).end
 
 abbrev pub IsLicensed : Parts → Box → Limits → Option ℤ → Type 0
 IsLicensed parts box limits cutoff =

@@ -25,10 +25,14 @@ outcome_leaf parts box outcome =
     let program = program_of parts box in
     told_leaf (kept_of parts box) (weight_in program outcome) (multipliers_of program outcome)
 
--- that of the run within these limits
+-- the run on the box within these limits
+abbrev pub run_of : Parts → Box → Limits → Option ℤ → Outcome
+run_of parts box limits cutoff =
+    simplex_run (program_of parts box) limits.pivots limits.cells cutoff
+
+-- the leaf that it tells
 abbrev pub relaxed_leaf : Parts → Box → Limits → Option ℤ → Leaf
-relaxed_leaf parts box limits cutoff =
-    outcome_leaf parts box (simplex_run (program_of parts box) limits.pivots limits.cells cutoff)
+relaxed_leaf parts box limits cutoff = outcome_leaf parts box (run_of parts box limits cutoff)
 
 -- on a live box the leaf has no fault
 abbrev pub HasBound : Parts → Box → Leaf → Type 0

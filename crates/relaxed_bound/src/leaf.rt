@@ -9,8 +9,7 @@ ghost use Rattle.relaxed_bound.specs.Licence.{IsLicensed, end_of};
 ghost use Rattle.relaxed_bound.specs.Reached.{is_reached};
 ghost use Rattle.relaxed_bound.specs.Relaxed.{HasBound, relaxed_leaf, told_leaf};
 ghost use Rattle.relaxed_bound.specs.Telling.{AreWeights, IsRunLeaf};
-ghost use Rattle.relaxed_bound.specs.Point.{IsPointIn, IsPointOf};
-ghost use Rattle.scaled_simplex.specs.Fractions.{AreWorth};
+ghost use Rattle.relaxed_bound.specs.Point.{AreToldFractions, IsPointIn, IsToldPoint, point_of};
 ghost use Rattle.scaled_simplex.specs.Run.{simplex_run};
 ghost use Rattle.time_windows.specs.Held.{IsMadeFor, box_of};
 ghost use Rattle.time_windows.specs.Tight.{IsTight};
@@ -68,8 +67,7 @@ struct Ran {
 
 // The run's point, where it ended Optimal.
 fn fractions_of(alloc: Global, run: &Run<'_>) -> Result<Option<Fractions>, OutOfMemory>
-    ensures { IfOk result
-        (λ fractions. IfSome fractions (AreWorth run.now.problem run.now.outcome)) }
+    ensures { IfOk result (AreToldFractions run.now.problem run.now.outcome) }
 {
     if run.end() != End::Optimal {
         return Ok(None);
@@ -79,6 +77,7 @@ fn fractions_of(alloc: Global, run: &Run<'_>) -> Result<Option<Fractions>, OutOf
 }
 
 // What a run of the program tells. Its tableau is dropped then.
+#[tactic(auto, using(crate::proofs::PointFacts::ran_told))]
 fn run_program(
     alloc: Global,
     program: &Program,
@@ -89,8 +88,8 @@ fn run_program(
         ≡ (simplex_run program.now limits.pivots limits.cells cutoff).end) }
     ensures weights { IfOk result (λ ended. AreWeights program.now cutoff
         (simplex_run program.now limits.pivots limits.cells cutoff) ended.weights) }
-    ensures fractions { IfOk result (λ ended. IfSome ended.fractions (AreWorth program.now
-        (simplex_run program.now limits.pivots limits.cells cutoff))) }
+    ensures fractions { IfOk result (λ ended. AreToldFractions program.now
+        (simplex_run program.now limits.pivots limits.cells cutoff) ended.fractions) }
 {
     let solver = Solver::new(alloc, program, limits.cells)?;
     let run = solver.run(limits.pivots, cutoff)?;
@@ -126,9 +125,8 @@ fn run_relaxed(
         ≡ (simplex_run presolved.now.program limits.pivots limits.cells cutoff).end) }
     ensures leaf { IfOk result (λ ran. IsRunLeaf presolved.now.program presolved.now.kept cutoff
         (simplex_run presolved.now.program limits.pivots limits.cells cutoff) ran.leaf) }
-    ensures fractions { IfOk result (λ ran. IfSome ran.fractions
-        (AreWorth presolved.now.program
-        (simplex_run presolved.now.program limits.pivots limits.cells cutoff))) }
+    ensures fractions { IfOk result (λ ran. AreToldFractions presolved.now.program
+        (simplex_run presolved.now.program limits.pivots limits.cells cutoff) ran.fractions) }
 {
     let Ended {
         end,
@@ -145,7 +143,7 @@ fn run_relaxed(
 
 // The point of these fractions, if they are one.
 fn point_in(presolved: Presolved, fractions: Option<Fractions>) -> Option<Point>
-    ensures { IfSome result (IsPointOf presolved fractions) }
+    ensures { result ≡ point_of presolved fractions }
 {
     match fractions {
         Some(
@@ -182,14 +180,14 @@ fn bare_leaf(alloc: Global) -> Leaf
 }
 
 /// What the relaxation of the box tells, by a run of the box's program within the limits and up to
-/// the cutoff: a Dual leaf, whose bound reaches the cutoff, or the box may be split. The box is a
-/// tight one of the scenario. The program isn't made whole where there is no room for its first
+/// the cutoff: a Dual leaf, whose bound reaches the cutoff, or the box may be split; and the point
+/// of a run that ended Optimal. The box is a tight one of the scenario. The program isn't made whole where there is no room for its first
 /// tableau; the leaf is then that of one unit of the cost and no rows.
 ///
 /// It takes what `program_within` takes, and beside the program 20 bytes for each entry of the
 /// tableau, or some times that, since lists grow and rows keep blocks that are up to four times too
 /// long. Time: for each pivot the rows that have an entry in its column.
-#[tactic(auto, using(crate::proofs::BareFacts::bare_is, crate::proofs::BareFacts::bare_range, crate::proofs::BareFacts::bare_has, crate::proofs::BareFacts::bare_end, crate::proofs::BareFacts::bare_licensed, crate::proofs::ToldFacts::run_is, crate::proofs::ToldFacts::run_has, crate::proofs::ToldFacts::run_end, crate::proofs::ToldFacts::run_licensed, crate::proofs::PointFacts::point_is))]
+#[tactic(auto, using(crate::proofs::BareFacts::bare_is, crate::proofs::BareFacts::bare_range, crate::proofs::BareFacts::bare_has, crate::proofs::BareFacts::bare_end, crate::proofs::BareFacts::bare_licensed, crate::proofs::ToldFacts::run_is, crate::proofs::ToldFacts::run_has, crate::proofs::ToldFacts::run_end, crate::proofs::ToldFacts::run_licensed, crate::proofs::PointFacts::bare_point, crate::proofs::PointFacts::point_told, crate::proofs::PointFacts::point_is))]
 pub fn relax(
     alloc: Global,
     s: &Scenario,
@@ -208,6 +206,8 @@ pub fn relax(
         relaxed.leaf) }
     ensures point { IfOk result (λ relaxed. IfSome relaxed.point
         (IsPointIn (parts_of s.now) (box_of boxes.now))) }
+    ensures told { IfOk result (λ relaxed. IsToldPoint (parts_of s.now) (box_of boxes.now) limits
+        cutoff relaxed.point) }
     ensures licensed { IfOk result (λ relaxed. (bound : Bound)
         → IsLeafBound (parts_of s.now) (box_of boxes.now) relaxed.leaf (Ok bound)
         → is_reached cutoff bound ≡ false

@@ -24,7 +24,9 @@
 //! (`leaf`), and how the run ended is told (`end`). However it ended, the leaf's numbers are in
 //! range (`range`), and on a box in which no node that must be entered is closed the leaf has a
 //! bound (`some`). Where that bound doesn't reach the cutoff, a point of the relaxation costs less,
-//! or the run was given up (`licensed`). A point that is told is one of the relaxation (`point`).
+//! or the run was given up (`licensed`). The point is exactly that of the run; there is none only
+//! where the run didn't end Optimal, or where the point's denominator is too far from 0 (`told`). It
+//! is one of the relaxation (`point`).
 //!
 //! Memory: the program and the run's tableau, 16 bytes for each entry of the one and 20 of the
 //! other, or some times that, since lists grow and rows keep blocks that are up to four times too
