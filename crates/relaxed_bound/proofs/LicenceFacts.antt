@@ -1,5 +1,5 @@
--- Where the leaf's bound doesn't reach the cutoff, the box is licensed to be split: the run didn't end
--- Cut nor Infeasible, and after Optimal its point costs less than the cutoff.
+-- Where the leaf's bound doesn't reach the cutoff, the box is licensed to be split: the run didn't
+-- end Cut nor Infeasible, and after Optimal its point costs less than the cutoff.
 use Rattle.std.proofs.Common.{◌≡◌, ℕ, Bool, true, false, not, int_lt, Option, None, Some, Ok, List, ℤ, pos, negsuc, ◌-ℤ◌, ◌*ℤ◌, ◌≤ℤ◌, ◌<ℤ◌, unsigned_abs, inl, inr, refl, sym, ap, ◌∙◌, subst, arith}
 use Rattle.std.proofs.lemmas.Int.{ints}
 use Rattle.flow_types.specs.declared.bound.Bound.{Bound}

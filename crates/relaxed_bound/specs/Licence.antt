@@ -1,5 +1,5 @@
--- Why a box may be split: its relaxation doesn't rule out that there is a plan in it that costs less
--- than the cutoff, or the run of it was given up.
+-- Why a box may be split: its relaxation doesn't rule out that there is a plan in it that costs
+-- less than the cutoff, or the run of it was given up.
 use Rattle.std.specs.Prelude.{◌≡◌, ◌⊎◌, Option, None, Some, ℤ, pos, ◌-ℤ◌, ◌*ℤ◌, ◌≤ℤ◌}
 use Rattle.flow_types.specs.declared.parts.Parts.{Parts}
 use Rattle.scaled_simplex.specs.declared.end.End.{End}

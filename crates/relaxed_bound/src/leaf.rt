@@ -181,8 +181,9 @@ fn bare_leaf(alloc: Global) -> Leaf
 
 /// What the relaxation of the box tells, by a run of the box's program within the limits and up to
 /// the cutoff: a Dual leaf, whose bound reaches the cutoff, or the box may be split; and the point
-/// of a run that ended Optimal. The box is a tight one of the scenario. The program isn't made whole where there is no room for its first
-/// tableau; the leaf is then that of one unit of the cost and no rows.
+/// of a run that ended Optimal. The box is a tight one of the scenario. The program isn't made
+/// whole where there is no room for its first tableau; the leaf is then that of one unit of the
+/// cost and no rows.
 ///
 /// It takes what `program_within` takes, and beside the program 20 bytes for each entry of the
 /// tableau, or some times that, since lists grow and rows keep blocks that are up to four times too

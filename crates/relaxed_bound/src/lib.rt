@@ -1,5 +1,5 @@
-//! What the relaxation of a box of plans tells: a leaf, whose bound may close the box, and a point by
-//! which it may be split, within limits of time and room.
+//! What the relaxation of a box of plans tells: a leaf, whose bound may close the box, and a point
+//! by which it may be split, within limits of time and room.
 //!
 //! A caller makes the run on a tight box, and asks for the bound of its leaf:
 //!
@@ -25,8 +25,8 @@
 //! range (`range`), and on a box in which no node that must be entered is closed the leaf has a
 //! bound (`some`). Where that bound doesn't reach the cutoff, a point of the relaxation costs less,
 //! or the run was given up (`licensed`). The point is exactly that of the run; there is none only
-//! where the run didn't end Optimal, or where the point's denominator is too far from 0 (`told`). It
-//! is one of the relaxation (`point`).
+//! where the run didn't end Optimal, or where the point's denominator is too far from 0 (`told`).
+//! It is one of the relaxation (`point`).
 //!
 //! Memory: the program and the run's tableau, 16 bytes for each entry of the one and 20 of the
 //! other, or some times that, since lists grow and rows keep blocks that are up to four times too

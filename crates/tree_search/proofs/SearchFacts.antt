@@ -1,5 +1,5 @@
--- Step by step: after a leaf the search goes on at the next box that waits, or it is at its end; after
--- a split it goes on at the early side.
+-- Step by step: after a leaf the search goes on at the next box that waits, or it is at its end;
+-- after a split it goes on at the early side.
 use Rattle.std.proofs.Common.{◌≡◌, suc, ◌+◌, ◌≤◌, Bool, false, true, List, [], ◌∷◌, length, refl, sym, ◌∙◌, ap, subst, length-append, arith}
 use Rattle.flow_types.specs.declared.bound.Bound.{Bound}
 use Rattle.flow_types.specs.declared.bound.Bound.TheVariants.{NoPlan}

@@ -1,5 +1,5 @@
--- Parts of records, computed on the day of two flights of which one may leave in a period: the second
--- flight leaves in the period after, which costs 1, or two later, which costs 2.
+-- Parts of records, computed on the day of two flights of which one may leave in a period: the
+-- second flight leaves in the period after, which costs 1, or two later, which costs 2.
 use Rattle.std.proofs.Common.{◌≡◌, ℕ, ◌==◌, ◌≤◌, true, List, [], ◌∷◌, None, Some, if◌then◌else◌, pos, neg_ℤ, ap, refl, arith}
 use Rattle.std.proofs.lemmas.Int.{ints}
 use Rattle.exact_sums.proofs.ShortLists.{all_two}
@@ -66,7 +66,8 @@ it_is_closed = refl
 without_plans : IsClosed two (found_with [] NoPlan)
 without_plans = refl
 
--- and with a lower bound it isn't, nor with the bound of the plan before, nor with one of both alone
+-- and with a lower bound it isn't, nor with the bound of the plan before, nor with one of both
+-- alone
 low_isnt : IsClosed two (found_with (late ∷ soon ∷ []) (AtLeast (pos 0))) → ⊥
 low_isnt closed = let e : ⊥ = cc in e
 

@@ -1,5 +1,5 @@
--- What a search has written down so far: plans, each cheaper than the one before, and the first nodes of
--- its tree. No public clause cites these.
+-- What a search has written down so far: plans, each cheaper than the one before, and the first
+-- nodes of its tree. No public clause cites these.
 use Rattle.std.specs.Prelude.{◌≡◌, ◌⊎◌, ℕ, ◌≤◌, false, true, List, [], ◌∷◌, ◌++◌, length, All, AllPairs, Some}
 use Rattle.flow_types.specs.declared.bound.Bound.{Bound}
 use Rattle.flow_types.specs.declared.bound.Bound.TheVariants.{AtLeast}

@@ -1,5 +1,5 @@
--- What is known of each node of a search's tree. Each node has a count, of the plans that were found
--- before it, and a bound; its cutoff is what the last of these plans costs.
+-- What is known of each node of a search's tree. Each node has a count, of the plans that were
+-- found before it, and a bound; its cutoff is what the last of these plans costs.
 use Rattle.std.specs.Prelude.{◌≡◌, ℕ, zero, suc, ◌<◌, true, List, slice_get, slice_index, slice_index_or, Option, None, Some, Ok, ℤ}
 use Rattle.flow_types.specs.declared.bound.Bound.{Bound}
 use Rattle.flow_types.specs.declared.bound.Bound.TheVariants.{NoPlan}

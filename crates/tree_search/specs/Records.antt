@@ -1,5 +1,5 @@
--- What a search hands back: plans, each cheaper than the one before, a tree that proves a bound, and
--- that it ended since the last plan is a least one, or there is none, or its budget was spent.
+-- What a search hands back: plans, each cheaper than the one before, a tree that proves a bound,
+-- and that it ended since the last plan is a least one, or there is none, or its budget was spent.
 use Rattle.std.specs.Prelude.{◌≡◌, ◌⊎◌, ℕ, ◌+◌, ◌<◌, ◌≤◌, List, length, slice_get, All, AllPairs, Option, None, Some, ℤ, ◌<ℤ◌}
 use Rattle.flow_types.specs.declared.bound.Bound.{Bound}
 use Rattle.flow_types.specs.declared.bound.Bound.TheVariants.{AtLeast, NoPlan}

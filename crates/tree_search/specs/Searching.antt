@@ -12,7 +12,8 @@ use Rattle.tree_search.specs.Drafts.{AreReached, Completes, IsBest, IsDraft, IsT
 use Rattle.tree_search.specs.Nodes.{IsNodeAt}
 use Rattle.tree_search.specs.Ways.{ArePartsOf, ArePending, AreSteps, IsPartOf, Way, top_box, waiting_in}
 
--- how many nodes there will be at the least: those that are there, the present box and those that wait
+-- how many nodes there will be at the least: those that are there, the present box and those that
+-- wait
 abbrev pub planned_in : Draft → Way → ℕ
 planned_in draft way = length draft.nodes + suc (waiting_in way.steps)
 

@@ -50,8 +50,8 @@ pub fn nearest_half(s: &Scenario, boxes: &Boxes, point: &Point, known: Branch) -
     best
 }
 
-// How far a fraction is from a half, over twice its denominator. Of numbers that aren't fractions from
-// 0 to 1 it is whatever it is.
+// How far a fraction is from a half, over twice its denominator. Of numbers that aren't fractions
+// from 0 to 1 it is whatever it is.
 fn distance_from_half(numerator: i128, denominator: i128) -> u128 {
     numerator
         .wrapping_mul(2)

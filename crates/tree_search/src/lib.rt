@@ -18,17 +18,17 @@
 //! reaches what the best plan costs, or where there is no room for two nodes more, the box is done
 //! with; and else it is split.
 //!
-//! The definitions stand in `specs/`: `Records` (what is handed back), `Nodes` (what is known of each
-//! node), `Bounds` (the least of bounds) and `Budgets` (a number of nodes that is enough). `Ways`,
-//! `Drafts`, `Visits`, `Seen` and `Searching` serve the proofs.
+//! The definitions stand in `specs/`: `Records` (what is handed back), `Nodes` (what is known of
+//! each node), `Bounds` (the least of bounds) and `Budgets` (a number of nodes that is enough).
+//! `Ways`, `Drafts`, `Visits`, `Seen` and `Searching` serve the proofs.
 //!
 //! Proved: `search` hands back a record (`record`), and no plan in the box that keeps every rule
 //! costs less than its bound (`sound`). Whoever made it, the bound of a record is one
 //! (`search_records_are_bounds`), and one with enough nodes is closed (`enough_nodes_close`).
 //!
 //! Memory: one box and the log of what changed on the way, some 110 bytes for each node of the tree
-//! and 24 for each row of a Dual leaf, the plans, and what one run and one leaf take. Time: for each
-//! node a greedy plan and a run.
+//! and 24 for each row of a Dual leaf, the plans, and what one run and one leaf take. Time: for
+//! each node a greedy plan and a run.
 #![tactic(auto)]
 
 mod branching;

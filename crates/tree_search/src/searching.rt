@@ -236,11 +236,12 @@ fn found_in(draft: Draft) -> Found
 /// more than the budget, which has a node or more. It hands back the plans that it found, each
 /// cheaper than the one before, and the tree that proves a bound: no plan in the box that keeps
 /// every rule costs less, and with `NoPlan` there is none. The last plan costs the bound, or there
-/// is neither a plan nor a bound, or fewer than two nodes of the budget were left (branch and bound,
-/// after Land and Doig 1960).
+/// is neither a plan nor a bound, or fewer than two nodes of the budget were left (branch and
+/// bound, after Land and Doig 1960).
 ///
-/// It takes a copy of the box, what `PlanWork` and `LeafWork` take, for each node some 110 bytes and what its leaf
-/// takes, 24 bytes a row, and for one box at a time what its run takes. The box stays as it was.
+/// It takes a copy of the box, what `PlanWork` and `LeafWork` take, for each node some 110 bytes
+/// and what its leaf takes, 24 bytes a row, and for one box at a time what its run takes. The box
+/// stays as it was.
 pub fn search(
     alloc: Global,
     s: &Scenario,

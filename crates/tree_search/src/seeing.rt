@@ -31,9 +31,9 @@ pub enum Seen {
     Split(Branch),
 }
 
-/// What is seen of the box. Where no plan is in it the leaf is Empty, and where it has no choice the
-/// leaf is Unit. Else the leaf is that of the relaxation's run; or, where its bound doesn't reach
-/// the cutoff and there is room for two nodes more, the box is split.
+/// What is seen of the box. Where no plan is in it the leaf is Empty, and where it has no choice
+/// the leaf is Unit. Else the leaf is that of the relaxation's run; or, where its bound doesn't
+/// reach the cutoff and there is room for two nodes more, the box is split.
 pub fn see(
     alloc: Global,
     s: &Scenario,
