@@ -58,7 +58,7 @@ report_of_infeasible parts = refl
 -- `judge` and two.
 abbrev budget : ℕ → ℕ → ℕ → Budget
 budget nodes pivots cells =
-    record { nodes = nodes; limits = record { pivots = pivots; cells = cells } }
+    record { nodes = nodes; limits = record { pivots = pivots; cells = cells }; rounds = 64 }
 
 abbrev pub default_budget : Budget
 default_budget = budget 2001 20000 2000000

@@ -64,7 +64,7 @@ with_options given (option ∷ word ∷ words) =
     option_and_then (λ more. with_options more words) (with_option given option word)
 
 -- what a search may spend where no option says so is 2,001 nodes, and in each run 20,000 pivots
--- and 2,000,000 cells
+-- and 2,000,000 cells; no option says the rounds of prices, which are passed over
 abbrev pub budget_of : Given → Budget
 budget_of given = record {
   nodes = unwrap_or given.nodes 2001;
@@ -72,6 +72,7 @@ budget_of given = record {
     pivots = unwrap_or given.pivots 20000;
     cells = unwrap_or given.cells 2000000;
   };
+  rounds = 64;
 }
 
 -- what is asked for: that the day of a name is planned, and what that may spend, or that a plan of

@@ -191,7 +191,7 @@ fn number_within(least: u64, most: u64, word: &[u8]) -> Option<u64>
 }
 
 // What a search may spend: what is given, and else 2,001 nodes and runs of 20,000 pivots and
-// 2,000,000 cells.
+// 2,000,000 cells. No option says the rounds of prices, which are passed over.
 fn budget_of(given: Given) -> Budget
     requires given { HasNodes given }
     ensures budget { result ≡ budget_of given }
@@ -203,5 +203,6 @@ fn budget_of(given: Given) -> Budget
             pivots: given.pivots.unwrap_or(20_000),
             cells: given.cells.unwrap_or(2_000_000),
         },
+        rounds: 64,
     }
 }

@@ -8,7 +8,8 @@ use Rattle.flow_types.specs.declared.parts.Parts.{Parts}
 use Rattle.flow_types.specs.Valid.{IsScenario}
 use Rattle.scaled_simplex.specs.declared.end.End.{End}
 use Rattle.scaled_simplex.specs.declared.end.End.TheVariants.{Cut, Infeasible, Limit, Optimal, Wide}
-use Rattle.scaled_simplex.specs.LastPoint.{HasPoint, IsBelow}
+use Rattle.scaled_simplex.specs.Fractions.{HasPoint}
+use Rattle.scaled_simplex.specs.LastPoint.{IsBelow}
 use Rattle.scaled_simplex.specs.Multipliers.{AreMultipliers, IsTold, multipliers_of}
 use Rattle.scaled_simplex.specs.Points.{point_cost}
 use Rattle.scaled_simplex.specs.Program.{Problem}

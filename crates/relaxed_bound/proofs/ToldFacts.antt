@@ -116,7 +116,8 @@ told_few problem outcome valid told = by (is_infeasible outcome.end) refl
 told_range : (leaf : Leaf) (names : List RowName) (problem : Problem) (cutoff : Option ℤ)
     (outcome : Outcome) (weights : Weights) → AreWeights problem cutoff outcome weights
     → leaf ≡ told_leaf names weights.weight weights.rows → IsInRange leaf
-told_range leaf names problem cutoff outcome weights are leaf_is = subst IsInRange (sym leaf_is) range
+told_range leaf names problem cutoff outcome weights are leaf_is =
+    subst IsInRange (sym leaf_is) range
   where
     range : HasRange (unsigned_abs weights.weight) (leaf_rows names weights.rows)
     range = record {

@@ -3,7 +3,8 @@ use Rattle.std.specs.Prelude.{◌≡◌, ◌≤◌, List, All, Option, ℤ, nat_
 use Rattle.row_arena.specs.Rows.{most_entry}
 use Rattle.scaled_simplex.specs.declared.solver.Weights.{Weights}
 use Rattle.scaled_simplex.specs.declared.end.End.TheVariants.{Optimal}
-use Rattle.scaled_simplex.specs.LastPoint.{HasPoint, IsBelow}
+use Rattle.scaled_simplex.specs.Fractions.{HasPoint}
+use Rattle.scaled_simplex.specs.LastPoint.{IsBelow}
 use Rattle.scaled_simplex.specs.Multipliers.{IsTold, multipliers_of}
 use Rattle.scaled_simplex.specs.Program.{IsProblem, Problem}
 use Rattle.scaled_simplex.specs.Run.{Outcome, weight_in}

@@ -71,7 +71,7 @@ module _ (problem : Problem) (tableau : Tableau) (basic : IsBasic problem tablea
       held_value tableau.basis share column (length problem.constraints)
       (λ j k small_j small_k. basic_distinct problem tableau j k basic small_j small_k)
 
-  own_value : IsValueAt problem tableau column (numerator_of problem tableau share column) e
+  pub own_value : IsValueAt problem tableau column (numerator_of problem tableau share column) e
   own_value =
       subst (λ n. IsValueAt problem tableau column n e) (sym numerator_value)
       (by (row_of_column problem tableau column) refl)

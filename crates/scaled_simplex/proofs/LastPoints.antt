@@ -1,5 +1,5 @@
 -- After Optimal there is a point that costs the run's value; the point in numbers is one.
-use Rattle.std.proofs.Common.{◌≡◌, ℕ, ◌<◌, All, length, slice_index, slice_index_or, Option, None, Some, Result, Ok, Err, IfOk, ℤ, pos, ◌<ℤ◌, sym, ap, subst, arith}
+use Rattle.std.proofs.Common.{◌≡◌, ℕ, ◌<◌, All, length, slice_index, slice_index_or, Option, None, Some, Result, Ok, Err, IfOk, ℤ, pos, ◌<ℤ◌, refl, sym, ap, subst, arith}
 use Rattle.flow_types.specs.declared.memory.OutOfMemory.{OutOfMemory}
 use Rattle.row_arena.specs.Arena.{row_at}
 use Rattle.scaled_simplex.specs.declared.board.Board.{Board}
@@ -11,14 +11,14 @@ use Rattle.scaled_simplex.specs.declared.told.Told.{Told}
 use Rattle.scaled_simplex.specs.Board.{IsBasic}
 use Rattle.scaled_simplex.specs.BoardOf.{tableau_of}
 use Rattle.scaled_simplex.specs.Derived.{IsDerived, IsLast}
-use Rattle.scaled_simplex.specs.Fractions.{AreFractions, AreWorth}
-use Rattle.scaled_simplex.specs.LastPoint.{HasPoint, IsWorth}
+use Rattle.scaled_simplex.specs.Fractions.{AreFractions, AreWorth, HasPoint}
+use Rattle.scaled_simplex.specs.LastPoint.{IsWorth}
 use Rattle.scaled_simplex.specs.Program.{IsProblem, Problem}
 use Rattle.scaled_simplex.specs.Run.{Outcome, cost_at, is_infeasible, last_row, leaving, right_at, weight_in}
 use Rattle.scaled_simplex.specs.Solving.{IsRan, outcome_in}
 use Rattle.scaled_simplex.specs.Tableau.{Tableau, right_side, weight_index}
 use Rattle.scaled_simplex.proofs.Choices.{none_leaves}
-use Rattle.scaled_simplex.proofs.HeldQuotients.{values_scaled}
+use Rattle.scaled_simplex.proofs.HeldQuotients.{own_value, values_scaled}
 use Rattle.scaled_simplex.proofs.HeldValues.{AreShares, has_shares, shares_low}
 use Rattle.scaled_simplex.proofs.PointScales.{worth_scaled}
 use Rattle.scaled_simplex.proofs.SolvedRows.{entry_of, numerator_of, point_is, point_worth}
@@ -66,8 +66,12 @@ module _ (problem : Problem) (valid : IsProblem problem) (tableau : Tableau)
       made : (share : ℕ → ℤ) × (denominator : ℤ) × AreHeld share denominator
           → HasPoint problem (ended end)
       made held = record {
+        tableau = tableau;
+        last = record { cells = cells; reached = derived.reached; none = none };
+        row = refl;
         numerator = numerator_of problem tableau held.0;
         denominator = held.1;
+        values = λ column small. own_value problem tableau basic held.0 held.1 held.2 column;
         is = held_worth end held.0 held.1 held.2;
       }
 

@@ -91,3 +91,15 @@ abbrev pub AreWorth : Problem → Outcome → Fractions → Type 0
 AreWorth problem outcome (Point numerators denominator) =
     IsWorth problem outcome (λ column. slice_index_or numerators column (pos 0)) denominator
 AreWorth problem outcome (TooWide count multiple) = Unit {0}
+
+-- The point of the last tableau, over some denominator, costs the run's value, whether or not the
+-- least denominator is too far from 0.
+pub record HasPoint (problem : Problem) (outcome : Outcome) : Type 0 where
+  pub tableau : Tableau
+  pub last : IsLastTableau problem tableau
+  pub row : outcome.row ≡ last_row problem tableau
+  pub numerator : ℕ → ℤ
+  pub denominator : ℤ
+  pub values : (column : ℕ) → column < columns problem
+      → IsValueAt problem tableau column (numerator column) denominator
+  pub is : IsWorth problem outcome numerator denominator

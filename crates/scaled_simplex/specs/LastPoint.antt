@@ -1,5 +1,5 @@
--- What a run that ended Optimal tells besides its bound: there is a point that costs so much, and
--- that is less than the cutoff.
+-- What a run that ended Optimal tells besides its bound: a point that costs the run's value, and
+-- that this is less than the cutoff.
 use Rattle.std.specs.Prelude.{◌≡◌, ℕ, Option, None, Some, ℤ, pos, ◌-ℤ◌, ◌*ℤ◌, ◌≤ℤ◌}
 use Rattle.scaled_simplex.specs.Points.{IsProgramPoint, point_cost}
 use Rattle.scaled_simplex.specs.Program.{Problem}
@@ -11,11 +11,6 @@ pub record IsWorth (problem : Problem) (outcome : Outcome) (numerator : ℕ → 
   pub point : IsProgramPoint problem numerator denominator
   pub worth : point_cost problem numerator denominator *ℤ weight_in problem outcome
       ≡ value_in problem outcome *ℤ denominator
-
-pub record HasPoint (problem : Problem) (outcome : Outcome) : Type 0 where
-  pub numerator : ℕ → ℤ
-  pub denominator : ℤ
-  pub is : IsWorth problem outcome numerator denominator
 
 -- the value, rounded up, is less than the cutoff
 abbrev pub IsBelow : Problem → Option ℤ → Outcome → Type 0

@@ -24,14 +24,14 @@
 //! `proofs/WorkedPoints.antt` a point.
 //!
 //! Proved: `run` ends exactly as the defined run does, with its telling row; `multipliers` and
-//! `value` are exactly those of the definition. Whatever the end, the multipliers are 0 or more, and
-//! for each column the weighted cost plus what the constraints add to it is 0 or more (`told`). So no
-//! values of the columns that keep the constraints cost less than the value; after `Infeasible` the
-//! weight is 0 and the value is above 0, so there are none. After `Optimal` there is a point of the
-//! program that costs the value (`point` of `end`), and the value is below the cutoff (`uncut` of
-//! `run`). `point` gives exactly that of the last tableau, over the least denominator (`fractions`);
-//! it costs the value (`worth`), and hangs on the program alone (`points_are_one`). No product
-//! passes 128 bits.
+//! `value` are exactly those of the definition. Whatever the end, the multipliers are 0 or more,
+//! and for each column the weighted cost plus what the constraints add to it is 0 or more (`told`).
+//! So no values of the columns that keep the constraints cost less than the value; after
+//! `Infeasible` the weight is 0 and the value is above 0, so there are none. After `Optimal` the
+//! point of the last tableau keeps the program and costs the value (`point` of `end`), and the
+//! value is below the cutoff (`uncut` of `run`). `point` gives exactly that one, over the least
+//! denominator (`fractions`); it costs the value (`worth`), and hangs on the program alone
+//! (`points_are_one`). No product passes 128 bits.
 //!
 //! A pivot costs what its rows have, not what the tableau has rows: the row that leaves is found in
 //! a set of numbers, and the rows that may have an entry at an index in a list, which is made anew

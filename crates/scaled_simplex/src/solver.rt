@@ -138,15 +138,14 @@ pub struct Value {
 impl<'a> Run<'a> {
     ghost use Rattle.std.specs.Prelude.{◌≡◌, ◌<◌, ◌≤◌, ◌<ℤ◌, ◌++◌, ◌∷◌, [], All, IfOk, OnOk, false, length, nat_abs, pos};
     ghost use Rattle.row_arena.specs.Rows.{entry_at, most_entry};
-    ghost use Rattle.scaled_simplex.specs.Fractions.{AreLast, AreWorth};
-    ghost use Rattle.scaled_simplex.specs.LastPoint.{HasPoint};
+    ghost use Rattle.scaled_simplex.specs.Fractions.{AreLast, AreWorth, HasPoint};
     ghost use Rattle.scaled_simplex.specs.Multipliers.{IsTold, multipliers_of};
     ghost use Rattle.scaled_simplex.specs.Program.{IsProblem};
     ghost use Rattle.scaled_simplex.specs.declared.end.End.TheVariants.{Optimal};
     ghost use Rattle.scaled_simplex.specs.Run.{is_infeasible, multiplier_in, value_in, weight_in};
 
     /// How it ended. Whatever the end is, its row tells what is true of all values of the columns;
-    /// and after Optimal there is a point of the program that costs the value.
+    /// and after Optimal the point of the last tableau keeps the program and costs the value.
     #[tactic(auto, using(crate::proofs::LastPoints::ran_point))]
     pub fn end(&self) -> End
         ensures end { result ≡ self.now.outcome.end }

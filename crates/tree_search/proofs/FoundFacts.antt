@@ -1,5 +1,5 @@
 -- What a search that is at its end hands back is a record.
-use Rattle.std.proofs.Common.{◌≡◌, ◌⊎◌, true, ℕ, ◌+◌, ◌<◌, ◌≤◌, List, length, get_or, All, inl, inr, refl, sym, ◌∙◌, ap, subst}
+use Rattle.std.proofs.Common.{◌≡◌, ◌⊎◌, true, ℕ, ◌+◌, ◌<◌, ◌≤◌, List, [], length, get_or, All, inl, inr, refl, sym, ◌∙◌, ap, subst}
 use Rattle.std.proofs.lemmas.Bool.{cases_lt}
 use Rattle.std.proofs.lemmas.List.Elements.{All-weaker}
 use Rattle.flow_types.specs.declared.bound.Bound.{Bound}
@@ -13,6 +13,7 @@ use Rattle.branch_tree.specs.declared.tree.TreeNode.{TreeNode}
 use Rattle.branch_tree.proofs.ForestFacts.{tree_on}
 use Rattle.branch_tree.specs.Trees.{is_tree}
 use Rattle.dual_leaf.specs.Leaf.{IsBoundOn}
+use Rattle.valid_cuts.specs.declared.names.CutName.{CutName}
 use Rattle.tree_search.specs.declared.draft.Draft.{Draft}
 use Rattle.tree_search.specs.declared.found.Budget.{Budget}
 use Rattle.tree_search.specs.declared.found.Found.{Found}
@@ -33,12 +34,14 @@ searched_tree parts budget top draft searched =
     tree_on parts (IsNodeAt parts budget.limits draft.plans draft.counts draft.bounds) top
     draft.nodes searched.tree
 
-abbrev made_of : List (List (List Stop)) → List TreeNode → List ℕ → List Bound → Bound → Found
-made_of plans tree counts bounds bound = record {
+abbrev made_of : List (List (List Stop)) → List TreeNode → List ℕ → List Bound → List CutName
+    → Bound → Found
+made_of plans tree counts bounds pool bound = record {
   plans = plans;
   tree = tree;
   counts = counts;
   bounds = bounds;
+  pool = pool;
   bound = bound;
 }
 
@@ -70,7 +73,7 @@ module _ (parts : Parts) (root top : Box) (budget : Budget) (draft : Draft)
 
   module _ (found : Found) (plans : found.plans ≡ draft.plans) (tree : found.tree ≡ draft.nodes)
       (counts : found.counts ≡ draft.counts) (bounds : found.bounds ≡ draft.bounds)
-      (bound : found.bound ≡ least_of found.bounds) where
+      (pool : found.pool ≡ []) (bound : found.bound ≡ least_of found.bounds) where
     pub found_sound : IsBoundOn parts root found.bound
     found_sound =
         subst (IsBoundOn parts root) (sym (bound ∙ ap least_of bounds)) sound
@@ -81,19 +84,21 @@ module _ (parts : Parts) (root top : Box) (budget : Budget) (draft : Draft)
       where
         handed : Found
         handed =
-            made_of draft.plans draft.nodes draft.counts draft.bounds (least_of draft.bounds)
+            made_of draft.plans draft.nodes draft.counts draft.bounds [] (least_of draft.bounds)
 
         same : handed ≡ found
         same =
-            ap (λ (ps : List (List (List Stop))). made_of ps draft.nodes draft.counts draft.bounds
+            ap (λ (ps : List (List (List Stop))). made_of ps draft.nodes draft.counts draft.bounds []
             (least_of draft.bounds)) (sym plans)
-            ∙ ap (λ (ns : List TreeNode). made_of found.plans ns draft.counts draft.bounds
+            ∙ ap (λ (ns : List TreeNode). made_of found.plans ns draft.counts draft.bounds []
             (least_of draft.bounds)) (sym tree)
-            ∙ ap (λ (cs : List ℕ). made_of found.plans found.tree cs draft.bounds
+            ∙ ap (λ (cs : List ℕ). made_of found.plans found.tree cs draft.bounds []
             (least_of draft.bounds)) (sym counts)
-            ∙ ap (λ (bs : List Bound). made_of found.plans found.tree found.counts bs
+            ∙ ap (λ (bs : List Bound). made_of found.plans found.tree found.counts bs []
             (least_of bs)) (sym bounds)
-            ∙ ap (made_of found.plans found.tree found.counts found.bounds) (sym bound)
+            ∙ ap (λ (cuts : List CutName). made_of found.plans found.tree found.counts found.bounds
+            cuts (least_of found.bounds)) (sym pool)
+            ∙ ap (made_of found.plans found.tree found.counts found.bounds found.pool) (sym bound)
 
         by : (budget.nodes < length draft.nodes + 2) ⊎ (length draft.nodes + 2 ≤ budget.nodes)
             → IsClosed parts handed ⊎ (budget.nodes < length draft.nodes + 2)
@@ -114,6 +119,7 @@ module _ (parts : Parts) (root top : Box) (budget : Budget) (draft : Draft)
           bounded = searched.draft_is.bounded;
           bound_is = refl;
           near = near_least draft.bounds searched.draft_is.near;
+          pool = refl;
           nodes = searched.room;
           ended = by (cases_lt budget.nodes (length draft.nodes + 2));
         }

@@ -57,7 +57,7 @@ none_left = refl
 
 abbrev found_with : List (List (List Stop)) → Bound → Found
 found_with plans bound =
-    record { plans = plans; tree = []; counts = []; bounds = []; bound = bound }
+    record { plans = plans; tree = []; counts = []; bounds = []; pool = []; bound = bound }
 
 -- closed: the last plan costs the bound, or there is neither
 it_is_closed : IsClosed two (found_with (late ∷ soon ∷ []) (AtLeast (pos 1)))

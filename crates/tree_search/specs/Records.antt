@@ -1,6 +1,6 @@
 -- What a search hands back: plans, each cheaper than the one before, a tree that proves a bound,
 -- and that it ended since the last plan is a least one, or there is none, or its budget was spent.
-use Rattle.std.specs.Prelude.{◌≡◌, ◌⊎◌, ℕ, ◌+◌, ◌<◌, ◌≤◌, List, length, slice_get, All, AllPairs, Option, None, Some, ℤ, ◌<ℤ◌}
+use Rattle.std.specs.Prelude.{◌≡◌, ◌⊎◌, ℕ, ◌+◌, ◌<◌, ◌≤◌, List, [], length, slice_get, All, AllPairs, Option, None, Some, ℤ, ◌<ℤ◌}
 use Rattle.flow_types.specs.declared.bound.Bound.{Bound}
 use Rattle.flow_types.specs.declared.bound.Bound.TheVariants.{AtLeast, NoPlan}
 use Rattle.flow_types.specs.declared.parts.Parts.{Parts}
@@ -58,5 +58,6 @@ pub record IsSearchRecord (parts : Parts) (root : Box) (budget : Budget) (found 
   pub bounded : length found.bounds ≡ length found.tree
   pub bound_is : found.bound ≡ least_of found.bounds
   pub near : IsNearBound found.bound
+  pub pool : found.pool ≡ []
   pub nodes : length found.tree ≤ budget.nodes
   pub ended : IsClosed parts found ⊎ (budget.nodes < length found.tree + 2)

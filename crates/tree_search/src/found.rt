@@ -3,6 +3,7 @@
 use branch_tree::Tree;
 use flow_types::{Bound, Plan, Sequence};
 use relaxed_bound::Limits;
+use valid_cuts::Pool;
 
 /// What a search may spend.
 #[derive(Clone, Copy, Debug, PartialEq, Eq)]
@@ -11,6 +12,8 @@ pub struct Budget {
     pub nodes: u64,
     /// How far the run of each box's relaxation may go.
     pub limits: Limits,
+    /// How many rounds of prices a box may have. Leaves aren't priced yet: it is passed over.
+    pub rounds: u32,
 }
 
 /// A list of plans.
@@ -33,6 +36,8 @@ pub struct Found {
     pub counts: Counts,
     /// For each node of the tree, the bound of a leaf; a split has `NoPlan`.
     pub bounds: Bounds,
-    /// The least of these: no plan costs less.
+    /// The cuts that leaves may name: none, since no cut has a row yet.
+    pub pool: Pool,
+    /// The least of the bounds: no plan costs less.
     pub bound: Bound,
 }

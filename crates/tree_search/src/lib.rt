@@ -5,7 +5,7 @@
 //!
 //!     let root = Boxes::root(alloc, &s)?;
 //!     let limits = Limits { pivots: 20_000, cells: 2_000_000 };
-//!     let found = search(alloc, &s, &root, Budget { nodes: 2001, limits })?;
+//!     let found = search(alloc, &s, &root, Budget { nodes: 2001, limits, rounds: 64 })?;
 //!     println!("{} plans, {} nodes", found.plans.items().len(), found.tree.nodes());
 //!     match found.bound {
 //!         Bound::AtLeast(least) => println!("no plan in the box costs less than {least}"),
@@ -42,4 +42,3 @@ mod walk;
 pub use found::{Bounds, Budget, Counts, Found, Plans};
 pub use laws::{enough_nodes_close, search_records_are_bounds};
 pub use searching::search;
-pub use walk::Branch;

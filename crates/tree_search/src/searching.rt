@@ -1,5 +1,5 @@
 //! The search.
-ghost use Rattle.std.specs.Prelude.{◌≡◌, ◌∷◌, ◌+◌, ◌<◌, ◌≤◌, ◌↔◌, IsTrue, IfOk, OnOk, true};
+ghost use Rattle.std.specs.Prelude.{◌≡◌, [], ◌∷◌, ◌+◌, ◌<◌, ◌≤◌, ◌↔◌, IsTrue, IfOk, OnOk, true};
 ghost use Rattle.branch_tree.specs.declared.tree.TreeNode.TheVariants.{Leaf as LeafNode, Split as SplitNode};
 ghost use Rattle.branch_tree.specs.Trees.{is_tree};
 ghost use Rattle.dual_leaf.specs.Leaf.{IsBoundOn};
@@ -28,6 +28,7 @@ use flow_types::{Bound, OutOfMemory, Scenario};
 use greedy_plan::{Greedy, PlanWork};
 use std::alloc::Global;
 use time_windows::Boxes;
+use valid_cuts::Pool;
 
 // Offers the greedy plan of the box.
 fn visit(
@@ -204,12 +205,13 @@ fn lesser(first: Bound, second: Bound) -> Bound
 }
 
 // What is handed back of a whole tree.
-fn found_in(draft: Draft) -> Found
+fn found_in(alloc: Global, draft: Draft) -> Found
     requires { is_tree draft.nodes ≡ true }
     ensures plans { result.plans ≡ draft.plans }
     ensures tree { result.tree ≡ draft.nodes }
     ensures counts { result.counts ≡ draft.counts }
     ensures bounds { result.bounds ≡ draft.bounds }
+    ensures pool { result.pool ≡ [] }
     ensures bound { result.bound ≡ least_of result.bounds }
 {
     let Draft {
@@ -227,6 +229,7 @@ fn found_in(draft: Draft) -> Found
             tree,
             counts,
             bounds,
+            pool: Pool::empty(alloc),
             bound,
         },
     }
@@ -261,5 +264,5 @@ pub fn search(
     visit(alloc, s, &boxes, &mut plans, &mut draft)?;
     let mut walk = Walk::new(alloc, boxes)?;
     run(alloc, s, budget, &mut plans, &mut walk, &mut draft)?;
-    Ok(found_in(draft))
+    Ok(found_in(alloc, draft))
 }

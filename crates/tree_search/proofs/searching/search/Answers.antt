@@ -31,7 +31,7 @@ returns-clause-record c =
     (begun_top c.in_ok-walk.walk c.tighten.new.self c.in_ok-walk.ensures.present
     c.in_ok-walk.ensures.above) c.in_ok-run.ensures) c.found_in.result
     c.found_in.ensures.plans c.found_in.ensures.tree c.found_in.ensures.counts
-    c.found_in.ensures.bounds c.found_in.ensures.bound
+    c.found_in.ensures.bounds c.found_in.ensures.pool c.found_in.ensures.bound
 
 pub returns-clause-sound : goal.returns-clause-sound
 returns-clause-sound c =
@@ -43,4 +43,4 @@ returns-clause-sound c =
     (begun_top c.in_ok-walk.walk c.tighten.new.self c.in_ok-walk.ensures.present
     c.in_ok-walk.ensures.above) c.in_ok-run.ensures) c.found_in.result
     c.found_in.ensures.plans c.found_in.ensures.tree c.found_in.ensures.counts
-    c.found_in.ensures.bounds c.found_in.ensures.bound
+    c.found_in.ensures.bounds c.found_in.ensures.pool c.found_in.ensures.bound
