@@ -1,4 +1,4 @@
-//! Bounds of a box by runs with little room, few pivots or a cutoff, and programs that have no room.
+//! Bounds of a box by runs with little room, few pivots or a cutoff, and programs without room.
 ghost use Rattle.flow_types.specs.Scenario.{parts_of};
 ghost use Rattle.time_windows.specs.Held.{IsMadeFor, box_of};
 ghost use Rattle.time_windows.specs.Tight.{IsTight};

@@ -24,9 +24,14 @@ const MOST_BYTES: usize = 4_096;
 
 // Leaves on the tight root box of the day of two flights; with rows, those that
 // docs/relaxation.md works out.
-const ON_TWO_FLIGHTS: &str = "dual 1: at least -8
-dual 1, 1 enter 0 1 0, 1 enter 0 1 1, 1 enter 0 1 2, 1 enter 0 1 3, 1 enter 0 2 2, 1 enter 0 2 3, 1 enter 0 2 4, 1 enter 0 2 5, 1 enter 1 1 0, 1 enter 1 1 1, 1 enter 1 1 2, 1 enter 1 1 3, 1 enter 1 2 2, 1 enter 1 2 3, 1 enter 1 2 4, 1 enter 1 2 5: at least 0
-dual 1, 1 dep 0 0, 2 enter 0 1 0, 1 enter 0 1 1, 1 enter 0 1 2, 1 enter 0 1 3, 2 enter 0 2 2, 1 enter 0 2 3, 1 enter 0 2 4, 1 enter 0 2 5, 2 enter 1 1 0, 1 enter 1 1 1, 1 enter 1 1 2, 1 enter 1 1 3, 2 enter 1 2 2, 1 enter 1 2 3, 1 enter 1 2 4, 1 enter 1 2 5: at least 1
+const ON_TWO_FLIGHTS: &str = "\
+dual 1: at least -8
+dual 1, 1 enter 0 1 0, 1 enter 0 1 1, 1 enter 0 1 2, 1 enter 0 1 3, 1 enter 0 2 2, \
+    1 enter 0 2 3, 1 enter 0 2 4, 1 enter 0 2 5, 1 enter 1 1 0, 1 enter 1 1 1, 1 enter 1 1 2, \
+    1 enter 1 1 3, 1 enter 1 2 2, 1 enter 1 2 3, 1 enter 1 2 4, 1 enter 1 2 5: at least 0
+dual 1, 1 dep 0 0, 2 enter 0 1 0, 1 enter 0 1 1, 1 enter 0 1 2, 1 enter 0 1 3, 2 enter 0 2 2, \
+    1 enter 0 2 3, 1 enter 0 2 4, 1 enter 0 2 5, 2 enter 1 1 0, 1 enter 1 1 1, 1 enter 1 1 2, \
+    1 enter 1 1 3, 2 enter 1 2 2, 1 enter 1 2 3, 1 enter 1 2 4, 1 enter 1 2 5: at least 1
 dual 0: useless 0
 empty: not empty
 unit: not unit 0 0

@@ -1,4 +1,4 @@
-//! Days with connections, or of mixed kinds, and the bounds that another program gives leaves on them.
+//! Days with connections and mixed days, and the bounds that another program gives leaves on them.
 //! Made by `tools/leaves_table`, which tells what the lines are.
 
 /// Each day with its boxes and leaves, and with what is said of these.
@@ -32,15 +32,18 @@ unit: not unit 0 0
 dual 4611686018427387903: at least -2
 dual 0, 2 dep 2 0, 5 leave 0 1: useless -9
 dual 3, 1 top 2 2, 1 dep 4 4, 1 arr 4 2, 1 occupy 1 1 5, 1 connect 0 5: at least -8
-dual 4611686018427387902, 1537228672809129301 occupy 2 1 8, 2147483648 enter 1 1 8, 1000 connect 0 4, 1000000000000000 connect 0 6: at least -2
-dual 1, 1537228672809129301 mono 0 0 6, 2147483648 occupy 1 1 1, 1537228672809129301 enter 0 1 0: at least -2
+dual 4611686018427387902, 1537228672809129301 occupy 2 1 8, 2147483648 enter 1 1 8, 1000 connect 0 \
+    4, 1000000000000000 connect 0 6: at least -2
+dual 1, 1537228672809129301 mono 0 0 6, 2147483648 occupy 1 1 1, 1537228672809129301 enter 0 1 0: \
+    at least -2
 dual 0, 1 dep 5 0, 5 cut 0: unknown row 0
 after 1 0 8
 by 2 1 5
 by 0 1 5
 by 0 1 4
 by 2 0 5
-dual 2147483648, 2147483648 mono 0 1 8, 2147483648 top 1 0, 4611686018427387903 dep 4 8, 1000 occupy 2 1 8: at least -19327352834
+dual 2147483648, 2147483648 mono 0 1 8, 2147483648 top 1 0, 4611686018427387903 dep 4 8, 1000 \
+    occupy 2 1 8: at least -19327352834
 after 0 2 4
 after 0 1 3
 after 0 0 2
@@ -63,7 +66,8 @@ dual 2: at least 1
 dual 1, 9 top 1 0, 3 sector 5 7, 1 occupy 1 2 3, 1 occupy 2 1 6, 9 connect 0 7: at least -11
 root
 dual 1: at least -2
-dual 1, 4611686018427387903 mono 2 1 5, 1000000000000000 dep 4 5, 1000 leave 1 2: at least -4620686018427388903
+dual 1, 4611686018427387903 mono 2 1 5, 1000000000000000 dep 4 5, 1000 leave 1 2: at least \
+    -4620686018427388903
 by 0 1 3
 after 2 1 7
 unit: not unit 0 2
@@ -81,7 +85,8 @@ dual 5, 9 cut 4294967295: unknown row 0
 dual 1: at least 1
 root
 unit: not unit 0 0
-dual 1000000000000000, 4611686018427387903 top 0 0, 4611686018427387902 top 1 1, 1000 sector 5 0, 1000000000000000 occupy 1 1 0: at least -4613
+dual 1000000000000000, 4611686018427387903 top 0 0, 4611686018427387902 top 1 1, 1000 sector 5 0, \
+    1000000000000000 occupy 1 1 0: at least -4613
 by 0 2 4
 after 2 1 7
 empty: not empty
@@ -120,8 +125,10 @@ unit: not unit 0 1
 dual 1: at least 9
 dual 0, 3 top 3 0, 3 arr 0 6: useless 0
 dual 2, 2 mono 0 0 6, 3 top 1 2, 5 dep 0 1, 3 sector 2 6, 1 connect 0 1: at least -1
-dual 1000000000000000, 1537228672809129301 mono 0 2 6, 1000 top 1 0, 1537228672809129301 dep 1 2, 4611686018427387902 leave 3 1: at least -7677
-dual 0, 4611686018427387902 mono 1 2 1, 1000000000000000 enter 0 2 1, 4611686018427387903 enter 1 1 5: useless -4611686018427387903
+dual 1000000000000000, 1537228672809129301 mono 0 2 6, 1000 top 1 0, 1537228672809129301 dep 1 2, \
+    4611686018427387902 leave 3 1: at least -7677
+dual 0, 4611686018427387902 mono 1 2 1, 1000000000000000 enter 0 2 1, 4611686018427387903 enter 1 \
+    1 5: useless -4611686018427387903
 dual 1, 2 sector 2 3, 5 connect 0 5, 1 cut 4294967295: unknown row 2
 by 3 1 4
 by 2 1 2
@@ -191,8 +198,10 @@ unit: not unit 1 1
 dual 4611686018427387903: at least 0
 dual 0, 3 sector 3 7, 5 enter 0 2 2: useless -3
 dual 9, 1 top 0 0, 9 dep 0 2, 9 dep 0 3, 9 sector 3 0, 5 occupy 0 2 5: at least -2
-dual 4611686018427387902, 1000 arr 0 6, 1537228672809129301 arr 1 7, 1537228672809129301 enter 1 2 2, 1000000000000000 connect 0 0: at least 0
-dual 0, 1000000000000000 top 0 3, 1537228672809129301 arr 0 2, 4611686018427387903 leave 1 0: useless -1537228672809129301
+dual 4611686018427387902, 1000 arr 0 6, 1537228672809129301 arr 1 7, 1537228672809129301 enter 1 2 \
+    2, 1000000000000000 connect 0 0: at least 0
+dual 0, 1000000000000000 top 0 3, 1537228672809129301 arr 0 2, 4611686018427387903 leave 1 0: \
+    useless -1537228672809129301
 dual 0, 5 mono 2 0 1, 5 top 0 1, 1 leave 0 2: unknown row 0
 after 1 1 6
 empty: no plan
@@ -236,18 +245,22 @@ unit: not unit 0 0
 dual 4611686018427387903: at least 0
 dual 0, 1 sector 3 0, 3 sector 3 3: useless -6
 dual 1, 5 mono 0 0 1, 1 mono 0 0 4, 3 sector 4 3, 9 enter 0 2 2: at least -14
-dual 1000000000000000, 1537228672809129301 mono 0 0 4, 1000000000000000 dep 0 0, 4611686018427387903 dep 1 0, 4611686018427387903 arr 1 3: at least -10765
-dual 0, 1537228672809129301 mono 0 0 4, 1537228672809129301 top 0 2, 1000 arr 0 0: useless -1537228672809130301
+dual 1000000000000000, 1537228672809129301 mono 0 0 4, 1000000000000000 dep 0 0, \
+    4611686018427387903 dep 1 0, 4611686018427387903 arr 1 3: at least -10765
+dual 0, 1537228672809129301 mono 0 0 4, 1537228672809129301 top 0 2, 1000 arr 0 0: useless \
+    -1537228672809130301
 dual 5, 2 top 1 0, 5 dep 2 0: unknown row 0
 after 0 2 3
 empty: not empty
 unit: not unit 0 0
-dual 2147483648, 2147483648 top 0 2, 1000 dep 0 1, 2147483648 enter 0 2 4, 2147483648 leave 0 1: at least 2
+dual 2147483648, 2147483648 top 0 2, 1000 dep 0 1, 2147483648 enter 0 2 4, 2147483648 leave 0 1: \
+    at least 2
 by 0 1 3
 by 0 1 2
 empty: not empty
 unit: at least 2
-dual 2147483648, 1000 mono 0 0 1, 4611686018427387903 top 0 2, 1000 dep 0 4, 4611686018427387903 sector 4 3: at least 2
+dual 2147483648, 1000 mono 0 0 1, 4611686018427387903 top 0 2, 1000 dep 0 4, 4611686018427387903 \
+    sector 4 3: at least 2
 root
 unit: not unit 0 0
 by 0 1 2
@@ -257,7 +270,8 @@ after 0 2 3
 empty: not empty
 unit: at least 2
 dual 1: at least 2
-dual 1000, 1537228672809129301 mono 0 2 3, 1000 dep 1 3, 4611686018427387902 sector 2 3, 1000 enter 0 1 1: at least -4611686018427386
+dual 1000, 1537228672809129301 mono 0 2 3, 1000 dep 1 3, 4611686018427387902 sector 2 3, 1000 \
+    enter 0 1 1: at least -4611686018427386
 root
 after 0 0 3
 after 0 1 4
@@ -265,13 +279,15 @@ empty: no plan
 unit: not unit 0 0
 dual 0: closed 0 0
 root
-dual 1000, 1537228672809129301 mono 0 1 4, 4611686018427387902 dep 1 2, 1000000000000000 arr 0 1, 1000000000000000 leave 0 0: at least -6149914691236513
+dual 1000, 1537228672809129301 mono 0 1 4, 4611686018427387902 dep 1 2, 1000000000000000 arr 0 1, \
+    1000000000000000 leave 0 0: at least -6149914691236513
 dual 5, 1 mono 0 1 1, 1 top 0 0, 1 top 0 1, 1 sector 1 0: unknown row 3
 by 0 2 2
 by 0 1 2
 empty: not empty
 unit: at least 0
-dual 1, 4611686018427387902 arr 0 4, 4611686018427387903 enter 0 1 2, 4611686018427387903 leave 0 0: at least -4611686018427387902
+dual 1, 4611686018427387902 arr 0 4, 4611686018427387903 enter 0 1 2, 4611686018427387903 leave 0 \
+    0: at least -4611686018427387902
 ",
     ),
     (
@@ -322,8 +338,10 @@ unit: not unit 0 0
 dual 7: at least -2000000033
 dual 0, 1 enter 3 4 6, 1 leave 3 2: useless -1
 dual 9, 2 mono 0 0 4, 9 dep 4 3, 1 sector 1 4, 5 enter 1 1 2, 1 leave 3 3: at least -2000000034
-dual 1000, 4611686018427387902 mono 2 0 4, 1537228672809129301 mono 2 2 4, 4611686018427387903 sector 1 4, 4611686018427387902 leave 2 2: at least -19983974746518713
-dual 1, 4611686018427387902 sector 5 6, 4611686018427387903 occupy 1 2 0, 1537228672809129301 occupy 3 1 2: at least -43042402840655620452
+dual 1000, 4611686018427387902 mono 2 0 4, 1537228672809129301 mono 2 2 4, 4611686018427387903 \
+    sector 1 4, 4611686018427387902 leave 2 2: at least -19983974746518713
+dual 1, 4611686018427387902 sector 5 6, 4611686018427387903 occupy 1 2 0, 1537228672809129301 \
+    occupy 3 1 2: at least -43042402840655620452
 dual 1, 5 mono 1 1 2, 2 top 1 2, 2 dep 1 0, 1 enter 3 1 0, 5 cut 1: unknown row 2
 dual 1, 7 arr 4 2: at least -2000000026
 dual 2, 3 arr 4 2, 1 enter 1 3 4: at least -2000000031
@@ -372,7 +390,8 @@ after 2 1 4
 by 0 2 2
 after 2 0 3
 after 1 0 4
-dual 4611686018427387903, 4611686018427387903 top 3 1, 1000 dep 4 0, 4611686018427387902 sector 1 0, 1000000000000000 occupy 3 1 2: at least -2000000009
+dual 4611686018427387903, 4611686018427387903 top 3 1, 1000 dep 4 0, 4611686018427387902 sector 1 \
+    0, 1000000000000000 occupy 3 1 2: at least -2000000009
 by 3 4 1
 by 0 1 1
 by 2 2 6
@@ -408,8 +427,10 @@ unit: not unit 0 0
 dual 1: at least -13
 dual 0, 2 mono 0 3 3: useless -2
 dual 2, 9 mono 0 2 1, 2 dep 1 0, 2 dep 1 6, 9 sector 5 1, 2 leave 0 1: at least -65
-dual 4611686018427387902, 2147483648 mono 0 0 6, 1000 dep 1 2, 1000 arr 0 2, 1000000000000000 enter 0 1 5: at least -13
-dual 1, 1000 dep 0 3, 1537228672809129301 sector 5 4, 4611686018427387903 occupy 0 1 5: at least -18446744073709552625
+dual 4611686018427387902, 2147483648 mono 0 0 6, 1000 dep 1 2, 1000 arr 0 2, 1000000000000000 \
+    enter 0 1 5: at least -13
+dual 1, 1000 dep 0 3, 1537228672809129301 sector 5 4, 4611686018427387903 occupy 0 1 5: at least \
+    -18446744073709552625
 dual 0, 2 top 0 1, 1 top 0 2, 2 enter 0 1 8, 5 leave 0 1: unknown row 2
 dual 1, 6 mono 0 3 2: at least -8
 dual 9, 5 mono 0 3 2: at least -12
@@ -418,7 +439,8 @@ after 0 3 2
 by 0 2 2
 after 0 3 3
 by 0 1 2
-dual 4611686018427387902, 4611686018427387902 mono 0 0 2, 1000 mono 0 3 2, 4611686018427387903 mono 0 3 5, 4611686018427387902 occupy 0 2 1: at least -7
+dual 4611686018427387902, 4611686018427387902 mono 0 0 2, 1000 mono 0 3 2, 4611686018427387903 \
+    mono 0 3 5, 4611686018427387902 occupy 0 2 1: at least -7
 after 0 0 1
 empty: not empty
 unit: at least -6
