@@ -6,7 +6,8 @@
 //! definition is the run that another program makes. A line of the table is a program, the limits
 //! of a run, and what is said of it:
 //!
-//!     7. 3 plus 2, -2 at most -1; cells 90 pivots 4: optimal, weight 2, value 7/2, rows 3 0
+//!     7. 3 plus 2, -2 at most -1; cells 90 pivots 4: optimal, weight 2, value 7/2, rows 3 0, \
+//!         point 1 over 2
 //!
 //! `tools/simplex_table` makes the table, and tells what its lines are.
 #![tactic(auto)]

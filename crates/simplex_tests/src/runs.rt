@@ -1,7 +1,7 @@
 //! How the runs of the table end, and what they tell.
 use crate::programs::{program_of, sides_of};
 use crate::table::RUNS;
-use scaled_simplex::{End, Program, Run, Solver};
+use scaled_simplex::{End, Fractions, Program, Run, Solver};
 use std::alloc::Global;
 use std::process::Abort;
 use std::str::SplitWhitespace;
@@ -34,6 +34,29 @@ fn put_value(text: &mut String, run: &Run<'_>) -> Result<(), Fail> {
     Ok(())
 }
 
+// Adds the point, which Optimal alone has.
+fn put_point(text: &mut String, alloc: Global, run: &Run<'_>) -> Result<(), Fail> {
+    if run.end() != End::Optimal {
+        return Ok(());
+    }
+    match run.point(alloc)? {
+        Fractions::Point {
+            numerators,
+            denominator,
+        } => {
+            text.push_str(", point")?;
+            for numerator in numerators.items() {
+                write!(text, " {numerator}")?;
+            }
+            write!(text, " over {denominator}")?;
+        }
+        Fractions::TooWide { columns, multiple } => {
+            write!(text, ", too wide at {columns} by {multiple}")?;
+        }
+    }
+    Ok(())
+}
+
 // What the run tells.
 fn text_of(alloc: Global, run: &Run<'_>) -> Result<String, Fail> {
     let weights = run.multipliers(alloc)?;
@@ -45,6 +68,7 @@ fn text_of(alloc: Global, run: &Run<'_>) -> Result<String, Fail> {
     for multiplier in weights.rows.items() {
         write!(&mut text, " {multiplier}")?;
     }
+    put_point(&mut text, alloc, run)?;
     Ok(text)
 }
 
