@@ -1,4 +1,5 @@
-//! Bounds of a box by runs with little room, few pivots or a cutoff, and programs without room.
+//! Programs of boxes, with and without room, and bounds of a box by runs with little room, few
+//! pivots or a cutoff.
 ghost use Rattle.flow_types.specs.Scenario.{parts_of};
 ghost use Rattle.time_windows.specs.Held.{IsMadeFor, box_of};
 ghost use Rattle.time_windows.specs.Tight.{IsTight};
@@ -6,14 +7,14 @@ ghost use Rattle.time_windows.specs.Tight.{IsTight};
 use crate::leaves::{day_of, tight_root};
 use dual_leaf::LeafWork;
 use flow_types::{Bound, Scenario};
-use presolve::{Refused, program_within};
+use presolve::{Refused, program, program_within};
 use relaxed_bound::{Limits, relax};
 use std::alloc::Global;
 use std::process::Abort;
 use std::test::Fail;
 use time_windows::Boxes;
 use valid_cuts::Pool;
-use worked_days::TWO_FLIGHTS;
+use worked_days::{THERE_AND_BACK, TWO_FLIGHTS};
 
 // How far a run goes: its room, its pivots and its cutoff.
 #[derive(Clone, Copy, Debug)]
@@ -109,6 +110,25 @@ fn bounds_on_the_day_of_two_flights(rt: HostRuntime) -> Result<(), Fail> {
     }
     for (cutoff, least) in [(-8, -8), (0, 0), (1, 1), (2, 1)] {
         try_case(&rt, alloc, &s, up_to(cutoff), least)?;
+    }
+    Ok(())
+}
+
+#[test]
+fn programs_of_root_boxes(rt: HostRuntime) -> Result<(), Fail> {
+    let alloc = rt.alloc();
+    for (day, columns, kept, flipped, constant) in [
+        (TWO_FLIGHTS, 30, 51, 10, -8),
+        (THERE_AND_BACK, 8, 15, 2, -1),
+    ] {
+        let s = day_of(alloc, day)?;
+        let boxes = tight_root(alloc, &s)?;
+        let presolved = program(alloc, &s, &boxes, &Pool::empty(alloc))?;
+        assert_eq!(rt; presolved.columns.items().len(), columns);
+        assert_eq!(rt; presolved.kept.items().len(), kept);
+        let flips = presolved.flipped.items().iter().filter(|flip| **flip);
+        assert_eq!(rt; flips.count(), flipped);
+        assert_eq!(rt; presolved.program.constant(), constant);
     }
     Ok(())
 }
