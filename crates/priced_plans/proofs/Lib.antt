@@ -1,0 +1,6 @@
+pub mod RangeFacts
+pub mod CellFacts
+pub mod TurnFacts
+pub mod PayFacts
+pub mod ValueFacts
+pub mod WorkedPrices

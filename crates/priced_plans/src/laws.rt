@@ -1,0 +1,27 @@
+//! What prices tell of all plans.
+ghost use Rattle.std.specs.Prelude.{ℕ, ◌<◌, List, length, ℤ, pos, ◌≤ℤ◌};
+ghost use Rattle.flow_types.specs.Feasible.{IsFeasible};
+ghost use Rattle.flow_types.specs.Valid.{IsScenario};
+ghost use Rattle.flow_types.specs.declared.parts.Parts.{Parts};
+ghost use Rattle.flow_types.specs.declared.plan.Stop.{Stop};
+ghost use Rattle.flight_routes.specs.Inside.{IsTripIn};
+ghost use Rattle.flight_routes.specs.Prices.{PriceTable};
+ghost use Rattle.time_windows.specs.Boxes.{Box};
+ghost use Rattle.priced_plans.specs.Values.{BoundsPlans, HasNoPlan, IsPricedValue, limit_price, plan_price};
+
+/// The trips of a feasible plan pay together no more than all capacities would.
+pub fn plans_pay_no_more_than_capacities()
+    ensures { (parts : Parts) (table : PriceTable) (plan : List (List Stop)) → IsScenario parts
+        → IsFeasible parts plan
+        → plan_price table parts 0 parts.flights plan ≤ℤ pos (limit_price parts table) }
+{}
+
+/// The value of any prices bounds the feasible plans in a box (`value`). None is there where a
+/// flight has no trip in the box (`none`).
+pub fn priced_values_are_bounds()
+    ensures value { (parts : Parts) (box : Box) (weight : ℕ) (table : PriceTable) (value : ℤ)
+        → IsScenario parts → IsPricedValue parts box weight table value
+        → BoundsPlans parts box weight value }
+    ensures none { (parts : Parts) (box : Box) (number : ℕ) → number < length parts.flights
+        → ((stops : List Stop) → IsTripIn parts box number stops → ⊥) → HasNoPlan parts box }
+{}
