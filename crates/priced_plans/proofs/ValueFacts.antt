@@ -20,7 +20,7 @@ use Rattle.flight_routes.specs.Inside.{IsTripIn}
 use Rattle.flight_routes.specs.Prices.{PriceTable, priced_cost, priced_cost_of}
 use Rattle.time_windows.specs.Boxes.{Box, IsInBox}
 use Rattle.priced_plans.specs.Values.{IsPricedSum, IsPricedValue, plan_price}
-use Rattle.priced_plans.proofs.PayFacts.{feasible-paid}
+use Rattle.priced_plans.proofs.PayFacts.{feasible-pays}
 
 times-plus : (w : ℕ) (a b : ℤ) → pos w *ℤ (a +ℤ b) ≡ pos w *ℤ a +ℤ pos w *ℤ b
 times-plus zero a b = omega (arith, ints, zero-*ℤ (a +ℤ b), zero-*ℤ a, zero-*ℤ b)
@@ -129,7 +129,7 @@ value-below parts box weight table value plan valid is feasible inside =
     (λ k. priced_cost weight table parts k (get_or plan k [])) 0 parts.flights plan
     (AreTrips-length parts.day.periods parts.flights plan feasible.trips)
     (λ k. trade k (0 + k) (front k)) in
-    let pays = feasible-paid parts table plan valid feasible in
+    let pays = feasible-pays parts table plan valid feasible in
     omega (arith, ints, below, same, pays, is.less)
   where
     front : (k : ℕ) → k ≡ 0 + k

@@ -1,6 +1,6 @@
 -- Prices worked out on the day of two flights of which one may leave in a period: where a departure
--- in the first period pays 1, the value is what the best plan costs. At no price it is 0.
-use Rattle.std.proofs.Common.{◌≡◌, ℕ, zero, suc, ◌+◌, ◌*◌, ◌<◌, ◌≤◌, false, List, [], ◌∷◌, replicate, get_or, slice_get, Option, Some, ℤ, pos, ◌+ℤ◌, ◌-ℤ◌, ◌*ℤ◌, ◌≤ℤ◌, refl, sym, ap, subst, arith}
+-- in the first period pays 1, the value is what the best plan costs.
+use Rattle.std.proofs.Common.{◌≡◌, ℕ, zero, suc, ◌+◌, ◌*◌, ◌<◌, ◌≤◌, false, List, [], ◌∷◌, replicate, get_or, slice_get, Option, Some, ℤ, pos, neg_ℤ, ◌+ℤ◌, ◌-ℤ◌, ◌*ℤ◌, ◌≤ℤ◌, refl, sym, ap, subst, arith}
 use Rattle.std.proofs.Math.IntN.{zero-*ℤ}
 use Rattle.std.proofs.lemmas.Bool.{false≢true}
 use Rattle.std.proofs.lemmas.Int.{ints}
@@ -17,8 +17,10 @@ use Rattle.flow_types.specs.Trips.{IsOnward, IsTrip, arrival_from}
 use Rattle.flight_routes.specs.Inside.{IsTripIn}
 use Rattle.flight_routes.specs.Prices.{ArePricesOf, Block, PriceTable, price_in, priced_cost, priced_cost_of, stays_price}
 use Rattle.time_windows.specs.Boxes.{Box, IsInWindow}
-use Rattle.worked_days.specs.Days.{beside, flight_with, legs_with, plan_with, there, trip_at, two_flights}
-use Rattle.priced_plans.specs.Values.{IsPricedValue, limit_price, plan_price}
+use Rattle.worked_days.specs.Days.{beside, flight_with, legs_with, plan_with, there, there_and_back, trip_at, two_flights}
+use Rattle.worked_days.proofs.WorkedDay.{two_flights-valid}
+use Rattle.priced_plans.specs.Values.{BoundsPlans, IsPricedValue, limit_price, loads_price, plan_price, turns_price}
+use Rattle.priced_plans.proofs.ValueFacts.{value-below}
 
 abbrev two : Parts
 two = two_flights 1 9 9
@@ -53,6 +55,13 @@ kept_pays = refl
 
 broken_pays : plan_price table two 0 two.flights (plan_with (trip_at 0 2)) ≡ pos 2
 broken_pays = refl
+
+-- as its departures do
+kept_loads : loads_price table two (plan_with (trip_at 1 3)) ≡ 1
+kept_loads = refl
+
+broken_loads : loads_price table two (plan_with (trip_at 0 2)) ≡ 2
+broken_loads = refl
 
 -- every period is open at every node
 abbrev all_open : Box
@@ -192,5 +201,38 @@ value_is = record {
   less = refl;
 }
 
+-- so no plan that keeps every rule costs less than 1, and one costs that
+bound_is : BoundsPlans two all_open 1 (pos 1)
+bound_is = λ plan feasible inside.
+    value-below two all_open 1 table (pos 1) plan
+    (two_flights-valid 1 9 9 (omega arith) (omega arith) (omega arith)) value_is feasible inside
+
 best_costs : plan_cost two.tables two.flights (plan_with (trip_at 1 3)) ≡ pos 1
 best_costs = refl
+
+-- A flight and its aircraft's flight back: the aircraft arrives in period 2, and is ready in period
+-- 4. A price in period 3 is paid where the second flight departs then, which breaks the turnaround.
+abbrev pair : Parts
+pair = there_and_back 9 2
+
+abbrev turn_table : PriceTable
+turn_table = record {
+  departures = no_prices 3;
+  arrivals = no_prices 3;
+  inside = no_prices 3;
+  turns = record { rows = 1; periods = 8; prices = 0 ∷ 0 ∷ 0 ∷ 1 ∷ replicate 4 0 };
+}
+
+early_pays : plan_price turn_table pair 0 pair.flights (plan_with (trip_at 3 5)) ≡ pos 1
+early_pays = refl
+
+early_turns : turns_price turn_table 8 (plan_with (trip_at 3 5)) 0 pair.connections ≡ pos 1
+early_turns = refl
+
+ready_pays : plan_price turn_table pair 0 pair.flights (plan_with (trip_at 4 6)) ≡ pos 0
+ready_pays = refl
+
+-- it is paid back where the aircraft is ready at once, and the second flight departs later
+soon_is_paid : plan_price turn_table (there_and_back 9 0) 0 pair.flights (plan_with (trip_at 4 6))
+    ≡ neg_ℤ (pos 1)
+soon_is_paid = refl

@@ -1,13 +1,25 @@
 //! What prices tell of all plans.
-ghost use Rattle.std.specs.Prelude.{ℕ, ◌<◌, List, length, ℤ, pos, ◌≤ℤ◌};
-ghost use Rattle.flow_types.specs.Feasible.{IsFeasible};
+ghost use Rattle.std.specs.Prelude.{◌≡◌, ℕ, ◌<◌, List, length, ℤ, pos, ◌+ℤ◌, ◌≤ℤ◌};
+ghost use Rattle.flow_types.specs.Feasible.{AreTrips, IsFeasible};
 ghost use Rattle.flow_types.specs.Valid.{IsScenario};
 ghost use Rattle.flow_types.specs.declared.parts.Parts.{Parts};
 ghost use Rattle.flow_types.specs.declared.plan.Stop.{Stop};
 ghost use Rattle.flight_routes.specs.Inside.{IsTripIn};
 ghost use Rattle.flight_routes.specs.Prices.{PriceTable};
 ghost use Rattle.time_windows.specs.Boxes.{Box};
-ghost use Rattle.priced_plans.specs.Values.{BoundsPlans, HasNoPlan, IsPricedValue, limit_price, plan_price};
+ghost use Rattle.priced_plans.specs.Values.{BoundsPlans, HasNoPlan, IsPricedValue, limit_price, loads_price, plan_price, turns_price};
+
+/// The trips of a plan pay by its counts: for each place and period the price times the number of
+/// flights that depart, arrive or are inside; and for each connection and period the price where
+/// the second flight has departed, less the price where the aircraft is ready, the turnaround after
+/// the first flight's arrival.
+pub fn plans_pay_by_counts()
+    ensures { (parts : Parts) (table : PriceTable) (plan : List (List Stop)) → IsScenario parts
+        → AreTrips parts.day.periods parts.flights plan
+        → plan_price table parts 0 parts.flights plan
+        ≡ pos (loads_price table parts plan)
+        +ℤ turns_price table parts.day.periods plan 0 parts.connections }
+{}
 
 /// The trips of a feasible plan pay together no more than all capacities would.
 pub fn plans_pay_no_more_than_capacities()

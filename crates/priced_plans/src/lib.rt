@@ -23,15 +23,17 @@
 //! minimum spanning trees", 1970; Geoffrion, "Lagrangean relaxation for integer programming",
 //! 1974).
 //!
-//! Proved: the trips of a feasible plan pay no more than all capacities would
-//! (`plans_pay_no_more_than_capacities`); the value of any prices, at any weight and in any box, is
-//! no more than the weight times the cost of each feasible plan in the box, and no such plan is
-//! there where a flight has no trip (`priced_values_are_bounds`). Whatever the prices are, the
-//! value is a bound: nothing is said of how good they are.
+//! Proved: what the trips of a plan pay is exactly price times count, over places and periods, and
+//! over connections and periods the price where the second flight has departed less the price where
+//! the aircraft is ready (`plans_pay_by_counts`). In a feasible plan that is no more than what all
+//! capacities would pay (`plans_pay_no_more_than_capacities`). The value of any prices, at any
+//! weight and in any box, is no more than the weight times the cost of each feasible plan in the
+//! box, and no such plan is there where a flight has no trip (`priced_values_are_bounds`). Whatever
+//! the prices are, the value is a bound: nothing is said of how good they are.
 //!
 //! Memory and time: none, for there is no code here but the laws.
 #![tactic(auto)]
 
 mod laws;
 
-pub use laws::{plans_pay_no_more_than_capacities, priced_values_are_bounds};
+pub use laws::{plans_pay_by_counts, plans_pay_no_more_than_capacities, priced_values_are_bounds};
