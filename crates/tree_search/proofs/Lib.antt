@@ -16,4 +16,5 @@ pub mod SoundFacts
 pub mod SplitFacts
 pub mod VisitFacts
 pub mod WayFacts
+pub mod WorkedRecord
 pub mod WorkedRecords

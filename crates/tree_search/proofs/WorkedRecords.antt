@@ -8,7 +8,6 @@ use Rattle.flow_types.specs.declared.bound.Bound.TheVariants.{AtLeast, NoPlan}
 use Rattle.flow_types.specs.declared.parts.Parts.{Parts}
 use Rattle.flow_types.specs.declared.plan.Stop.{Stop}
 use Rattle.time_windows.specs.declared.access.Access.{Access}
-use Rattle.time_windows.specs.declared.access.Window.{Window}
 use Rattle.time_windows.specs.Boxes.{Box, closed}
 use Rattle.worked_days.specs.Days.{plan_with, trip_at, two_flights}
 use Rattle.relaxed_bound.specs.declared.limits.Limits.{Limits}
