@@ -3,4 +3,5 @@ pub mod CellFacts
 pub mod TurnFacts
 pub mod PayFacts
 pub mod ValueFacts
+pub mod NearFacts
 pub mod WorkedPrices

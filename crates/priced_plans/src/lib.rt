@@ -35,5 +35,7 @@
 #![tactic(auto)]
 
 mod laws;
+mod value;
 
 pub use laws::{plans_pay_by_counts, plans_pay_no_more_than_capacities, priced_values_are_bounds};
+pub use value::priced_value;

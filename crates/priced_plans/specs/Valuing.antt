@@ -1,0 +1,43 @@
+-- The value of prices as it is found, step by step.
+use Rattle.std.specs.Prelude.{ℕ, ◌*◌, ◌<◌, ◌^◌, List, length, sum_by, Option, None, Some, ℤ, ◌+ℤ◌}
+use Rattle.std.specs.List.{range_with_len}
+use Rattle.flow_types.specs.declared.bound.PriceKey.{PriceKey}
+use Rattle.flow_types.specs.declared.parts.Parts.{Parts}
+use Rattle.flow_types.specs.declared.place.CapKind.{CapKind}
+use Rattle.flow_types.specs.declared.place.CapKind.TheVariants as kind
+use Rattle.flow_types.specs.declared.plan.Stop.{Stop}
+use Rattle.flow_types.specs.Capacities.{capacity_of}
+use Rattle.flight_routes.specs.Inside.{IsTripIn}
+use Rattle.flight_routes.specs.Prices.{Block, IsKeyOf, PriceTable, price_at, price_in}
+use Rattle.time_windows.specs.Boxes.{Box}
+
+-- every price is one that may be set
+abbrev pub AreSmall : PriceTable → Type 0
+AreSmall table = (key : PriceKey) → IsKeyOf table key → price_at table key < 2 ^ 62
+
+-- some flight has no trip in the box
+pub record LacksTrip (parts : Parts) (box : Box) : Type 0 where
+  pub number : ℕ
+  pub within : number < length parts.flights
+  pub none : (stops : List Stop) → IsTripIn parts box number stops → ⊥
+
+-- the prices on what capacities of this kind are for
+abbrev pub block_of : CapKind → PriceTable → Block
+block_of kind.Dep table = table.departures
+block_of kind.Arr table = table.arrivals
+block_of kind.Sector table = table.inside
+
+-- what the capacity of a place in a period would pay, and those of all periods together
+abbrev pub cell_price : Parts → CapKind → PriceTable → ℕ → ℕ → ℕ
+cell_price parts kind table k t =
+    price_in (block_of kind table) k t * capacity_of parts.places kind k t
+
+abbrev pub row_price : Parts → CapKind → PriceTable → ℕ → ℕ
+row_price parts kind table k =
+    sum_by (cell_price parts kind table k) (range_with_len 0 parts.day.periods)
+
+-- the sum of two numbers, where both are there
+abbrev pub plus : Option ℤ → Option ℤ → Option ℤ
+plus None cost = None
+plus (Some sum) None = None
+plus (Some sum) (Some cost) = Some (sum +ℤ cost)

@@ -1,0 +1,155 @@
+//! The value of prices in a box.
+ghost use Rattle.std.specs.Prelude.{◌≡◌, ◌≤◌, ◌<◌, ◌^◌, IfSome, MatchOption, length};
+ghost use Rattle.flow_types.specs.Scenario.{parts_of};
+ghost use Rattle.flight_routes.specs.Prices.{ArePricesOf, price_in};
+ghost use Rattle.flight_routes.specs.Rates.{IsValueWithin};
+ghost use Rattle.flight_routes.specs.Work.{IsWorkFor};
+ghost use Rattle.time_windows.specs.Held.{IsMadeFor, box_of};
+ghost use Rattle.priced_plans.specs.Values.{IsPricedSum, IsPricedValue, capacity_price, limit_price};
+ghost use Rattle.priced_plans.specs.Valuing.{AreSmall, LacksTrip, block_of, cell_price, plus, row_price};
+
+use flight_routes::{Prices, Work};
+use flow_types::{CapKind, Scenario, capacity_at};
+use time_windows::Boxes;
+
+/// The value of the prices in the box, at this weight of the costs: the least of weight times cost
+/// plus prices over the trips of each flight, added up, less what all capacities would pay. None
+/// where a flight has no trip in the box.
+///
+/// The work, the box and the prices are of the scenario, and the weight and every price are below
+/// 2^62. It takes no memory, and time as a least trip for each flight, and for each place and
+/// period.
+pub fn priced_value(
+    work: &mut Work,
+    s: &Scenario,
+    boxes: &Boxes,
+    weight: u64,
+    prices: &Prices,
+) -> Option<i128>
+    requires work { IsWorkFor (parts_of s.now) work.old }
+    requires boxes { IsMadeFor (parts_of s.now) boxes.now }
+    requires weight { weight < 2 ^ 62 }
+    requires prices { ArePricesOf (parts_of s.now) prices.now }
+    requires small { AreSmall prices.now }
+    ensures value { MatchOption result (LacksTrip (parts_of s.now) (box_of boxes.now))
+        (IsPricedValue (parts_of s.now) (box_of boxes.now) weight prices.now) }
+    ensures work { IsWorkFor (parts_of s.now) work.new }
+{
+    let limit = limit_price(s, prices);
+    match least_sum(work, s, boxes, weight, prices) {
+        None => None,
+        Some(sum) => Some(sum - limit as i128),
+    }
+}
+
+// The least of the trips of each flight, added up.
+fn least_sum(
+    work: &mut Work,
+    s: &Scenario,
+    boxes: &Boxes,
+    weight: u64,
+    prices: &Prices,
+) -> Option<i128>
+    requires work { IsWorkFor (parts_of s.now) work.old }
+    requires boxes { IsMadeFor (parts_of s.now) boxes.now }
+    requires weight { weight < 2 ^ 62 }
+    requires prices { ArePricesOf (parts_of s.now) prices.now }
+    requires small { AreSmall prices.now }
+    ensures sum { MatchOption result (LacksTrip (parts_of s.now) (box_of boxes.now))
+        (IsPricedSum (parts_of s.now) (box_of boxes.now) weight prices.now
+        (length (parts_of s.now).flights)) }
+    ensures within { IfSome result (IsValueWithin (2 ^ 120)) }
+    ensures work { IsWorkFor (parts_of s.now) work.new }
+{
+    let mut sum = Some(0);
+    for number in 0..s.flights().len() {
+        sum = plus(
+            sum,
+            work.least_trip(s, boxes, number as u32, weight, prices),
+        );
+    }
+    sum
+}
+
+// The sum of both, where both are there.
+fn plus(sum: Option<i128>, cost: Option<i128>) -> Option<i128>
+    requires sum { IfSome sum (IsValueWithin (2 ^ 120)) }
+    requires cost { IfSome cost (IsValueWithin (2 ^ 120)) }
+    ensures { result ≡ plus sum cost }
+{
+    match sum {
+        None => None,
+        Some(sum) => match cost {
+            None => None,
+            Some(cost) => Some(sum + cost),
+        },
+    }
+}
+
+// What all departures, arrivals and flights inside sectors that there is room for would pay.
+fn limit_price(s: &Scenario, prices: &Prices) -> u128
+    requires { ArePricesOf (parts_of s.now) prices.now }
+    ensures value { result ≡ limit_price (parts_of s.now) prices.now }
+    ensures small { result ≤ 2 ^ 122 }
+{
+    capacity_price(CapKind::Dep, s, prices)
+        + capacity_price(CapKind::Arr, s, prices)
+        + capacity_price(CapKind::Sector, s, prices)
+}
+
+// What the capacities of this kind would pay.
+#[tactic(auto, using(crate::proofs::RangeFacts::range_more))]
+fn capacity_price(kind: CapKind, s: &Scenario, prices: &Prices) -> u128
+    requires { ArePricesOf (parts_of s.now) prices.now }
+    ensures value { result
+        ≡ capacity_price (parts_of s.now) kind (block_of kind prices.now) }
+    ensures small { result ≤ 2 ^ 120 }
+{
+    let mut sum = 0u128;
+    for place in 0..s.places().len() {
+        sum += row_price(kind, s, prices, place as u32);
+    }
+    sum
+}
+
+// What the place's capacities of this kind would pay in all periods.
+#[tactic(auto, using(crate::proofs::RangeFacts::range_more))]
+fn row_price(kind: CapKind, s: &Scenario, prices: &Prices, place: u32) -> u128
+    requires prices { ArePricesOf (parts_of s.now) prices.now }
+    requires place { place < length (parts_of s.now).places }
+    ensures value { result ≡ row_price (parts_of s.now) kind prices.now place }
+    ensures small { result ≤ 2 ^ 110 }
+{
+    let mut sum = 0u128;
+    for period in 0..s.day().periods {
+        sum += cell_price(kind, s, prices, place, period);
+    }
+    sum
+}
+
+// What the place's capacity of this kind in a period would pay.
+fn cell_price(kind: CapKind, s: &Scenario, prices: &Prices, place: u32, period: u16) -> u128
+    requires prices { ArePricesOf (parts_of s.now) prices.now }
+    requires place { place < length (parts_of s.now).places }
+    requires period { period < (parts_of s.now).day.periods }
+    ensures value { result ≡ cell_price (parts_of s.now) kind prices.now place period }
+    ensures small { result ≤ 2 ^ 94 }
+{
+    let price = price_in(kind, s, prices, place, period);
+    u128::from(price) * u128::from(capacity_at(s.places(), kind, place, period))
+}
+
+// The price of what capacities of this kind are for.
+fn price_in(kind: CapKind, s: &Scenario, prices: &Prices, place: u32, period: u16) -> u64
+    requires prices { ArePricesOf (parts_of s.now) prices.now }
+    requires place { place < length (parts_of s.now).places }
+    requires period { period < (parts_of s.now).day.periods }
+    ensures price { result ≡ price_in (block_of kind prices.now) place period }
+    ensures small { result < 2 ^ 62 }
+{
+    match kind {
+        CapKind::Dep => prices.departure(place, period),
+        CapKind::Arr => prices.arrival(place, period),
+        CapKind::Sector => prices.stay(place, period),
+    }
+}
