@@ -4,4 +4,5 @@ pub mod TurnFacts
 pub mod PayFacts
 pub mod ValueFacts
 pub mod NearFacts
+pub mod SmallFacts
 pub mod WorkedPrices

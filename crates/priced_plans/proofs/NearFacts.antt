@@ -1,5 +1,5 @@
 -- How far from zero a trip costs with its prices, and the least of each flight added up.
-use Rattle.std.proofs.Common.{◌≡◌, ◌^◌, IfSome, MatchOption, ℕ, zero, suc, ◌+◌, ◌-◌, ◌*◌, ◌<◌, ◌≤◌, ◌==◌, Bool, true, false, if◌then◌else◌, List, [], ◌∷◌, length, slice_get, Option, None, Some, sum_by, ℤ, pos, ◌+ℤ◌, refl, sym, subst, arith}
+use Rattle.std.proofs.Common.{◌≡◌, ◌^◌, IfSome, ℕ, zero, suc, ◌+◌, ◌-◌, ◌*◌, ◌<◌, ◌≤◌, ◌==◌, Bool, true, false, if◌then◌else◌, List, [], ◌∷◌, length, slice_get, Option, None, Some, sum_by, ℤ, ◌+ℤ◌, refl, sym, subst, arith}
 use Rattle.std.specs.List.{range_with_len}
 use Rattle.std.proofs.lemmas.Bool.Decides.{nat_tests}
 use Rattle.std.proofs.lemmas.Int.{ints}
@@ -207,11 +207,11 @@ module _ (parts : Parts) (table : PriceTable) (valid : IsScenario parts)
         subst (IsValueWithin (2 ^ 101)) at.reached.2
         (trip-near number at.reached.0 at.reached.1)
 
-    pub least-small : (number : ℕ) (least : Option ℤ)
+    pub least_small : (number : ℕ) (least : Option ℤ)
         → IsLeast (IsTripIn parts box number) (priced_cost weight table parts number) least
         → IfSome least (IsValueWithin (2 ^ 120))
-    least-small number None is = tt
-    least-small number (Some least) is =
+    least_small number None is = tt
+    least_small number (Some least) is =
         let near = least-near number least is in
         record { low = omega (arith, ints, near.low); high = omega (arith, ints, near.high) }
 
@@ -226,49 +226,30 @@ abbrev pub IsPartSum : Parts → Box → ℕ → PriceTable → ℕ → Option �
 IsPartSum parts box weight table count None = LacksTrip parts box
 IsPartSum parts box weight table count (Some sum) = IsSumTo parts box weight table count sum
 
-pub sum-none : (parts : Parts) (box : Box) (weight : ℕ) (table : PriceTable)
-    → IsSumTo parts box weight table 0 (pos 0)
-sum-none parts box weight table =
-    record { is = refl; near = record { low = omega (arith, ints); high = omega (arith, ints) } }
-
-pub part-more : (parts : Parts) (box : Box) (weight count : ℕ) (table : PriceTable)
-    (sum cost : Option ℤ) → IsScenario parts → ArePricesOf parts table → AreSmall table
-    → weight < 2 ^ 62 → count < length parts.flights
+pub part_more : (parts : Parts) (box : Box) (weight count : ℕ) (table : PriceTable)
+    (sum cost both : Option ℤ) → both ≡ plus sum cost → IsScenario parts
+    → ArePricesOf parts table → AreSmall table → weight < 2 ^ 62 → count < length parts.flights
     → IsPartSum parts box weight table count sum
     → IsLeast (IsTripIn parts box count) (priced_cost weight table parts count) cost
-    → IsPartSum parts box weight table (count + 1) (plus sum cost)
-part-more parts box weight count table None cost valid sized small light within before is = before
-part-more parts box weight count table (Some sum) None valid sized small light within before is =
-    record { number = count; within = within; none = is }
-part-more parts box weight count table (Some sum) (Some cost) valid sized small light within before
-    is =
-        let near = least-near parts table valid sized small weight light box count cost is in
-        subst (λ n. IsSumTo parts box weight table n (sum +ℤ cost)) (one_more count)
-        (record {
-          is = (sum, cost, before.is, is, refl);
-          near = record {
-            low = omega (arith, ints, near.low, before.near.low);
-            high = omega (arith, ints, near.high, before.near.high);
-          };
-        })
+    → IsPartSum parts box weight table (count + 1) both
+part_more parts box weight count table None cost both same valid sized small light within before
+    is = subst (IsPartSum parts box weight table (count + 1)) (sym same) before
+part_more parts box weight count table (Some sum) None both same valid sized small light within
+    before is =
+    subst (IsPartSum parts box weight table (count + 1)) (sym same)
+    (record { number = count; within = within; none = is })
+part_more parts box weight count table (Some sum) (Some cost) both same valid sized small light
+    within before is =
+    let near = least-near parts table valid sized small weight light box count cost is in
+    subst (IsPartSum parts box weight table (count + 1)) (sym same)
+    (subst (λ n. IsSumTo parts box weight table n (sum +ℤ cost)) (one_more count)
+    (record {
+      is = (sum, cost, before.is, is, refl);
+      near = record {
+        low = omega (arith, ints, near.low, before.near.low);
+        high = omega (arith, ints, near.high, before.near.high);
+      };
+    }))
   where
     one_more : (n : ℕ) → suc n ≡ n + 1
     one_more n = omega arith
-
-pub part-small : (parts : Parts) (box : Box) (weight count : ℕ) (table : PriceTable)
-    (sum : Option ℤ) → count ≤ 2000 → IsPartSum parts box weight table count sum
-    → IfSome sum (IsValueWithin (2 ^ 120))
-part-small parts box weight count table None few is = tt
-part-small parts box weight count table (Some sum) few is = record {
-  low = omega (arith, ints, is.near.low, few);
-  high = omega (arith, ints, is.near.high, few);
-}
-
-pub part-whole : (parts : Parts) (box : Box) (weight count : ℕ) (table : PriceTable)
-    (sum : Option ℤ) → count ≡ length parts.flights
-    → IsPartSum parts box weight table count sum
-    → MatchOption sum (LacksTrip parts box)
-    (IsPricedSum parts box weight table (length parts.flights))
-part-whole parts box weight count table None all is = is
-part-whole parts box weight count table (Some sum) all is =
-    subst (λ n. IsPricedSum parts box weight table n sum) all is.is

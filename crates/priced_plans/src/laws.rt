@@ -1,13 +1,15 @@
 //! What prices tell of all plans.
-ghost use Rattle.std.specs.Prelude.{◌≡◌, ℕ, ◌<◌, List, length, ℤ, pos, ◌+ℤ◌, ◌≤ℤ◌};
+ghost use Rattle.std.specs.Prelude.{◌≡◌, ◌≢◌, ℕ, ◌<◌, ◌^◌, List, length, ℤ, pos, ◌+ℤ◌, ◌≤ℤ◌};
 ghost use Rattle.flow_types.specs.Feasible.{AreTrips, IsFeasible};
 ghost use Rattle.flow_types.specs.Valid.{IsScenario};
+ghost use Rattle.flow_types.specs.declared.bound.PriceKey.{PriceKey};
 ghost use Rattle.flow_types.specs.declared.parts.Parts.{Parts};
 ghost use Rattle.flow_types.specs.declared.plan.Stop.{Stop};
 ghost use Rattle.flight_routes.specs.Inside.{IsTripIn};
-ghost use Rattle.flight_routes.specs.Prices.{PriceTable};
+ghost use Rattle.flight_routes.specs.Prices.{AreFree, ArePricesOf, IsKeyOf, PriceTable, price_at};
 ghost use Rattle.time_windows.specs.Boxes.{Box};
 ghost use Rattle.priced_plans.specs.Values.{BoundsPlans, HasNoPlan, IsPricedValue, limit_price, loads_price, plan_price, turns_price};
+ghost use Rattle.priced_plans.specs.Valuing.{AreSmall};
 
 /// The trips of a plan pay by its counts: for each place and period the price times the number of
 /// flights that depart, arrive or are inside; and for each connection and period the price where
@@ -36,4 +38,16 @@ pub fn priced_values_are_bounds()
         → BoundsPlans parts box weight value }
     ensures none { (parts : Parts) (box : Box) (number : ℕ) → number < length parts.flights
         → ((stops : List Stop) → IsTripIn parts box number stops → ⊥) → HasNoPlan parts box }
+{}
+
+/// Every price is below 2^62 where all are 0 (`free`), and still is where such a price was set
+/// (`set`).
+pub fn prices_are_small()
+    ensures free { (table : PriceTable) → AreFree table → AreSmall table }
+    ensures set { (parts : Parts) (old new : PriceTable) (chosen : PriceKey) (value : ℕ)
+        → ArePricesOf parts old → ArePricesOf parts new → AreSmall old → value < 2 ^ 62
+        → price_at new chosen ≡ value
+        → ((other : PriceKey) → IsKeyOf old other → other ≢ chosen
+        → price_at new other ≡ price_at old other)
+        → AreSmall new }
 {}

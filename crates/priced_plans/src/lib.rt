@@ -4,18 +4,12 @@
 //! A price stands on the departures from a place in a period, on the arrivals at one, on the
 //! flights inside a sector, and on a connection from a period on (`flight_routes`). A plan that
 //! keeps every rule fills no place above its capacity, and no aircraft departs in it before its
-//! turnaround: so its trips pay together no more than all capacities would. A caller that has the
-//! value of some prices, from the least trip of each flight in a box, has a bound on its plans:
+//! turnaround: so its trips pay together no more than all capacities would. A caller that has set
+//! some prices asks for their value in a box, which is a bound on the plans in it:
 //!
-//!     pub fn bound_of(s: &Scenario, boxes: &Boxes, weight: u32, prices: &Prices,
-//!             value: Option<i128>) -> Option<i128>
-//!         requires {
-//!             IfSome value (IsPricedValue (parts_of s.now) (box_of boxes.now) weight prices.now)
-//!         }
-//!         ensures { IfSome result (BoundsPlans (parts_of s.now) (box_of boxes.now) weight) }
-//!     {
-//!         priced_values_are_bounds();
-//!         value
+//!     match priced_value(&mut work, &s, &boxes, weight, &prices) {
+//!         None => println!("no plan is in the box"),
+//!         Some(value) => println!("{weight} times the cost of a plan is no less than {value}"),
 //!     }
 //!
 //! `specs/Values.antt` says what the value is. It is that of Lagrangian relaxation, with the
@@ -29,13 +23,19 @@
 //! capacities would pay (`plans_pay_no_more_than_capacities`). The value of any prices, at any
 //! weight and in any box, is no more than the weight times the cost of each feasible plan in the
 //! box, and no such plan is there where a flight has no trip (`priced_values_are_bounds`). Whatever
-//! the prices are, the value is a bound: nothing is said of how good they are.
+//! the prices are, the value is a bound: nothing is said of how good they are. `priced_value` gives
+//! exactly that value, or None, and then some flight has no trip in the box (`value`); the value is
+//! no further from 0 than 2^123 (`within`). It asks that every price is below 2^62: prices of 0
+//! are, and stay so where such a price is set (`prices_are_small`).
 //!
-//! Memory and time: none, for there is no code here but the laws.
+//! Memory: none. Time: a least trip for each flight, and a product for each place and period.
 #![tactic(auto)]
 
 mod laws;
 mod value;
 
-pub use laws::{plans_pay_by_counts, plans_pay_no_more_than_capacities, priced_values_are_bounds};
+pub use laws::{
+    plans_pay_by_counts, plans_pay_no_more_than_capacities, priced_values_are_bounds,
+    prices_are_small,
+};
 pub use value::priced_value;

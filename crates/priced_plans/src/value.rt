@@ -33,6 +33,7 @@ pub fn priced_value(
     requires small { AreSmall prices.now }
     ensures value { MatchOption result (LacksTrip (parts_of s.now) (box_of boxes.now))
         (IsPricedValue (parts_of s.now) (box_of boxes.now) weight prices.now) }
+    ensures within { IfSome result (IsValueWithin (2 ^ 123)) }
     ensures work { IsWorkFor (parts_of s.now) work.new }
 {
     let limit = limit_price(s, prices);
@@ -43,6 +44,7 @@ pub fn priced_value(
 }
 
 // The least of the trips of each flight, added up.
+#[tactic(auto, using(crate::proofs::NearFacts::least_small, crate::proofs::NearFacts::part_more))]
 fn least_sum(
     work: &mut Work,
     s: &Scenario,
