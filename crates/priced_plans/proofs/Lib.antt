@@ -5,4 +5,5 @@ pub mod PayFacts
 pub mod ValueFacts
 pub mod NearFacts
 pub mod SmallFacts
+pub mod RoundFacts
 pub mod WorkedPrices

@@ -2,12 +2,14 @@
 ghost use Rattle.std.specs.Prelude.{◌≡◌, ◌≢◌, ℕ, ◌<◌, ◌^◌, List, length, ℤ, pos, ◌+ℤ◌, ◌≤ℤ◌};
 ghost use Rattle.flow_types.specs.Feasible.{AreTrips, IsFeasible};
 ghost use Rattle.flow_types.specs.Valid.{IsScenario};
+ghost use Rattle.flow_types.specs.declared.bound.Bound.{Bound};
 ghost use Rattle.flow_types.specs.declared.bound.PriceKey.{PriceKey};
 ghost use Rattle.flow_types.specs.declared.parts.Parts.{Parts};
 ghost use Rattle.flow_types.specs.declared.plan.Stop.{Stop};
 ghost use Rattle.flight_routes.specs.Inside.{IsTripIn};
 ghost use Rattle.flight_routes.specs.Prices.{AreFree, ArePricesOf, IsKeyOf, PriceTable, price_at};
 ghost use Rattle.time_windows.specs.Boxes.{Box};
+ghost use Rattle.priced_plans.specs.PricedBound.{BoundsFeasible, IsPricedBound};
 ghost use Rattle.priced_plans.specs.Values.{BoundsPlans, HasNoPlan, IsPricedValue, limit_price, loads_price, plan_price, turns_price};
 ghost use Rattle.priced_plans.specs.Valuing.{AreSmall};
 
@@ -50,4 +52,11 @@ pub fn prices_are_small()
         → ((other : PriceKey) → IsKeyOf old other → other ≢ chosen
         → price_at new other ≡ price_at old other)
         → AreSmall new }
+{}
+
+/// The bound that prices tell bounds the feasible plans in a box.
+pub fn priced_bounds_are_bounds()
+    ensures { (parts : Parts) (box : Box) (weight : ℕ) (table : PriceTable) (bound : Bound)
+        → IsScenario parts → IsPricedBound parts box weight table bound
+        → BoundsFeasible parts box bound }
 {}

@@ -5,11 +5,15 @@
 //! flights inside a sector, and on a connection from a period on (`flight_routes`). A plan that
 //! keeps every rule fills no place above its capacity, and no aircraft departs in it before its
 //! turnaround: so its trips pay together no more than all capacities would. A caller that has set
-//! some prices asks for their value in a box, which is a bound on the plans in it:
+//! some prices asks for the bound that they tell on the plans in a box:
 //!
-//!     match priced_value(&mut work, &s, &boxes, weight, &prices) {
-//!         None => println!("no plan is in the box"),
-//!         Some(value) => println!("{weight} times the cost of a plan is no less than {value}"),
+//!     let mut prices = Prices::new(alloc, &s)?;
+//!     let mut work = Work::new(alloc, &s)?;
+//!     prices.set(PriceKey::Dep { place, period }, 1000);
+//!     prices_are_small();
+//!     match priced_bound(&mut work, &s, &boxes, 64, &prices) {
+//!         Bound::NoPlan => println!("no plan is in the box"),
+//!         Bound::AtLeast(least) => println!("no plan in the box costs less than {least}"),
 //!     }
 //!
 //! `specs/Values.antt` says what the value is. It is that of Lagrangian relaxation, with the
@@ -25,17 +29,21 @@
 //! box, and no such plan is there where a flight has no trip (`priced_values_are_bounds`). Whatever
 //! the prices are, the value is a bound: nothing is said of how good they are. `priced_value` gives
 //! exactly that value, or None, and then some flight has no trip in the box (`value`); the value is
-//! no further from 0 than 2^123 (`within`). It asks that every price is below 2^62: prices of 0
-//! are, and stay so where such a price is set (`prices_are_small`).
+//! no further from 0 than 2^123 (`within`). `priced_bound` gives that value divided by the weight
+//! and rounded up, and then no feasible plan in the box costs less (`priced_bounds_are_bounds`).
+//! Both ask that every price is below 2^62: prices of 0 are, and stay so where such a price is set
+//! (`prices_are_small`).
 //!
 //! Memory: none. Time: a least trip for each flight, and a product for each place and period.
 #![tactic(auto)]
 
+mod bound;
 mod laws;
 mod value;
 
+pub use bound::priced_bound;
 pub use laws::{
-    plans_pay_by_counts, plans_pay_no_more_than_capacities, priced_values_are_bounds,
-    prices_are_small,
+    plans_pay_by_counts, plans_pay_no_more_than_capacities, priced_bounds_are_bounds,
+    priced_values_are_bounds, prices_are_small,
 };
 pub use value::priced_value;

@@ -1,0 +1,116 @@
+-- Dividing and rounding up.
+use Rattle.std.proofs.Common.{◌≡◌, ◌⊎◌, ℕ, zero, suc, ◌+◌, ◌-◌, ◌*◌, ◌/◌, ◌<◌, ◌≤◌, ◌^◌, true, ℤ, pos, negsuc, neg_ℤ, ◌+ℤ◌, ◌*ℤ◌, ◌≤ℤ◌, unsigned_abs, inl, inr, sym, ap, ◌∙◌, subst, SFits, of_z, to_z, arith}
+use mir.Syntax.{w128}
+use Rattle.std.specs.Prelude.{int_lt}
+use Rattle.std.proofs.lemmas.Bool.{cases_lt}
+use Rattle.std.proofs.lemmas.Int.{fits_signed_from_abs, ints, to_z-of_z}
+use Rattle.std.proofs.lemmas.Nat.{le-div}
+use Rattle.std.proofs.Math.Nat.{div-le_self, div-mul-le_self, lt-div-mul-add, mul-le-mul_right, suc-mul}
+use Rattle.std.proofs.Math.IntN.{*ℤ-zero, *ℤ_comm}
+use Rattle.exact_sums.proofs.ProductFacts.{times-more}
+use Rattle.flow_types.specs.declared.bound.Bound.{Bound}
+use Rattle.flow_types.specs.declared.bound.Bound.TheVariants.{AtLeast, NoPlan}
+use Rattle.flow_types.specs.declared.parts.Parts.{Parts}
+use Rattle.flow_types.specs.Costs.{plan_cost}
+use Rattle.flow_types.specs.Valid.{IsScenario}
+use Rattle.flight_routes.specs.Prices.{PriceTable}
+use Rattle.flight_routes.specs.Rates.{IsValueWithin}
+use Rattle.time_windows.specs.Boxes.{Box}
+use Rattle.priced_plans.specs.PricedBound.{BoundsFeasible, IsPricedBound, IsRoundedUp}
+use Rattle.priced_plans.proofs.ValueFacts.{none-inside, value-below}
+
+-- what the code takes a number for
+pub whole : (z : ℤ) → SFits w128 z → to_z w128 (of_z w128 z) ≡ z
+whole z fits = to_z-of_z w128 z fits
+
+pub whole_wide : (z : ℤ) → unsigned_abs z < 2 ^ 127 → to_z w128 (of_z w128 z) ≡ z
+whole_wide z small = whole z (fits_signed_from_abs w128 z (omega (arith, small)))
+
+-- so many times a number below 0
+neg-times : (n w : ℕ) → neg_ℤ (pos n) *ℤ pos w ≡ neg_ℤ (pos (n * w))
+neg-times n zero = omega (arith, ints, *ℤ-zero (neg_ℤ (pos n)))
+neg-times n (suc w) =
+    let more = *ℤ_comm (neg_ℤ (pos n)) (pos (suc w)) ∙ times-more w (neg_ℤ (pos n))
+    ∙ ap (λ b. b +ℤ neg_ℤ (pos n)) (*ℤ_comm (pos w) (neg_ℤ (pos n))) in
+    let grown : n * suc w ≡ n * w + n = omega arith in
+    omega (arith, ints, more, neg-times n w, grown)
+
+minus-times : (n w : ℕ) → negsuc n *ℤ pos w ≡ neg_ℤ (pos (suc n * w))
+minus-times n w = neg-times (suc n) w
+
+-- no greater, once it is divided
+under : (a b w : ℕ) → a * w ≤ b * w + (w - 1) → 0 < w → a ≤ b
+under a b w le some = by (cases_lt b a)
+  where
+    by : (b < a) ⊎ (a ≤ b) → a ≤ b
+    by (inr fine) = fine
+    by (inl more) =
+        let far : suc b * w ≤ a * w = mul-le-mul_right w more in
+        let grown : suc b * w ≡ b * w + w = suc-mul b w in
+        absurd (omega (arith, far, grown, le, some))
+
+pub rounded_above : (size w : ℕ) → 0 < size → 0 < w
+    → IsRoundedUp (pos size) w (pos ((size + (w - 1)) / w))
+rounded_above size w some weight = record {
+  reached = let lt : size + (w - 1) < (size + (w - 1)) / w * w + w = lt-div-mul-add weight in
+      omega (arith, ints, lt, weight);
+  below = λ c. by c;
+}
+  where
+    up : ℕ
+    up = (size + (w - 1)) / w
+
+    by : (c : ℤ) → pos size ≤ℤ (c *ℤ pos w) → pos ((size + (w - 1)) / w) ≤ℤ c
+    by (pos n) le =
+        let no_more = div-mul-le_self (size + (w - 1)) w in
+        let fits : size ≤ n * w = omega (arith, ints, le) in
+        let least = under up n w (omega (arith, no_more, fits)) weight in
+        omega (arith, ints, least)
+    by (negsuc n) le =
+        let down = minus-times n w in
+        absurd (omega (arith, ints, le, down, some))
+
+pub rounded_below : (size w : ℕ) → 0 < w
+    → IsRoundedUp (neg_ℤ (pos size)) w (neg_ℤ (pos (size / w)))
+rounded_below size w weight = record {
+  reached =
+      let no_more = div-mul-le_self size w in
+      let turned = neg-times (size / w) w in
+      omega (arith, ints, no_more, turned);
+  below = λ c. by c;
+}
+  where
+    by : (c : ℤ) → neg_ℤ (pos size) ≤ℤ (c *ℤ pos w) → neg_ℤ (pos (size / w)) ≤ℤ c
+    by (pos n) le = omega (arith, ints)
+    by (negsuc n) le =
+        let down = minus-times n w in
+        let fits : suc n * w ≤ size = omega (arith, ints, le, down) in
+        let most = le-div (suc n) size w weight fits in
+        omega (arith, ints, most)
+
+pub rounded_positive : (value up : ℤ) (w : ℕ) → int_lt (pos 0) value ≡ true → 0 < w
+    → up ≡ pos ((unsigned_abs value + (w - 1)) / w) → IsRoundedUp value w up
+rounded_positive (pos n) up w some weight is =
+    subst (IsRoundedUp (pos n) w) (sym is) (rounded_above n w (omega (arith, ints, some)) weight)
+rounded_positive (negsuc n) up w some weight is = absurd (omega (arith, ints, some))
+
+pub above_small : (size w : ℕ) → size < 2 ^ 126 → w < 2 ^ 64
+    → unsigned_abs (pos ((size + (w - 1)) / w)) < 2 ^ 127
+above_small size w small weight =
+    let le = div-le_self (size + (w - 1)) w in omega (arith, le, small, weight)
+
+-- the size of a number that is near
+pub size_small : (value : ℤ) → IsValueWithin (2 ^ 123) value → unsigned_abs value < 2 ^ 126
+size_small (pos n) near = omega (arith, ints, near.high)
+size_small (negsuc n) near = omega (arith, ints, near.low)
+
+-- a bound that prices tell is one of the feasible plans
+pub bound-below : (parts : Parts) (box : Box) (weight : ℕ) (table : PriceTable) (bound : Bound)
+    → IsScenario parts → IsPricedBound parts box weight table bound
+    → BoundsFeasible parts box bound
+bound-below parts box weight table NoPlan valid is = λ plan feasible inside.
+    none-inside parts box is.number plan is.within is.none feasible inside
+bound-below parts box weight table (AtLeast least) valid is = λ plan feasible inside.
+    let below = value-below parts box weight table is.0 plan valid is.1 feasible inside in
+    let cost = plan_cost parts.tables parts.flights plan in
+    is.2.below cost (subst (λ z. is.0 ≤ℤ z) (*ℤ_comm (pos weight) cost) below)

@@ -1,0 +1,20 @@
+use Rattle.std.proofs.Common.{◌≡◌, ◌∙◌, ◌+◌, ◌-◌, ◌/◌, ◌<◌, ◌^◌, true, ap, arith, pos, subst, sym, unsigned_abs}
+use Rattle.std.specs.Prelude.{int_lt}
+use Rattle.priced_plans.specs.PricedBound.{IsRoundedUp}
+use Rattle.priced_plans.proofs.RoundFacts.{above_small, rounded_positive, size_small, whole, whole_wide}
+use Rattle.priced_plans.proofs.bound.rounded_up.Goals as goal
+
+pub returns-then-value-gt0 : goal.returns-then-value-gt0
+returns-then-value-gt0 c =
+    let same = whole c.args.value c.ranges.value in
+    let size = c.unsigned_abs.ensures.value ∙ ap unsigned_abs same in
+    let near = size_small c.args.value c.requires.near in
+    let small = above_small c.unsigned_abs.result c.args.weight (omega (arith, size, near))
+    c.ranges.weight.fits in
+    let result = whole_wide c.above.result
+    (subst (λ z. unsigned_abs z < 2 ^ 127) (sym c.above.ensures) small) in
+    subst (IsRoundedUp c.args.value c.args.weight) (sym result)
+    (rounded_positive c.args.value c.above.result c.args.weight
+    (subst (λ z. int_lt (pos 0) z ≡ true) same c.if-value-gt0.true) c.requires.weight
+    (c.above.ensures
+    ∙ ap (λ n. pos ((n + (c.args.weight - 1)) / c.args.weight)) size))

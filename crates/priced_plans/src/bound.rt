@@ -1,0 +1,72 @@
+//! The bound that prices tell.
+ghost use Rattle.std.specs.Prelude.{◌≡◌, ◌<◌, ◌+◌, ◌-◌, ◌/◌, ◌^◌, unsigned_abs, pos, neg_ℤ};
+ghost use Rattle.flow_types.specs.Scenario.{parts_of};
+ghost use Rattle.flight_routes.specs.Prices.{ArePricesOf};
+ghost use Rattle.flight_routes.specs.Rates.{IsValueWithin};
+ghost use Rattle.flight_routes.specs.Work.{IsWorkFor};
+ghost use Rattle.time_windows.specs.Held.{IsMadeFor, box_of};
+ghost use Rattle.priced_plans.specs.Valuing.{AreSmall};
+ghost use Rattle.priced_plans.specs.PricedBound.{IsPricedBound, IsRoundedUp};
+
+use crate::value::priced_value;
+use flight_routes::{Prices, Work};
+use flow_types::{Bound, Scenario};
+use time_windows::Boxes;
+
+/// The bound that the prices tell of the plans in the box: their value divided by the weight and
+/// rounded up; that no plan exists, where a flight has no trip in the box.
+///
+/// As for `priced_value`, with a weight above 0.
+pub fn priced_bound(
+    work: &mut Work,
+    s: &Scenario,
+    boxes: &Boxes,
+    weight: u64,
+    prices: &Prices,
+) -> Bound
+    requires work { IsWorkFor (parts_of s.now) work.old }
+    requires boxes { IsMadeFor (parts_of s.now) boxes.now }
+    requires some { 0 < weight }
+    requires weight { weight < 2 ^ 62 }
+    requires prices { ArePricesOf (parts_of s.now) prices.now }
+    requires small { AreSmall prices.now }
+    ensures bound { IsPricedBound (parts_of s.now) (box_of boxes.now) weight prices.now result }
+    ensures work { IsWorkFor (parts_of s.now) work.new }
+{
+    match priced_value(work, s, boxes, weight, prices) {
+        None => Bound::NoPlan,
+        Some(value) => Bound::AtLeast(rounded_up(value, weight)),
+    }
+}
+
+// The least number that is no less than the value divided by the weight.
+#[tactic(auto, using(crate::proofs::RoundFacts::rounded_above, crate::proofs::RoundFacts::rounded_below))]
+fn rounded_up(value: i128, weight: u64) -> i128
+    requires near { IsValueWithin (2 ^ 123) value }
+    requires weight { 0 < weight }
+    ensures { IsRoundedUp value weight result }
+{
+    if value > 0 {
+        above(value.unsigned_abs(), weight)
+    } else {
+        below(value.unsigned_abs(), weight)
+    }
+}
+
+// Of a value above 0.
+fn above(size: u128, weight: u64) -> i128
+    requires size { size < 2 ^ 126 }
+    requires weight { 0 < weight }
+    ensures { result ≡ pos ((size + (weight - 1)) / weight) }
+{
+    ((size + (u128::from(weight) - 1)) / u128::from(weight)) as i128
+}
+
+// Of one that isn't.
+fn below(size: u128, weight: u64) -> i128
+    requires size { size < 2 ^ 126 }
+    requires weight { 0 < weight }
+    ensures { result ≡ neg_ℤ (pos (size / weight)) }
+{
+    -((size / u128::from(weight)) as i128)
+}
