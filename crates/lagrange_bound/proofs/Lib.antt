@@ -1,2 +1,3 @@
 pub mod BoundFacts
+pub mod MoveFacts
 pub mod WorkedRounds

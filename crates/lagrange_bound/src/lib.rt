@@ -20,5 +20,6 @@
 #![tactic(auto)]
 
 mod laws;
+mod moves;
 
 pub use laws::round_bounds_are_bounds;

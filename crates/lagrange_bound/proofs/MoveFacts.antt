@@ -1,0 +1,362 @@
+-- Prices that are moved one after another.
+use Rattle.std.proofs.Common.{◌≡◌, ◌≢◌, ◌⊎◌, inl, inr, ℕ, zero, suc, ◌+◌, ◌<◌, ◌≤◌, ◌^◌, Bool, true, false, ◌&&◌, ◌||◌, nat_eq, nat_lt, length, if◌then◌else◌, refl, sym, ap, ap₂, subst, ◌∙◌, arith}
+use Rattle.std.proofs.lemmas.Bool.{and_parts, cases_eq}
+use Rattle.std.proofs.lemmas.Bool.Decides.{nat_tests}
+use Rattle.flow_types.specs.declared.bound.PriceKey.{PriceKey}
+use Rattle.flow_types.specs.declared.bound.PriceKey.TheVariants as key
+use Rattle.flow_types.specs.declared.parts.Parts.{Parts}
+use Rattle.flight_routes.specs.Prices.{ArePricesOf, IsKeyOf, PriceTable, price_at}
+use Rattle.lagrange_bound.specs.declared.moves.PriceKind.{PriceKind}
+use Rattle.lagrange_bound.specs.declared.moves.PriceKind.TheVariants.{Arrival, Departure, Stay, Turn}
+use Rattle.lagrange_bound.specs.Moves.{AreMoved, HasRoomIn, HaveRoom, IsKeyFor, is_at, is_in_kinds, key_in, kind_number, rows_of, is_in_row, is_in_rows, most_rise, number_in, period_in, row_in}
+
+pub key_of : (parts : Parts) (table : PriceTable) (k : PriceKey) → ArePricesOf parts table
+    → IsKeyFor parts k → IsKeyOf table k
+key_of parts table (key.Dep row period) are within = record {
+  within = omega (arith, are.departures.wide, within.0);
+  in_day = omega (arith, are.departures.long, within.1);
+}
+key_of parts table (key.Arr row period) are within = record {
+  within = omega (arith, are.arrivals.wide, within.0);
+  in_day = omega (arith, are.arrivals.long, within.1);
+}
+key_of parts table (key.Sector row period) are within = record {
+  within = omega (arith, are.inside.wide, within.0);
+  in_day = omega (arith, are.inside.long, within.1);
+}
+key_of parts table (key.Connect row period) are within = record {
+  within = omega (arith, are.turns.wide, within.0);
+  in_day = omega (arith, are.turns.long, within.1);
+}
+
+-- a key is told by its kind, row and period
+same_key : (a b : PriceKey) → number_in a ≡ number_in b → row_in a ≡ row_in b
+    → period_in a ≡ period_in b → a ≡ b
+same_key (key.Dep r t) (key.Dep s u) kind row period = ap₂ key.Dep row period
+same_key (key.Dep r t) (key.Arr s u) kind row period = absurd (omega (arith, kind))
+same_key (key.Dep r t) (key.Sector s u) kind row period = absurd (omega (arith, kind))
+same_key (key.Dep r t) (key.Connect s u) kind row period = absurd (omega (arith, kind))
+same_key (key.Arr r t) (key.Dep s u) kind row period = absurd (omega (arith, kind))
+same_key (key.Arr r t) (key.Arr s u) kind row period = ap₂ key.Arr row period
+same_key (key.Arr r t) (key.Sector s u) kind row period = absurd (omega (arith, kind))
+same_key (key.Arr r t) (key.Connect s u) kind row period = absurd (omega (arith, kind))
+same_key (key.Sector r t) (key.Dep s u) kind row period = absurd (omega (arith, kind))
+same_key (key.Sector r t) (key.Arr s u) kind row period = absurd (omega (arith, kind))
+same_key (key.Sector r t) (key.Sector s u) kind row period = ap₂ key.Sector row period
+same_key (key.Sector r t) (key.Connect s u) kind row period = absurd (omega (arith, kind))
+same_key (key.Connect r t) (key.Dep s u) kind row period = absurd (omega (arith, kind))
+same_key (key.Connect r t) (key.Arr s u) kind row period = absurd (omega (arith, kind))
+same_key (key.Connect r t) (key.Sector s u) kind row period = absurd (omega (arith, kind))
+same_key (key.Connect r t) (key.Connect s u) kind row period = ap₂ key.Connect row period
+
+same_numbers : (a b : ℕ) → nat_eq a b ≡ true → a ≡ b
+same_numbers a b test = grind (arith, nat_tests)
+
+itself : (a b c : ℕ) → (nat_eq a a && (nat_eq b b && nat_eq c c)) ≡ true
+itself a b c = grind (arith, nat_tests)
+
+key_at : (k other : PriceKey) → is_at (number_in k) (row_in k) (period_in k) other ≡ true
+    → other ≡ k
+key_at k other at =
+    let kind = and_parts (nat_eq (number_in other) (number_in k)) _ at in
+    let place = and_parts (nat_eq (row_in other) (row_in k)) _ kind.1 in
+    same_key other k (same_numbers (number_in other) (number_in k) kind.0)
+    (same_numbers (row_in other) (row_in k) place.0)
+    (same_numbers (period_in other) (period_in k) place.1)
+
+-- one price
+module _ (parts : Parts) (move : PriceKey → ℕ → ℕ) (k : PriceKey) (old new : PriceTable)
+    (are : ArePricesOf parts old) (here : price_at new k ≡ move k (price_at old k))
+    (low : move k (price_at old k) ≤ price_at old k + most_rise)
+    (others : (other : PriceKey) → IsKeyOf old other → other ≢ k
+    → price_at new other ≡ price_at old other) where
+  abbrev is_here : PriceKey → Bool
+  is_here = is_at (number_in k) (row_in k) (period_in k)
+
+  each_by : (other : PriceKey) → IsKeyFor parts other → (b : Bool) → is_here other ≡ b
+      → price_at new other
+      ≡ (if b then move other (price_at old other) else price_at old other)
+  each_by other within true at =
+      subst (λ o. price_at new o ≡ move o (price_at old o)) (sym (key_at k other at)) here
+  each_by other within false at =
+      others other (key_of parts old other are within)
+      (λ same. absurd (cc (at, subst (λ o. is_here o ≡ true) (sym same)
+      (itself (number_in k) (row_in k) (period_in k)))))
+
+  rise_by : (other : PriceKey) → IsKeyFor parts other → (b : Bool) → is_here other ≡ b
+      → price_at new other ≤ price_at old other + most_rise
+  rise_by other within true at =
+      subst (λ o. price_at new o ≤ price_at old o + most_rise) (sym (key_at k other at))
+      (omega (arith, here, low))
+  rise_by other within false at = omega (arith, each_by other within false at)
+
+  pub one_moved : ArePricesOf parts new → AreMoved parts move is_here old new
+  one_moved size = record {
+    size = size;
+    each = λ other within. each_by other within (is_here other) refl;
+    rise = λ other within. rise_by other within (is_here other) refl;
+  }
+
+-- none, and those of two tests that never hold together
+pub none_moved : (parts : Parts) (move : PriceKey → ℕ → ℕ) (test : PriceKey → Bool)
+    (table : PriceTable) → ArePricesOf parts table → ((k : PriceKey) → test k ≡ false)
+    → AreMoved parts move test table table
+none_moved parts move test table are none = record {
+  size = are;
+  each = λ k within. subst (λ b. price_at table k
+      ≡ (if b then move k (price_at table k) else price_at table k)) (sym (none k)) refl;
+  rise = λ k within. omega arith;
+}
+
+each_both : (a b c : Bool) (m : ℕ → ℕ) (x y z : ℕ) → y ≡ (if a then m x else x)
+    → z ≡ (if b then m y else y) → (a && b) ≡ false → c ≡ (a || b)
+    → z ≡ (if c then m x else x)
+each_both true true c m x y z first second apart both = absurd cc
+each_both true false c m x y z first second apart both =
+    subst (λ c. z ≡ (if c then m x else x)) (sym both) (second ∙ first)
+each_both false true c m x y z first second apart both =
+    subst (λ c. z ≡ (if c then m x else x)) (sym both) (second ∙ ap m first)
+each_both false false c m x y z first second apart both =
+    subst (λ c. z ≡ (if c then m x else x)) (sym both) (second ∙ first)
+
+rise_both : (a b : Bool) (m : ℕ → ℕ) (x y z r : ℕ) → y ≡ (if a then m x else x)
+    → z ≡ (if b then m y else y) → (a && b) ≡ false → y ≤ x + r → z ≤ y + r → z ≤ x + r
+rise_both true true m x y z r first second apart one two = absurd cc
+rise_both true false m x y z r first second apart one two = omega (arith, second, one)
+rise_both false b m x y z r first second apart one two = omega (arith, first, two)
+
+pub both_moved : (parts : Parts) (move : PriceKey → ℕ → ℕ) (a b c : PriceKey → Bool)
+    (old mid new : PriceTable) → AreMoved parts move a old mid → AreMoved parts move b mid new
+    → ((k : PriceKey) → (a k && b k) ≡ false)
+    → ((k : PriceKey) → IsKeyFor parts k → c k ≡ (a k || b k))
+    → AreMoved parts move c old new
+both_moved parts move a b c old mid new first second apart both = record {
+  size = second.size;
+  each = λ k within. each_both (a k) (b k) (c k) (move k) (price_at old k) (price_at mid k)
+      (price_at new k) (first.each k within) (second.each k within) (apart k) (both k within);
+  rise = λ k within. rise_both (a k) (b k) (move k) (price_at old k) (price_at mid k)
+      (price_at new k) most_rise (first.each k within) (second.each k within) (apart k)
+      (first.rise k within) (second.rise k within);
+}
+
+-- a row, and one period more
+row_none : (number n r row p : ℕ)
+    → (nat_eq number n && (nat_eq r row && nat_lt p 0)) ≡ false
+row_none number n r row p = grind (arith, nat_tests)
+
+row_apart : (number n r row p t : ℕ)
+    → ((nat_eq number n && (nat_eq r row && nat_lt p t))
+    && (nat_eq number n && (nat_eq r row && nat_eq p t))) ≡ false
+row_apart number n r row p t = grind (arith, nat_tests)
+
+row_more : (number n r row p t : ℕ) → (nat_eq number n && (nat_eq r row && nat_lt p (t + 1)))
+    ≡ ((nat_eq number n && (nat_eq r row && nat_lt p t))
+    || (nat_eq number n && (nat_eq r row && nat_eq p t)))
+row_more number n r row p t = grind (arith, nat_tests)
+
+-- rows, and one row more
+rows_none : (number n r : ℕ) → (nat_eq number n && nat_lt r 0) ≡ false
+rows_none number n r = grind (arith, nat_tests)
+
+rows_apart : (number n r row p t : ℕ)
+    → ((nat_eq number n && nat_lt r row)
+    && (nat_eq number n && (nat_eq r row && nat_lt p t))) ≡ false
+rows_apart number n r row p t = grind (arith, nat_tests)
+
+rows_more : (number n r row p t : ℕ) → p < t → (nat_eq number n && nat_lt r (row + 1))
+    ≡ ((nat_eq number n && nat_lt r row) || (nat_eq number n && (nat_eq r row && nat_lt p t)))
+rows_more number n r row p t before = grind (arith, nat_tests)
+
+-- kinds, and one kind more
+kinds_apart : (number n r rows : ℕ)
+    → (nat_lt number n && (nat_eq number n && nat_lt r rows)) ≡ false
+kinds_apart number n r rows = grind (arith, nat_tests)
+
+kinds_more : (number n r rows : ℕ) → (number ≡ n → r < rows)
+    → nat_lt number (n + 1) ≡ (nat_lt number n || (nat_eq number n && nat_lt r rows))
+kinds_more number n r rows within = by (cases_eq number n)
+  where
+    by : (number ≡ n) ⊎ (number ≢ n)
+        → nat_lt number (n + 1) ≡ (nat_lt number n || (nat_eq number n && nat_lt r rows))
+    by (inl same) = let less = within same in grind (arith, nat_tests)
+    by (inr other) = grind (arith, nat_tests)
+
+period_within : (parts : Parts) (k : PriceKey) → IsKeyFor parts k
+    → period_in k < parts.day.periods
+period_within parts (key.Dep r t) within = within.1
+period_within parts (key.Arr r t) within = within.1
+period_within parts (key.Sector r t) within = within.1
+period_within parts (key.Connect r t) within = within.1
+
+row_within : (parts : Parts) (kind : PriceKind) (k : PriceKey) → IsKeyFor parts k
+    → number_in k ≡ kind_number kind → row_in k < rows_of parts kind
+row_within parts Departure (key.Dep r t) within is = within.0
+row_within parts Departure (key.Arr r t) within is = absurd (omega (arith, is))
+row_within parts Departure (key.Sector r t) within is = absurd (omega (arith, is))
+row_within parts Departure (key.Connect r t) within is = absurd (omega (arith, is))
+row_within parts Arrival (key.Dep r t) within is = absurd (omega (arith, is))
+row_within parts Arrival (key.Arr r t) within is = within.0
+row_within parts Arrival (key.Sector r t) within is = absurd (omega (arith, is))
+row_within parts Arrival (key.Connect r t) within is = absurd (omega (arith, is))
+row_within parts Stay (key.Dep r t) within is = absurd (omega (arith, is))
+row_within parts Stay (key.Arr r t) within is = absurd (omega (arith, is))
+row_within parts Stay (key.Sector r t) within is = within.0
+row_within parts Stay (key.Connect r t) within is = absurd (omega (arith, is))
+row_within parts Turn (key.Dep r t) within is = absurd (omega (arith, is))
+row_within parts Turn (key.Arr r t) within is = absurd (omega (arith, is))
+row_within parts Turn (key.Sector r t) within is = absurd (omega (arith, is))
+row_within parts Turn (key.Connect r t) within is = within.0
+
+pub key_for : (parts : Parts) (kind : PriceKind) (row t : ℕ) → row < rows_of parts kind
+    → t < parts.day.periods → IsKeyFor parts (key_in kind row t)
+key_for parts Departure row t row_in in_day = (row_in, in_day)
+key_for parts Arrival row t row_in in_day = (row_in, in_day)
+key_for parts Stay row t row_in in_day = (row_in, in_day)
+key_for parts Turn row t row_in in_day = (row_in, in_day)
+
+number_of : (kind : PriceKind) (row t : ℕ) → number_in (key_in kind row t) ≡ kind_number kind
+number_of Departure row t = refl
+number_of Arrival row t = refl
+number_of Stay row t = refl
+number_of Turn row t = refl
+
+row_of : (kind : PriceKind) (row t : ℕ) → row_in (key_in kind row t) ≡ row
+row_of Departure row t = refl
+row_of Arrival row t = refl
+row_of Stay row t = refl
+row_of Turn row t = refl
+
+period_of : (kind : PriceKind) (row t : ℕ) → period_in (key_in kind row t) ≡ t
+period_of Departure row t = refl
+period_of Arrival row t = refl
+period_of Stay row t = refl
+period_of Turn row t = refl
+
+module _ (parts : Parts) (move : PriceKey → ℕ → ℕ) (kind : PriceKind) where
+  abbrev number : ℕ
+  number = kind_number kind
+
+  -- one period more
+  at_key : (row t : ℕ) (k : PriceKey) (old new : PriceTable) → k ≡ key_in kind row t
+      → AreMoved parts move (is_at (number_in k) (row_in k) (period_in k)) old new
+      → AreMoved parts move (is_at number row t) old new
+  at_key row t k old new is moved =
+      subst (λ n. AreMoved parts move (is_at n row t) old new)
+      (ap number_in is ∙ number_of kind row t)
+      (subst (λ r. AreMoved parts move (is_at (number_in k) r t) old new)
+      (ap row_in is ∙ row_of kind row t)
+      (subst (λ p. AreMoved parts move (is_at (number_in k) (row_in k) p) old new)
+      (ap period_in is ∙ period_of kind row t) moved))
+
+  pub row_start : (row : ℕ) (table : PriceTable) → ArePricesOf parts table
+      → AreMoved parts move (is_in_row number row 0) table table
+  row_start row table are =
+      none_moved parts move (is_in_row number row 0) table are
+      (λ k. row_none (number_in k) number (row_in k) row (period_in k))
+
+  pub row_next : (row t : ℕ) (k : PriceKey) (old mid new : PriceTable) → k ≡ key_in kind row t
+      → AreMoved parts move (is_in_row number row t) old mid
+      → AreMoved parts move (is_at (number_in k) (row_in k) (period_in k)) mid new
+      → AreMoved parts move (is_in_row number row (t + 1)) old new
+  row_next row t k old mid new is first second =
+      both_moved parts move (is_in_row number row t) (is_at number row t)
+      (is_in_row number row (t + 1)) old mid new first (at_key row t k mid new is second)
+      (λ k. row_apart (number_in k) number (row_in k) row (period_in k) t)
+      (λ k within. row_more (number_in k) number (row_in k) row (period_in k) t)
+
+  pub rows_start : (table : PriceTable) → ArePricesOf parts table
+      → AreMoved parts move (is_in_rows number 0) table table
+  rows_start table are =
+      none_moved parts move (is_in_rows number 0) table are
+      (λ k. rows_none (number_in k) number (row_in k))
+
+  pub rows_next : (row : ℕ) (old mid new : PriceTable)
+      → AreMoved parts move (is_in_rows number row) old mid
+      → AreMoved parts move (is_in_row number row parts.day.periods) mid new
+      → AreMoved parts move (is_in_rows number (row + 1)) old new
+  rows_next row old mid new first second =
+      both_moved parts move (is_in_rows number row) (is_in_row number row parts.day.periods)
+      (is_in_rows number (row + 1)) old mid new first second
+      (λ k. rows_apart (number_in k) number (row_in k) row (period_in k) parts.day.periods)
+      (λ k within. rows_more (number_in k) number (row_in k) row (period_in k) parts.day.periods
+      (period_within parts k within))
+
+  pub kinds_next : (old mid new : PriceTable) → AreMoved parts move (is_in_kinds number) old mid
+      → AreMoved parts move (is_in_rows number (rows_of parts kind)) mid new
+      → AreMoved parts move (is_in_kinds (number + 1)) old new
+  kinds_next old mid new first second =
+      both_moved parts move (is_in_kinds number) (is_in_rows number (rows_of parts kind))
+      (is_in_kinds (number + 1)) old mid new first second
+      (λ k. kinds_apart (number_in k) number (row_in k) (rows_of parts kind))
+      (λ k within. kinds_more (number_in k) number (row_in k) (rows_of parts kind)
+      (row_within parts kind k within))
+
+  -- what wasn't moved has the room that it had
+  same_by : (test : PriceKey → Bool) (old new : PriceTable) (k : PriceKey) → IsKeyFor parts k
+      → AreMoved parts move test old new → test k ≡ false → price_at new k ≡ price_at old k
+  same_by test old new k within moved none =
+      subst (λ b. price_at new k ≡ (if b then move k (price_at old k) else price_at old k)) none
+      (moved.each k within)
+
+  not_in_row : (row t : ℕ) → is_in_row number row t (key_in kind row t) ≡ false
+  not_in_row row t = let late = period_of kind row t in grind (arith, nat_tests)
+
+  not_in_rows : (row t : ℕ) → is_in_rows number row (key_in kind row t) ≡ false
+  not_in_rows row t = let late = row_of kind row t in grind (arith, nat_tests)
+
+  not_in_kinds : (row t : ℕ) → is_in_kinds number (key_in kind row t) ≡ false
+  not_in_kinds row t = let late = number_of kind row t in grind (arith, nat_tests)
+
+  pub room_in_row : (row t : ℕ) (old new : PriceTable) → row < rows_of parts kind
+      → t < parts.day.periods → HasRoomIn parts kind old row
+      → AreMoved parts move (is_in_row number row t) old new
+      → price_at new (key_in kind row t) < 2 ^ 61
+  room_in_row row t old new within in_day room moved =
+      let same = same_by (is_in_row number row t) old new (key_in kind row t)
+          (key_for parts kind row t within in_day) moved (not_in_row row t) in
+      omega (arith, same, room t in_day)
+
+  pub room_in_rows : (row : ℕ) (old new : PriceTable) → row < rows_of parts kind
+      → HaveRoom parts kind old → AreMoved parts move (is_in_rows number row) old new
+      → HasRoomIn parts kind new row
+  room_in_rows row old new within room moved = λ t in_day.
+      let same = same_by (is_in_rows number row) old new (key_in kind row t)
+          (key_for parts kind row t within in_day) moved (not_in_rows row t) in
+      omega (arith, same, room row within t in_day)
+
+  pub room_in_kinds : (old new : PriceTable)
+      → ((k : PriceKey) → IsKeyFor parts k → price_at old k < 2 ^ 61)
+      → AreMoved parts move (is_in_kinds number) old new → HaveRoom parts kind new
+  room_in_kinds old new room moved = λ row within t in_day.
+      let is = key_for parts kind row t within in_day in
+      let same = same_by (is_in_kinds number) old new (key_in kind row t) is moved
+          (not_in_kinds row t) in
+      omega (arith, same, room (key_in kind row t) is)
+
+-- all prices
+module _ (parts : Parts) (move : PriceKey → ℕ → ℕ) where
+  no_kinds : (n : ℕ) → nat_lt n 0 ≡ false
+  no_kinds n = grind (arith, nat_tests)
+
+  pub first_kind : (old new : PriceTable) → ArePricesOf parts old
+      → AreMoved parts move (is_in_rows 0 (length parts.places)) old new
+      → AreMoved parts move (is_in_kinds 1) old new
+  first_kind old new are moved =
+      kinds_next parts move Departure old old new
+      (none_moved parts move (is_in_kinds 0) old are (λ k. no_kinds (number_in k))) moved
+
+  every_kind : (k : PriceKey) → is_in_kinds 4 k ≡ true
+  every_kind (key.Dep row period) = refl
+  every_kind (key.Arr row period) = refl
+  every_kind (key.Sector row period) = refl
+  every_kind (key.Connect row period) = refl
+
+  pub all_kinds : (old new : PriceTable) → AreMoved parts move (is_in_kinds 4) old new
+      → AreMoved parts move (λ k. true) old new
+  all_kinds old new moved = record {
+    size = moved.size;
+    each = λ k within. subst (λ b. price_at new k
+        ≡ (if b then move k (price_at old k) else price_at old k)) (every_kind k)
+        (moved.each k within);
+    rise = moved.rise;
+  }
