@@ -1,3 +1,5 @@
 pub mod BoundFacts
 pub mod MoveFacts
+pub mod StepFacts
+pub mod TakeFacts
 pub mod WorkedRounds

@@ -1,5 +1,5 @@
 -- Prices that are moved one after another.
-use Rattle.std.proofs.Common.{◌≡◌, ◌≢◌, ◌⊎◌, inl, inr, ℕ, zero, suc, ◌+◌, ◌<◌, ◌≤◌, ◌^◌, Bool, true, false, ◌&&◌, ◌||◌, nat_eq, nat_lt, length, if◌then◌else◌, refl, sym, ap, ap₂, subst, ◌∙◌, arith}
+use Rattle.std.proofs.Common.{◌≡◌, ◌≢◌, ◌⊎◌, inl, inr, ℕ, ◌+◌, ◌<◌, ◌≤◌, ◌^◌, Bool, true, false, ◌&&◌, ◌||◌, nat_eq, nat_lt, length, if◌then◌else◌, refl, sym, ap, ap₂, subst, ◌∙◌, arith}
 use Rattle.std.proofs.lemmas.Bool.{and_parts, cases_eq}
 use Rattle.std.proofs.lemmas.Bool.Decides.{nat_tests}
 use Rattle.flow_types.specs.declared.bound.PriceKey.{PriceKey}
@@ -80,8 +80,11 @@ module _ (parts : Parts) (move : PriceKey → ℕ → ℕ) (k : PriceKey) (old n
       subst (λ o. price_at new o ≡ move o (price_at old o)) (sym (key_at k other at)) here
   each_by other within false at =
       others other (key_of parts old other are within)
-      (λ same. absurd (cc (at, subst (λ o. is_here o ≡ true) (sym same)
-      (itself (number_in k) (row_in k) (period_in k)))))
+      (λ same. absurd (cc (
+        at,
+        subst (λ o. is_here o ≡ true) (sym same)
+            (itself (number_in k) (row_in k) (period_in k)),
+      )))
 
   rise_by : (other : PriceKey) → IsKeyFor parts other → (b : Bool) → is_here other ≡ b
       → price_at new other ≤ price_at old other + most_rise
@@ -313,7 +316,7 @@ module _ (parts : Parts) (move : PriceKey → ℕ → ℕ) (kind : PriceKind) wh
       → price_at new (key_in kind row t) < 2 ^ 61
   room_in_row row t old new within in_day room moved =
       let same = same_by (is_in_row number row t) old new (key_in kind row t)
-          (key_for parts kind row t within in_day) moved (not_in_row row t) in
+      (key_for parts kind row t within in_day) moved (not_in_row row t) in
       omega (arith, same, room t in_day)
 
   pub room_in_rows : (row : ℕ) (old new : PriceTable) → row < rows_of parts kind
@@ -321,7 +324,7 @@ module _ (parts : Parts) (move : PriceKey → ℕ → ℕ) (kind : PriceKind) wh
       → HasRoomIn parts kind new row
   room_in_rows row old new within room moved = λ t in_day.
       let same = same_by (is_in_rows number row) old new (key_in kind row t)
-          (key_for parts kind row t within in_day) moved (not_in_rows row t) in
+      (key_for parts kind row t within in_day) moved (not_in_rows row t) in
       omega (arith, same, room row within t in_day)
 
   pub room_in_kinds : (old new : PriceTable)
@@ -330,7 +333,7 @@ module _ (parts : Parts) (move : PriceKey → ℕ → ℕ) (kind : PriceKind) wh
   room_in_kinds old new room moved = λ row within t in_day.
       let is = key_for parts kind row t within in_day in
       let same = same_by (is_in_kinds number) old new (key_in kind row t) is moved
-          (not_in_kinds row t) in
+      (not_in_kinds row t) in
       omega (arith, same, room (key_in kind row t) is)
 
 -- all prices

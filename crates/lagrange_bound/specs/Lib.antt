@@ -1,2 +1,4 @@
 pub mod Moves
 pub mod Rounds
+pub mod Taking
+pub mod Work

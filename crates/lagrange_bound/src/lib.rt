@@ -6,20 +6,36 @@
 //! that of a connection, where its second flight has departed before the first was ready. The first
 //! round begins with prices of 0, costs weigh 1,024, and the step of round j is 1,024 / j.
 //!
+//!     let mut rounds = Rounds::new(alloc, &s)?;
+//!     for round in 1..101 {
+//!         if !rounds.step(&s, &boxes, round) {
+//!             println!("a flight has no trip in the box");
+//!             break;
+//!         }
+//!     }
+//!     let price = rounds.prices().departure(place, period);
+//!
 //! These are the subgradient steps of Lagrangian relaxation (Held, Wolfe and Crowder, "Validation
 //! of subgradient optimization", 1974).
 //!
 //! `specs/Rounds.antt` says what a round is, what the prices are after so many of them, and what
-//! bound they tell: their value (`priced_plans`), divided by the weight and rounded up.
+//! bound they tell: their value (`priced_plans`), divided by the weight and rounded up. `Work` is
+//! what `Rounds` is seen as. `Moves` and `Taking` serve the proof.
 //!
-//! Proved: the bound of each round is a bound on the feasible plans in the box
-//! (`round_bounds_are_bounds`). Nothing is said of how good it is. `proofs/WorkedRounds.antt` has a
-//! round worked out.
+//! Proved: `step` moves the prices exactly as a round does (`step`), from the first of the least
+//! trips of each flight; it tells that all have one (`found`), or that one has none (`none`). The
+//! bound of each round is a bound on the feasible plans in the box (`round_bounds_are_bounds`).
+//! Nothing is said of how good it is. `proofs/WorkedRounds.antt` has a round worked out.
 //!
-//! Memory and time: none, for there is no code here but the law.
+//! Memory: prices and loads, 36 bytes a place and period, eight a connection and period and eight a
+//! flight, and the room for least trips, 0.9 MB, once. `step` takes none. Time: `step` finds a least
+//! trip for each flight, and looks at each price once.
 #![tactic(auto)]
 
 mod laws;
 mod moves;
+mod rounds;
+mod taking;
 
 pub use laws::round_bounds_are_bounds;
+pub use rounds::Rounds;

@@ -1,4 +1,4 @@
-use Rattle.std.proofs.Common.{◌≡◌, ◌≤◌, ◌+◌, sym, subst, ◌∙◌}
+use Rattle.std.proofs.Common.{◌≡◌, ◌≤◌, ◌+◌, subst, ◌∙◌}
 use Rattle.flow_types.specs.Scenario.{parts_of}
 use Rattle.flight_routes.specs.Prices.{price_at}
 use Rattle.lagrange_bound.specs.Moves.{most_rise, moved_price}
@@ -10,7 +10,7 @@ returns c =
     let parts = parts_of c.args.s.now in
     let move = moved_price parts c.args.loads.now c.args.step in
     let value = subst (λ p. c.moved_price.result ≡ move c.args.key p) c.price_at-price.ensures
-        c.moved_price.ensures.value in
+    c.moved_price.ensures.value in
     one_moved parts move c.args.key c.args.prices.now c.set.new.self c.requires.prices
     (c.set.ensures.here ∙ value)
     (subst (λ m. m ≤ price_at c.args.prices.now c.args.key + most_rise) value

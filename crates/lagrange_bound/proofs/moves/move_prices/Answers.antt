@@ -1,7 +1,6 @@
 use Rattle.flow_types.specs.Scenario.{parts_of}
-use Rattle.flight_routes.specs.Prices.{PriceTable}
-use Rattle.lagrange_bound.specs.declared.moves.PriceKind.TheVariants.{Arrival, Departure, Stay, Turn}
-use Rattle.lagrange_bound.specs.Moves.{AreMoved, is_in_kinds, moved_price}
+use Rattle.lagrange_bound.specs.declared.moves.PriceKind.TheVariants.{Arrival, Stay, Turn}
+use Rattle.lagrange_bound.specs.Moves.{moved_price}
 use Rattle.lagrange_bound.proofs.MoveFacts.{all_kinds, first_kind, kinds_next, room_in_kinds}
 use Rattle.lagrange_bound.proofs.moves.move_prices.Goals as goal
 

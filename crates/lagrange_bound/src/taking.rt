@@ -1,0 +1,78 @@
+//! The least trips under prices, flight by flight.
+ghost use Rattle.std.specs.Prelude.{◌≡◌, ◌<◌, ◌+◌, ℕ, IfSome, length, true, false};
+ghost use Rattle.exact_sums.specs.Leasts.{IsLeast};
+ghost use Rattle.flow_types.specs.Scenario.{parts_of};
+ghost use Rattle.flight_routes.specs.Inside.{IsTripIn};
+ghost use Rattle.flight_routes.specs.Prices.{ArePricesOf, priced_cost};
+ghost use Rattle.flight_routes.specs.Work.{IsWorkFor};
+ghost use Rattle.plan_rules.specs.Loads.{AreLoads, IsMadeFor as AreLoadsFor, no_trips};
+ghost use Rattle.time_windows.specs.Held.{IsMadeFor, box_of};
+ghost use Rattle.lagrange_bound.specs.Rounds.{HasNoTrip, cost_weight};
+ghost use Rattle.lagrange_bound.specs.Taking.{HaveTaken};
+
+use flight_routes::{Prices, Work};
+use flow_types::Scenario;
+use plan_rules::Loads;
+use time_windows::Boxes;
+
+/// How much costs weigh beside prices.
+pub const WEIGHT: u64 = 1024;
+
+// Takes the least trip of the next flight and counts it, and answers what it costs with its prices;
+// nothing where there is no trip.
+fn take_trip(
+    s: &Scenario,
+    boxes: &Boxes,
+    flight: u32,
+    prices: &Prices,
+    work: &mut Work,
+    loads: &mut Loads,
+) -> Option<i128>
+    requires boxes { IsMadeFor (parts_of s.now) boxes.now }
+    requires flight { flight < length (parts_of s.now).flights }
+    requires prices { ArePricesOf (parts_of s.now) prices.now }
+    requires work { IsWorkFor (parts_of s.now) work.old }
+    requires loads { AreLoadsFor (parts_of s.now) loads.old }
+    ensures least { IsLeast (IsTripIn (parts_of s.now) (box_of boxes.now) flight)
+        (priced_cost cost_weight prices.now (parts_of s.now) flight) result }
+    ensures taken { HaveTaken (parts_of s.now) (box_of boxes.now) prices.now flight loads.old
+        → IfSome result (λ least. HaveTaken (parts_of s.now) (box_of boxes.now) prices.now
+        (flight + 1) loads.new) }
+    ensures work { IsWorkFor (parts_of s.now) work.new }
+    ensures made { AreLoadsFor (parts_of s.now) loads.new }
+{
+    match work.least_trip(s, boxes, flight, WEIGHT, prices) {
+        None => None,
+        Some(least) => {
+            loads.add(s, flight, work.trip());
+            Some(least)
+        }
+    }
+}
+
+/// Takes the least trip of each flight, and tells whether all have one.
+pub fn take_trips(
+    s: &Scenario,
+    boxes: &Boxes,
+    prices: &Prices,
+    work: &mut Work,
+    loads: &mut Loads,
+) -> bool
+    requires boxes { IsMadeFor (parts_of s.now) boxes.now }
+    requires prices { ArePricesOf (parts_of s.now) prices.now }
+    requires work { IsWorkFor (parts_of s.now) work.old }
+    requires loads { AreLoads (parts_of s.now) (no_trips (parts_of s.now)) loads.old }
+    ensures taken { result ≡ true → HaveTaken (parts_of s.now) (box_of boxes.now) prices.now
+        (length (parts_of s.now).flights) loads.new }
+    ensures none { result ≡ false
+        → (number : ℕ) × HasNoTrip (parts_of s.now) (box_of boxes.now) number }
+    ensures work { IsWorkFor (parts_of s.now) work.new }
+    ensures made { AreLoadsFor (parts_of s.now) loads.new }
+{
+    for number in 0..s.flights().len() {
+        if take_trip(s, boxes, number as u32, prices, work, loads).is_none() {
+            return false;
+        }
+    }
+    true
+}
