@@ -1,5 +1,7 @@
 pub mod BoundFacts
 pub mod MoveFacts
+pub mod NearFacts
 pub mod StepFacts
+pub mod SumFacts
 pub mod TakeFacts
 pub mod WorkedRounds

@@ -1,4 +1,5 @@
 pub mod Moves
 pub mod Rounds
 pub mod Taking
+pub mod Sums
 pub mod Work

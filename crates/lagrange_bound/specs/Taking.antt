@@ -1,12 +1,14 @@
 -- Least trips that are taken flight by flight, and counted.
-use Rattle.std.specs.Prelude.{◌≡◌, ◌≤◌, ◌<◌, ℕ, List, [], length, Some, slice_get}
+use Rattle.std.specs.Prelude.{◌≡◌, ◌≤◌, ◌<◌, ◌*◌, ◌^◌, ℕ, List, [], length, Option, None, Some, slice_get, ℤ, ◌+ℤ◌}
 use Rattle.flow_types.specs.declared.parts.Parts.{Parts}
 use Rattle.flow_types.specs.declared.plan.Stop.{Stop}
 use Rattle.flight_routes.specs.Prices.{PriceTable}
+use Rattle.flight_routes.specs.Rates.{IsValueWithin}
 use Rattle.plan_rules.specs.Cells.{Tally}
 use Rattle.plan_rules.specs.Loads.{AreLoads}
 use Rattle.time_windows.specs.Boxes.{Box}
-use Rattle.lagrange_bound.specs.Rounds.{IsLeastTrip}
+use Rattle.priced_plans.specs.Values.{IsPricedSum}
+use Rattle.lagrange_bound.specs.Rounds.{HasNoTrip, IsLeastTrip, cost_weight}
 
 -- the first flights, so many, have their least trips, and the others none
 pub record AreTaken (parts : Parts) (box : Box) (table : PriceTable) (number : ℕ) (loads : Tally)
@@ -19,3 +21,21 @@ pub record AreTaken (parts : Parts) (box : Box) (table : PriceTable) (number : �
 abbrev pub HaveTaken : Parts → Box → PriceTable → ℕ → Tally → Type 0
 HaveTaken parts box table number loads =
     (trips : List (List Stop)) × AreTaken parts box table number loads trips
+
+-- what these trips cost with their prices, and that their sum has room
+pub record IsSumOf (parts : Parts) (box : Box) (table : PriceTable) (number : ℕ) (loads : Tally)
+    (sum : ℤ) : Type 0 where
+  pub trips : HaveTaken parts box table number loads
+  pub priced : IsPricedSum parts box cost_weight table number sum
+  pub near : IsValueWithin (number * 2 ^ 84) sum
+
+-- nothing once a flight has no trip
+abbrev pub IsTakenSum : Parts → Box → PriceTable → ℕ → Tally → Option ℤ → Type 0
+IsTakenSum parts box table number loads None = (flight : ℕ) × HasNoTrip parts box flight
+IsTakenSum parts box table number loads (Some sum) = IsSumOf parts box table number loads sum
+
+-- the sum of two, where both are there
+abbrev pub plus : Option ℤ → Option ℤ → Option ℤ
+plus None cost = None
+plus (Some sum) None = None
+plus (Some sum) (Some cost) = Some (sum +ℤ cost)

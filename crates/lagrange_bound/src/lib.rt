@@ -8,9 +8,9 @@
 //!
 //!     let mut rounds = Rounds::new(alloc, &s)?;
 //!     for round in 1..101 {
-//!         if !rounds.step(&s, &boxes, round) {
-//!             println!("a flight has no trip in the box");
-//!             break;
+//!         match rounds.step(&s, &boxes, round) {
+//!             Some(value) => println!("the prices before round {round} are worth {value}"),
+//!             None => println!("a flight has no trip in the box"),
 //!         }
 //!     }
 //!     let price = rounds.prices().departure(place, period);
@@ -20,22 +20,25 @@
 //!
 //! `specs/Rounds.antt` says what a round is, what the prices are after so many of them, and what
 //! bound they tell: their value (`priced_plans`), divided by the weight and rounded up. `Work` is
-//! what `Rounds` is seen as. `Moves` and `Taking` serve the proof.
+//! what `Rounds` is seen as. `Moves`, `Sums` and `Taking`
+//! serve the proof.
 //!
-//! Proved: `step` moves the prices exactly as a round does (`step`), from the first of the least
-//! trips of each flight; it tells that all have one (`found`), or that one has none (`none`). The
-//! bound of each round is a bound on the feasible plans in the box (`round_bounds_are_bounds`).
-//! Nothing is said of how good it is. `proofs/WorkedRounds.antt` has a round worked out.
+//! Proved: `step` moves the prices exactly as a round does (`step`), by the first of the least trips
+//! of each flight, and answers exactly the value of the prices that it began with, or that a flight
+//! has no trip (`value`). The bound of each round is a bound on the feasible plans in the box
+//! (`round_bounds_are_bounds`). Nothing is said of how good it is. `proofs/WorkedRounds.antt` has a
+//! round worked out.
 //!
 //! Memory: prices and loads, 36 bytes a place and period, eight a connection and period and eight a
 //! flight, and the room for least trips, 0.9 MB, once. `step` takes none. Time: `step` finds a least
-//! trip for each flight, and looks at each price once.
+//! trip for each flight, and looks at each price twice.
 #![tactic(auto)]
 
 mod laws;
 mod moves;
 mod rounds;
 mod taking;
+mod values;
 
 pub use laws::round_bounds_are_bounds;
 pub use rounds::Rounds;

@@ -1,18 +1,19 @@
 //! Prices that are found in rounds.
-ghost use Rattle.std.specs.Prelude.{◌≡◌, ◌≤◌, ◌<◌, ◌+◌, ◌*◌, ℕ, List, true, false};
+ghost use Rattle.std.specs.Prelude.{◌≡◌, ◌≤◌, ◌<◌, ◌+◌, ◌*◌, ℕ, MatchOption};
 ghost use Rattle.flow_types.specs.declared.bound.PriceKey.{PriceKey};
-ghost use Rattle.flow_types.specs.declared.plan.Stop.{Stop};
 ghost use Rattle.flow_types.specs.Scenario.{parts_of};
 ghost use Rattle.flight_routes.specs.Prices.{ArePricesOf, price_at};
 ghost use Rattle.flight_routes.specs.Work.{IsWorkFor};
 ghost use Rattle.plan_rules.specs.Loads.{IsMadeFor as AreLoadsFor};
 ghost use Rattle.time_windows.specs.Held.{IsMadeFor, box_of};
+ghost use Rattle.priced_plans.specs.Values.{IsPricedValue};
 ghost use Rattle.lagrange_bound.specs.Moves.{IsKeyFor, most_rise};
-ghost use Rattle.lagrange_bound.specs.Rounds.{AreLeastTrips, HasNoTrip, IsRoundStep};
+ghost use Rattle.lagrange_bound.specs.Rounds.{HasNoTrip, IsRoundStep, cost_weight};
 ghost use Rattle.lagrange_bound.specs.Work.{most_rounds};
 
 use crate::moves::move_prices;
 use crate::taking::take_trips;
+use crate::values::value_of;
 use flight_routes::{Prices, Work};
 use flow_types::{OutOfMemory, Scenario};
 use plan_rules::Loads;
@@ -42,12 +43,12 @@ impl Model for Rounds {
 }
 
 impl Rounds {
-    ghost use Rattle.std.specs.Prelude.{◌≡◌, ◌≤◌, ◌<◌, ◌+◌, ℕ, List, true, false, IfOk};
-    ghost use Rattle.flow_types.specs.declared.plan.Stop.{Stop};
+    ghost use Rattle.std.specs.Prelude.{◌≡◌, ◌≤◌, ◌<◌, ◌+◌, ℕ, MatchOption, IfOk};
     ghost use Rattle.flow_types.specs.Scenario.{parts_of};
     ghost use Rattle.flight_routes.specs.Prices.{AreFree};
     ghost use Rattle.time_windows.specs.Held.{IsMadeFor, box_of};
-    ghost use Rattle.lagrange_bound.specs.Rounds.{AreLeastTrips, HasNoTrip, IsRoundStep};
+    ghost use Rattle.priced_plans.specs.Values.{IsPricedValue};
+    ghost use Rattle.lagrange_bound.specs.Rounds.{HasNoTrip, IsRoundStep, cost_weight};
     ghost use Rattle.lagrange_bound.specs.Work.{IsRoomFor, most_rounds};
 
     /// Room for the rounds of the scenario, with prices of 0.
@@ -63,18 +64,18 @@ impl Rounds {
     }
 
     /// The next round on a box: moves the prices by the least trips under them, or leaves them where
-    /// a flight has no trip in the box. Tells whether each flight has one.
-    pub fn step(&mut self, s: &Scenario, boxes: &Boxes, round: u32) -> bool
+    /// a flight has no trip in the box. Answers the value of the prices that it began with, nothing
+    /// where a flight has no trip.
+    pub fn step(&mut self, s: &Scenario, boxes: &Boxes, round: u32) -> Option<i128>
         requires made { IsRoomFor (parts_of s.now) round self.old }
         requires boxes { IsMadeFor (parts_of s.now) boxes.now }
         requires some { 1 ≤ round }
         requires few { round ≤ most_rounds }
         ensures step { IsRoundStep (parts_of s.now) (box_of boxes.now) round self.old.prices
             self.new.prices }
-        ensures found { result ≡ true → (trips : List (List Stop))
-            × AreLeastTrips (parts_of s.now) (box_of boxes.now) self.old.prices trips }
-        ensures none { result ≡ false
-            → (number : ℕ) × HasNoTrip (parts_of s.now) (box_of boxes.now) number }
+        ensures value { MatchOption result
+            ((number : ℕ) × HasNoTrip (parts_of s.now) (box_of boxes.now) number)
+            (IsPricedValue (parts_of s.now) (box_of boxes.now) cost_weight self.old.prices) }
         ensures made { IsRoomFor (parts_of s.now) (round + 1) self.new }
     {
         play_round(
@@ -103,7 +104,7 @@ fn play_round(
     prices: &mut Prices,
     work: &mut Work,
     loads: &mut Loads,
-) -> bool
+) -> Option<i128>
     requires boxes { IsMadeFor (parts_of s.now) boxes.now }
     requires some { 1 ≤ round }
     requires few { round ≤ most_rounds }
@@ -113,10 +114,9 @@ fn play_round(
     requires work { IsWorkFor (parts_of s.now) work.old }
     requires loads { AreLoadsFor (parts_of s.now) loads.old }
     ensures step { IsRoundStep (parts_of s.now) (box_of boxes.now) round prices.old prices.new }
-    ensures found { result ≡ true → (trips : List (List Stop))
-        × AreLeastTrips (parts_of s.now) (box_of boxes.now) prices.old trips }
-    ensures none { result ≡ false
-        → (number : ℕ) × HasNoTrip (parts_of s.now) (box_of boxes.now) number }
+    ensures value { MatchOption result
+        ((number : ℕ) × HasNoTrip (parts_of s.now) (box_of boxes.now) number)
+        (IsPricedValue (parts_of s.now) (box_of boxes.now) cost_weight prices.old) }
     ensures prices { ArePricesOf (parts_of s.now) prices.new }
     ensures low { (key : PriceKey) → IsKeyFor (parts_of s.now) key
         → price_at prices.new key ≤ (round + 1) * most_rise }
@@ -124,9 +124,10 @@ fn play_round(
     ensures made { AreLoadsFor (parts_of s.now) loads.new }
 {
     loads.clear();
-    if !take_trips(s, boxes, prices, work, loads) {
-        return false;
+    let sum = take_trips(s, boxes, prices, work, loads);
+    let value = value_of(s, prices, sum);
+    if sum.is_some() {
+        move_prices(s, loads, 1024 / u64::from(round), prices);
     }
-    move_prices(s, loads, 1024 / u64::from(round), prices);
-    true
+    value
 }

@@ -1,14 +1,17 @@
 //! The least trips under prices, flight by flight.
-ghost use Rattle.std.specs.Prelude.{◌≡◌, ◌<◌, ◌+◌, ℕ, IfSome, length, true, false};
+ghost use Rattle.std.specs.Prelude.{◌≡◌, ◌≤◌, ◌<◌, ◌+◌, ◌^◌, IfSome, length};
 ghost use Rattle.exact_sums.specs.Leasts.{IsLeast};
+ghost use Rattle.flow_types.specs.declared.bound.PriceKey.{PriceKey};
 ghost use Rattle.flow_types.specs.Scenario.{parts_of};
 ghost use Rattle.flight_routes.specs.Inside.{IsTripIn};
-ghost use Rattle.flight_routes.specs.Prices.{ArePricesOf, priced_cost};
+ghost use Rattle.flight_routes.specs.Prices.{ArePricesOf, price_at, priced_cost};
+ghost use Rattle.flight_routes.specs.Rates.{IsValueWithin};
 ghost use Rattle.flight_routes.specs.Work.{IsWorkFor};
 ghost use Rattle.plan_rules.specs.Loads.{AreLoads, IsMadeFor as AreLoadsFor, no_trips};
 ghost use Rattle.time_windows.specs.Held.{IsMadeFor, box_of};
-ghost use Rattle.lagrange_bound.specs.Rounds.{HasNoTrip, cost_weight};
-ghost use Rattle.lagrange_bound.specs.Taking.{HaveTaken};
+ghost use Rattle.lagrange_bound.specs.Moves.{IsKeyFor};
+ghost use Rattle.lagrange_bound.specs.Rounds.{cost_weight};
+ghost use Rattle.lagrange_bound.specs.Taking.{HaveTaken, IsTakenSum, plus};
 
 use flight_routes::{Prices, Work};
 use flow_types::Scenario;
@@ -50,29 +53,45 @@ fn take_trip(
     }
 }
 
-/// Takes the least trip of each flight, and tells whether all have one.
+// The sum of both, where both are there.
+fn plus(sum: Option<i128>, cost: Option<i128>) -> Option<i128>
+    requires sum { IfSome sum (IsValueWithin (2 ^ 100)) }
+    requires cost { IfSome cost (IsValueWithin (2 ^ 84)) }
+    ensures { result ≡ plus sum cost }
+{
+    match sum {
+        None => None,
+        Some(sum) => match cost {
+            None => None,
+            Some(cost) => Some(sum + cost),
+        },
+    }
+}
+
+/// Takes the least trip of each flight, and answers what they cost together with their prices;
+/// nothing where a flight has none.
 pub fn take_trips(
     s: &Scenario,
     boxes: &Boxes,
     prices: &Prices,
     work: &mut Work,
     loads: &mut Loads,
-) -> bool
+) -> Option<i128>
     requires boxes { IsMadeFor (parts_of s.now) boxes.now }
     requires prices { ArePricesOf (parts_of s.now) prices.now }
+    requires low { (key : PriceKey) → IsKeyFor (parts_of s.now) key
+        → price_at prices.now key ≤ 2 ^ 61 }
     requires work { IsWorkFor (parts_of s.now) work.old }
     requires loads { AreLoads (parts_of s.now) (no_trips (parts_of s.now)) loads.old }
-    ensures taken { result ≡ true → HaveTaken (parts_of s.now) (box_of boxes.now) prices.now
-        (length (parts_of s.now).flights) loads.new }
-    ensures none { result ≡ false
-        → (number : ℕ) × HasNoTrip (parts_of s.now) (box_of boxes.now) number }
+    ensures sum { IsTakenSum (parts_of s.now) (box_of boxes.now) prices.now
+        (length (parts_of s.now).flights) loads.new result }
+    ensures near { IfSome result (IsValueWithin (2 ^ 100)) }
     ensures work { IsWorkFor (parts_of s.now) work.new }
     ensures made { AreLoadsFor (parts_of s.now) loads.new }
 {
+    let mut sum = Some(0);
     for number in 0..s.flights().len() {
-        if take_trip(s, boxes, number as u32, prices, work, loads).is_none() {
-            return false;
-        }
+        sum = plus(sum, take_trip(s, boxes, number as u32, prices, work, loads));
     }
-    true
+    sum
 }

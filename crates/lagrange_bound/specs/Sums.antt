@@ -1,0 +1,33 @@
+-- Sums of prices times capacities, as far as they are made.
+use Rattle.std.specs.Prelude.{ℕ, ◌*◌, sum_by, Option, None, Some, ℤ, pos, ◌-ℤ◌}
+use Rattle.std.specs.List.{range_with_len}
+use Rattle.flow_types.specs.declared.parts.Parts.{Parts}
+use Rattle.flow_types.specs.declared.place.CapKind.{CapKind}
+use Rattle.flow_types.specs.declared.place.CapKind.TheVariants as kind
+use Rattle.flow_types.specs.Capacities.{capacity_of}
+use Rattle.flight_routes.specs.Prices.{Block, PriceTable, price_in}
+
+-- the prices that stand on capacities of a kind
+abbrev pub block_of : PriceTable → CapKind → Block
+block_of table kind.Dep = table.departures
+block_of table kind.Arr = table.arrivals
+block_of table kind.Sector = table.inside
+
+-- the price of a place in a period times its capacity, and that of its first periods
+abbrev pub cell_price : Parts → CapKind → PriceTable → ℕ → ℕ → ℕ
+cell_price parts kind table place period =
+    price_in (block_of table kind) place period * capacity_of parts.places kind place period
+
+abbrev pub row_price : Parts → CapKind → PriceTable → ℕ → ℕ → ℕ
+row_price parts kind table periods place =
+    sum_by (cell_price parts kind table place) (range_with_len 0 periods)
+
+-- that of the first places
+abbrev pub rows_price : Parts → CapKind → PriceTable → ℕ → ℕ
+rows_price parts kind table places =
+    sum_by (row_price parts kind table parts.day.periods) (range_with_len 0 places)
+
+-- so much less, where there is a number
+abbrev pub less : Option ℤ → ℕ → Option ℤ
+less None paid = None
+less (Some sum) paid = Some (sum -ℤ pos paid)
