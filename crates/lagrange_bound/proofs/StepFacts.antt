@@ -1,5 +1,5 @@
 -- What the loads move prices by is what the trips do that they count.
-use Rattle.std.proofs.Common.{◌≡◌, Bool, false, MatchOption, ℤ, ◌⊎◌, ℕ, ◌<◌, ◌≤◌, true, List, [], length, Option, None, Some, slice_get, slice_index_or, inl, inr, refl, sym, ap, ap₂, subst, ◌∙◌, arith}
+use Rattle.std.proofs.Common.{◌≡◌, Bool, ℤ, ◌⊎◌, ℕ, ◌<◌, ◌≤◌, true, List, [], length, Option, None, Some, slice_get, slice_index_or, inl, inr, refl, sym, ap, ap₂, subst, ◌∙◌, arith}
 use Rattle.std.specs.Option.{is_some}
 use Rattle.std.proofs.lemmas.Bool.{cases_lt}
 use Rattle.std.proofs.lemmas.List.{get_or_past}
@@ -15,10 +15,8 @@ use Rattle.plan_rules.specs.Loads.{AreLoads, arrival_at, departure_at}
 use Rattle.plan_rules.proofs.CountFacts.{AreTripsOrNone-length}
 use Rattle.time_windows.specs.Boxes.{Box}
 use Rattle.lagrange_bound.specs.Moves.{AreMoved, moved_by_times, moved_price}
-use Rattle.lagrange_bound.specs.Rounds.{HasNoTrip, cost_weight, IsMovedBy, IsRoundStep, is_by, moved, moved_by_capacity, moved_by_turn, step_of}
+use Rattle.lagrange_bound.specs.Rounds.{IsMovedBy, IsRoundStep, is_by, moved, moved_by_capacity, moved_by_turn, step_of}
 use Rattle.lagrange_bound.specs.Taking.{HaveTaken, IsTakenSum}
-use Rattle.lagrange_bound.specs.Sums.{less}
-use Rattle.priced_plans.specs.Values.{IsPricedValue, limit_price}
 use Rattle.lagrange_bound.proofs.TakeFacts.{all_taken}
 
 module _ (parts : Parts) (trips : List (List Stop)) (loads : Tally)
@@ -109,7 +107,7 @@ module _ (parts : Parts) (trips : List (List Stop)) (loads : Tally)
     };
   }
 
--- a round, once the trips are taken or a flight has none
+-- a round, once the trips are taken
 pub round_played : (parts : Parts) (box : Box) (round step : ℕ) (loads : Tally)
     (old new : PriceTable) → ArePricesOf parts old → step ≡ step_of round
     → HaveTaken parts box old (length parts.flights) loads
@@ -124,34 +122,10 @@ round_played parts box round step loads old new sized is (trips, have) made = in
   },
 )
 
-pub round_left : (parts : Parts) (box : Box) (round : ℕ) (table : PriceTable)
-    → (number : ℕ) × HasNoTrip parts box number → IsRoundStep parts box round table table
-round_left parts box round table (number, none) =
-    inr (number, record { none = none; same = refl })
-
--- what the sum of the least trips tells
+-- the trips are taken where there is a sum of what they cost
 module _ (parts : Parts) (box : Box) (table : PriceTable) (loads : Tally) where
   pub trips_taken : (sum : Option ℤ) (some : Bool)
       → IsTakenSum parts box table (length parts.flights) loads sum → is_some sum ≡ some
       → some ≡ true → HaveTaken parts box table (length parts.flights) loads
   trips_taken None some is told yes' = let no : ⊥ = cc in absurd no
   trips_taken (Some sum) some is told yes' = is.trips
-
-  pub trip_missing : (sum : Option ℤ) (some : Bool)
-      → IsTakenSum parts box table (length parts.flights) loads sum → is_some sum ≡ some
-      → some ≡ false → (number : ℕ) × HasNoTrip parts box number
-  trip_missing None some is told no' = is
-  trip_missing (Some sum) some is told no' = let no : ⊥ = cc in absurd no
-
-  pub value_told : (sum value : Option ℤ)
-      → IsTakenSum parts box table (length parts.flights) loads sum
-      → value ≡ less sum (limit_price parts table)
-      → MatchOption value ((number : ℕ) × HasNoTrip parts box number)
-      (IsPricedValue parts box cost_weight table)
-  value_told None value is told =
-      subst (λ v. MatchOption v ((number : ℕ) × HasNoTrip parts box number)
-      (IsPricedValue parts box cost_weight table)) (sym told) is
-  value_told (Some sum) value is told =
-      subst (λ v. MatchOption v ((number : ℕ) × HasNoTrip parts box number)
-      (IsPricedValue parts box cost_weight table)) (sym told)
-      (record { sum = sum; least = is.priced; less = refl })

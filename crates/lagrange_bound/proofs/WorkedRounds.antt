@@ -381,13 +381,13 @@ rounded least = record {
 first_bound : IsRoundBound two all_open 0 (AtLeast (pos 0))
 first_bound = (
   table_with 0,
-  pos 0,
-  record { prices = no_round; priced = value_is 0 (omega arith); rounded = rounded 0 },
+  no_round,
+  (pos 0, record { priced = value_is 0 (omega arith); rounded = rounded 0 }),
 )
 
 second_bound : IsRoundBound two all_open 1 (AtLeast (pos 1))
 second_bound = (
   table_with 1024,
-  pos 1024,
-  record { prices = one_round; priced = value_is 1024 (omega arith); rounded = rounded 1 },
+  one_round,
+  (pos 1024, record { priced = value_is 1024 (omega arith); rounded = rounded 1 }),
 )

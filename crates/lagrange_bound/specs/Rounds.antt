@@ -122,18 +122,20 @@ pub record IsRoundedUp (value : ℤ) (weight : ℕ) (least : ℤ) : Type 0 where
   pub reached : value ≤ℤ (least *ℤ pos weight)
   pub below : (c : ℤ) → value ≤ℤ (c *ℤ pos weight) → least ≤ℤ c
 
--- what the prices after so many rounds tell, in units of cost
-pub record IsRoundValue (parts : Parts) (box : Box) (round : ℕ) (least : ℤ)
-    (table : PriceTable) (value : ℤ) : Type 0 where
-  pub prices : IsRoundTable parts box round table
+-- what prices tell: their value, in units of cost
+pub record IsTold (parts : Parts) (box : Box) (table : PriceTable) (least value : ℤ) : Type 0 where
   pub priced : IsPricedValue parts box cost_weight table value
   pub rounded : IsRoundedUp value cost_weight least
 
 -- NoPlan where a flight has no trip in the box
+abbrev pub IsTableBound : Parts → Box → PriceTable → Bound → Type 0
+IsTableBound parts box table NoPlan = (number : ℕ) × HasNoTrip parts box number
+IsTableBound parts box table (AtLeast least) = (value : ℤ) × IsTold parts box table least value
+
+-- what the prices after so many rounds tell
 abbrev pub IsRoundBound : Parts → Box → ℕ → Bound → Type 0
-IsRoundBound parts box round NoPlan = (number : ℕ) × HasNoTrip parts box number
-IsRoundBound parts box round (AtLeast least) =
-    (table : PriceTable) × (value : ℤ) × IsRoundValue parts box round least table value
+IsRoundBound parts box round bound =
+    (table : PriceTable) × IsRoundTable parts box round table × IsTableBound parts box table bound
 
 -- no feasible plan in the box costs less; there is none below NoPlan
 abbrev pub BoundsAll : Parts → Box → Bound → Type 0

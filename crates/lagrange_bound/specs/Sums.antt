@@ -1,11 +1,14 @@
 -- Sums of prices times capacities, as far as they are made.
-use Rattle.std.specs.Prelude.{ℕ, ◌*◌, sum_by, Option, None, Some, ℤ, pos, ◌-ℤ◌}
+use Rattle.std.specs.Prelude.{◌≡◌, ℕ, ◌*◌, ◌^◌, sum_by, Option, None, Some, ℤ, pos, ◌+ℤ◌, ◌-ℤ◌}
 use Rattle.std.specs.List.{range_with_len}
+use Rattle.flow_types.specs.declared.bound.Bound.{Bound}
+use Rattle.flow_types.specs.declared.bound.Bound.TheVariants.{AtLeast, NoPlan}
 use Rattle.flow_types.specs.declared.parts.Parts.{Parts}
 use Rattle.flow_types.specs.declared.place.CapKind.{CapKind}
 use Rattle.flow_types.specs.declared.place.CapKind.TheVariants as kind
 use Rattle.flow_types.specs.Capacities.{capacity_of}
 use Rattle.flight_routes.specs.Prices.{Block, PriceTable, price_in}
+use Rattle.lagrange_bound.specs.Rounds.{IsRoundedUp, cost_weight}
 
 -- the prices that stand on capacities of a kind
 abbrev pub block_of : PriceTable → CapKind → Block
@@ -31,3 +34,21 @@ rows_price parts kind table places =
 abbrev pub less : Option ℤ → ℕ → Option ℤ
 less None paid = None
 less (Some sum) paid = Some (sum -ℤ pos paid)
+
+-- no value lies as far below 0 as this, times the weight
+abbrev pub depth : ℕ
+depth = 2 ^ 109
+
+-- the number is so much more than the value
+abbrev pub IsShifted : Option ℤ → Option ℕ → Type 0
+IsShifted None None = Unit {0}
+IsShifted None (Some size) = ⊥
+IsShifted (Some value) None = ⊥
+IsShifted (Some value) (Some size) = pos size ≡ value +ℤ pos (depth * cost_weight)
+
+-- what a value tells
+abbrev pub IsBoundOf : Option ℤ → Bound → Type 0
+IsBoundOf None NoPlan = Unit {0}
+IsBoundOf None (AtLeast least) = ⊥
+IsBoundOf (Some value) NoPlan = ⊥
+IsBoundOf (Some value) (AtLeast least) = IsRoundedUp value cost_weight least

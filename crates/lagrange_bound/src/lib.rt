@@ -9,8 +9,8 @@
 //!     let mut rounds = Rounds::new(alloc, &s)?;
 //!     for round in 1..101 {
 //!         match rounds.step(&s, &boxes, round) {
-//!             Some(value) => println!("the prices before round {round} are worth {value}"),
-//!             None => println!("a flight has no trip in the box"),
+//!             Bound::AtLeast(least) => println!("no plan in the box costs less than {least}"),
+//!             Bound::NoPlan => println!("a flight has no trip in the box"),
 //!         }
 //!     }
 //!     let price = rounds.prices().departure(place, period);
@@ -24,10 +24,10 @@
 //! serve the proof.
 //!
 //! Proved: `step` moves the prices exactly as a round does (`step`), by the first of the least trips
-//! of each flight, and answers exactly the value of the prices that it began with, or that a flight
-//! has no trip (`value`). The bound of each round is a bound on the feasible plans in the box
-//! (`round_bounds_are_bounds`). Nothing is said of how good it is. `proofs/WorkedRounds.antt` has a
-//! round worked out.
+//! of each flight, and answers exactly the bound that the prices tell which it began with, or that a
+//! flight has no trip (`bound`). That is a bound on the feasible plans in the box (`sound`), and so
+//! is that of any round (`round_bounds_are_bounds`). Nothing is said of how good it is.
+//! `proofs/WorkedRounds.antt` has a round worked out.
 //!
 //! Memory: prices and loads, 36 bytes a place and period, eight a connection and period and eight a
 //! flight, and the room for least trips, 0.9 MB, once. `step` takes none. Time: `step` finds a least

@@ -1,22 +1,22 @@
 //! Prices that are found in rounds.
-ghost use Rattle.std.specs.Prelude.{◌≡◌, ◌≤◌, ◌<◌, ◌+◌, ◌*◌, ℕ, MatchOption};
+ghost use Rattle.std.specs.Prelude.{◌≡◌, ◌≤◌, ◌<◌, ◌+◌, ◌*◌};
 ghost use Rattle.flow_types.specs.declared.bound.PriceKey.{PriceKey};
 ghost use Rattle.flow_types.specs.Scenario.{parts_of};
 ghost use Rattle.flight_routes.specs.Prices.{ArePricesOf, price_at};
 ghost use Rattle.flight_routes.specs.Work.{IsWorkFor};
 ghost use Rattle.plan_rules.specs.Loads.{IsMadeFor as AreLoadsFor};
 ghost use Rattle.time_windows.specs.Held.{IsMadeFor, box_of};
-ghost use Rattle.priced_plans.specs.Values.{IsPricedValue};
 ghost use Rattle.lagrange_bound.specs.Moves.{IsKeyFor, most_rise};
-ghost use Rattle.lagrange_bound.specs.Rounds.{HasNoTrip, IsRoundStep, cost_weight};
+ghost use Rattle.lagrange_bound.specs.Rounds.{IsRoundStep, IsTableBound};
 ghost use Rattle.lagrange_bound.specs.Work.{most_rounds};
 
 use crate::moves::move_prices;
 use crate::taking::take_trips;
-use crate::values::value_of;
+use crate::values::{bound_of, value_of};
 use flight_routes::{Prices, Work};
-use flow_types::{OutOfMemory, Scenario};
+use flow_types::{Bound, OutOfMemory, Scenario};
 use plan_rules::Loads;
+use priced_plans::priced_values_are_bounds;
 use std::alloc::Global;
 use std::marker::Model;
 use time_windows::Boxes;
@@ -43,12 +43,11 @@ impl Model for Rounds {
 }
 
 impl Rounds {
-    ghost use Rattle.std.specs.Prelude.{◌≡◌, ◌≤◌, ◌<◌, ◌+◌, ℕ, MatchOption, IfOk};
+    ghost use Rattle.std.specs.Prelude.{◌≡◌, ◌≤◌, ◌<◌, ◌+◌, IfOk};
     ghost use Rattle.flow_types.specs.Scenario.{parts_of};
     ghost use Rattle.flight_routes.specs.Prices.{AreFree};
     ghost use Rattle.time_windows.specs.Held.{IsMadeFor, box_of};
-    ghost use Rattle.priced_plans.specs.Values.{IsPricedValue};
-    ghost use Rattle.lagrange_bound.specs.Rounds.{HasNoTrip, IsRoundStep, cost_weight};
+    ghost use Rattle.lagrange_bound.specs.Rounds.{BoundsAll, IsRoundStep, IsTableBound};
     ghost use Rattle.lagrange_bound.specs.Work.{IsRoomFor, most_rounds};
 
     /// Room for the rounds of the scenario, with prices of 0.
@@ -64,20 +63,20 @@ impl Rounds {
     }
 
     /// The next round on a box: moves the prices by the least trips under them, or leaves them where
-    /// a flight has no trip in the box. Answers the value of the prices that it began with, nothing
-    /// where a flight has no trip.
-    pub fn step(&mut self, s: &Scenario, boxes: &Boxes, round: u32) -> Option<i128>
+    /// a flight has no trip in the box. Answers the bound that the prices tell which it began
+    /// with: no feasible plan in the box costs less.
+    pub fn step(&mut self, s: &Scenario, boxes: &Boxes, round: u32) -> Bound
         requires made { IsRoomFor (parts_of s.now) round self.old }
         requires boxes { IsMadeFor (parts_of s.now) boxes.now }
         requires some { 1 ≤ round }
         requires few { round ≤ most_rounds }
         ensures step { IsRoundStep (parts_of s.now) (box_of boxes.now) round self.old.prices
             self.new.prices }
-        ensures value { MatchOption result
-            ((number : ℕ) × HasNoTrip (parts_of s.now) (box_of boxes.now) number)
-            (IsPricedValue (parts_of s.now) (box_of boxes.now) cost_weight self.old.prices) }
+        ensures bound { IsTableBound (parts_of s.now) (box_of boxes.now) self.old.prices result }
+        ensures sound { BoundsAll (parts_of s.now) (box_of boxes.now) result }
         ensures made { IsRoomFor (parts_of s.now) (round + 1) self.new }
     {
+        priced_values_are_bounds();
         play_round(
             s,
             boxes,
@@ -104,7 +103,7 @@ fn play_round(
     prices: &mut Prices,
     work: &mut Work,
     loads: &mut Loads,
-) -> Option<i128>
+) -> Bound
     requires boxes { IsMadeFor (parts_of s.now) boxes.now }
     requires some { 1 ≤ round }
     requires few { round ≤ most_rounds }
@@ -114,9 +113,7 @@ fn play_round(
     requires work { IsWorkFor (parts_of s.now) work.old }
     requires loads { AreLoadsFor (parts_of s.now) loads.old }
     ensures step { IsRoundStep (parts_of s.now) (box_of boxes.now) round prices.old prices.new }
-    ensures value { MatchOption result
-        ((number : ℕ) × HasNoTrip (parts_of s.now) (box_of boxes.now) number)
-        (IsPricedValue (parts_of s.now) (box_of boxes.now) cost_weight prices.old) }
+    ensures bound { IsTableBound (parts_of s.now) (box_of boxes.now) prices.old result }
     ensures prices { ArePricesOf (parts_of s.now) prices.new }
     ensures low { (key : PriceKey) → IsKeyFor (parts_of s.now) key
         → price_at prices.new key ≤ (round + 1) * most_rise }
@@ -125,9 +122,9 @@ fn play_round(
 {
     loads.clear();
     let sum = take_trips(s, boxes, prices, work, loads);
-    let value = value_of(s, prices, sum);
+    let bound = bound_of(value_of(s, prices, sum));
     if sum.is_some() {
         move_prices(s, loads, 1024 / u64::from(round), prices);
     }
-    value
+    bound
 }

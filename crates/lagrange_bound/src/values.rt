@@ -1,13 +1,14 @@
 //! The value that prices have: what least trips pay under them, less what all capacities would.
-ghost use Rattle.std.specs.Prelude.{◌≡◌, ◌≤◌, ◌<◌, ◌*◌, ◌^◌, IfSome, length};
+ghost use Rattle.std.specs.Prelude.{◌≡◌, ◌≤◌, ◌<◌, ◌*◌, ◌^◌, ◌+◌, IfSome, length, pos, ◌-ℤ◌};
+ghost use Rattle.flow_types.specs.declared.bound.Bound.TheVariants.{AtLeast};
 ghost use Rattle.flow_types.specs.Scenario.{parts_of};
 ghost use Rattle.flight_routes.specs.Prices.{ArePricesOf, IsPlaceIn, price_in};
 ghost use Rattle.flight_routes.specs.Rates.{IsValueWithin};
 ghost use Rattle.priced_plans.specs.Values.{capacity_price, limit_price};
-ghost use Rattle.lagrange_bound.specs.Sums.{block_of, cell_price, less, row_price, rows_price};
+ghost use Rattle.lagrange_bound.specs.Sums.{IsBoundOf, IsShifted, block_of, cell_price, depth, less, row_price, rows_price};
 
 use flight_routes::Prices;
-use flow_types::{CapKind, Scenario, capacity_at};
+use flow_types::{Bound, CapKind, Scenario, capacity_at};
 
 // The price that stands on a capacity.
 fn price_of(prices: &Prices, kind: CapKind, place: u32, period: u16) -> u64
@@ -88,7 +89,8 @@ fn limit_price(s: &Scenario, prices: &Prices) -> u128
 fn less(sum: Option<i128>, paid: u128) -> Option<i128>
     requires sum { IfSome sum (IsValueWithin (2 ^ 100)) }
     requires paid { paid ≤ 2 ^ 116 }
-    ensures { result ≡ less sum paid }
+    ensures value { result ≡ less sum paid }
+    ensures near { IfSome result (IsValueWithin (2 ^ 117)) }
 {
     match sum {
         None => None,
@@ -100,7 +102,55 @@ fn less(sum: Option<i128>, paid: u128) -> Option<i128>
 pub fn value_of(s: &Scenario, prices: &Prices, sum: Option<i128>) -> Option<i128>
     requires prices { ArePricesOf (parts_of s.now) prices.now }
     requires sum { IfSome sum (IsValueWithin (2 ^ 100)) }
-    ensures { result ≡ less sum (limit_price (parts_of s.now) prices.now) }
+    ensures value { result ≡ less sum (limit_price (parts_of s.now) prices.now) }
+    ensures near { IfSome result (IsValueWithin (2 ^ 117)) }
 {
     less(sum, limit_price(s, prices))
+}
+
+// 2^109, and that times the weight: no value lies as far below 0.
+const DEPTH: i128 = 649037107316853453566312041152512;
+
+const SHIFT: i128 = 664613997892457936451903530140172288;
+
+// So much more.
+fn shifted(value: Option<i128>) -> Option<u128>
+    requires near { IfSome value (IsValueWithin (2 ^ 117)) }
+    ensures shifted { IsShifted value result }
+    ensures small { IfSome result (λ size. size ≤ 2 ^ 120) }
+{
+    match value {
+        None => None,
+        Some(value) => Some((value + SHIFT).unsigned_abs()),
+    }
+}
+
+// Divided by the weight and rounded up.
+fn rounded(size: u128) -> u128
+    requires { size ≤ 2 ^ 120 }
+    ensures low { result * 1024 ≤ size + 1023 }
+    ensures high { size < result * 1024 + 1 }
+    ensures small { result ≤ 2 ^ 120 }
+{
+    (size + 1023) / 1024
+}
+
+// The bound that is so much less.
+fn lowered(size: u128) -> Bound
+    requires { size ≤ 2 ^ 120 }
+    ensures { result ≡ AtLeast (pos size -ℤ pos depth) }
+{
+    Bound::AtLeast(size as i128 - DEPTH)
+}
+
+/// What a value tells: that, divided by the weight and rounded up; that no plan exists where there
+/// is none.
+pub fn bound_of(value: Option<i128>) -> Bound
+    requires near { IfSome value (IsValueWithin (2 ^ 117)) }
+    ensures { IsBoundOf value result }
+{
+    match shifted(value) {
+        None => Bound::NoPlan,
+        Some(size) => lowered(rounded(size)),
+    }
 }
