@@ -64,7 +64,8 @@ module _ (parts : Parts) (trips : List (List Stop)) (loads : Tally)
         long = made.size.departures.long ∙ sym sized.departures.long;
       };
       prices = λ k t place.
-          let within : k < length parts.places = omega (arith, sized.departures.wide, place.within) in
+          let within : k < length parts.places =
+          omega (arith, sized.departures.wide, place.within) in
           let in_day : t < parts.day.periods = omega (arith, sized.departures.long, place.in_day) in
           made.each (key.Dep k t) (within, in_day)
           ∙ ap (λ n. moved_by_capacity parts kind.Dep step k t n (price_in old.departures k t))
@@ -76,7 +77,8 @@ module _ (parts : Parts) (trips : List (List Stop)) (loads : Tally)
         long = made.size.arrivals.long ∙ sym sized.arrivals.long;
       };
       prices = λ k t place.
-          let within : k < length parts.places = omega (arith, sized.arrivals.wide, place.within) in
+          let within : k < length parts.places =
+          omega (arith, sized.arrivals.wide, place.within) in
           let in_day : t < parts.day.periods = omega (arith, sized.arrivals.long, place.in_day) in
           made.each (key.Arr k t) (within, in_day)
           ∙ ap (λ n. moved_by_capacity parts kind.Arr step k t n (price_in old.arrivals k t))
@@ -88,7 +90,8 @@ module _ (parts : Parts) (trips : List (List Stop)) (loads : Tally)
         long = made.size.inside.long ∙ sym sized.inside.long;
       };
       prices = λ k t place.
-          let within : k < length parts.places = omega (arith, sized.inside.wide, place.within) in
+          let within : k < length parts.places =
+          omega (arith, sized.inside.wide, place.within) in
           let in_day : t < parts.day.periods = omega (arith, sized.inside.long, place.in_day) in
           made.each (key.Sector k t) (within, in_day)
           ∙ ap (λ n. moved_by_capacity parts kind.Sector step k t n (price_in old.inside k t))
@@ -100,7 +103,8 @@ module _ (parts : Parts) (trips : List (List Stop)) (loads : Tally)
         long = made.size.turns.long ∙ sym sized.turns.long;
       };
       prices = λ k t place.
-          let within : k < length parts.connections = omega (arith, sized.turns.wide, place.within) in
+          let within : k < length parts.connections =
+          omega (arith, sized.turns.wide, place.within) in
           let in_day : t < parts.day.periods = omega (arith, sized.turns.long, place.in_day) in
           made.each (key.Connect k t) (within, in_day)
           ∙ turn_is step (slice_get parts.connections k) t (price_in old.turns k t);

@@ -20,18 +20,17 @@
 //!
 //! `specs/Rounds.antt` says what a round is, what the prices are after so many of them, and what
 //! bound they tell: their value (`priced_plans`), divided by the weight and rounded up. `Work` is
-//! what `Rounds` is seen as. `Moves`, `Sums` and `Taking`
-//! serve the proof.
+//! what `Rounds` is seen as. `Moves`, `Sums` and `Taking` serve the proof.
 //!
-//! Proved: `step` moves the prices exactly as a round does (`step`), by the first of the least trips
-//! of each flight, and answers exactly the bound that the prices tell which it began with, or that a
-//! flight has no trip (`bound`). That is a bound on the feasible plans in the box (`sound`), and so
-//! is that of any round (`round_bounds_are_bounds`). Nothing is said of how good it is.
-//! `proofs/WorkedRounds.antt` has a round worked out.
+//! Proved: `step` moves the prices exactly as a round does (`step`), by the first of the least
+//! trips of each flight, and answers exactly the bound that the prices tell which it began with,
+//! or that a flight has no trip (`bound`). That is a bound on the feasible plans in the box
+//! (`sound`), and so is that of any round (`round_bounds_are_bounds`). Nothing is said of how good
+//! it is. `proofs/WorkedRounds.antt` has a round worked out.
 //!
-//! Memory: prices and loads, 36 bytes a place and period, eight a connection and period and eight a
-//! flight, and the room for least trips, 0.9 MB, once. `step` takes none. Time: `step` finds a least
-//! trip for each flight, and looks at each price twice.
+//! Memory: prices and loads, 36 bytes a place and period, eight a connection and period and eight
+//! a flight, and the room for least trips, 0.9 MB, once. `step` takes none. Time: `step` finds a
+//! least trip for each flight, and looks at each price twice.
 #![tactic(auto)]
 
 mod laws;

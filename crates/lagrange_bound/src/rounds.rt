@@ -62,9 +62,9 @@ impl Rounds {
         })
     }
 
-    /// The next round on a box: moves the prices by the least trips under them, or leaves them where
-    /// a flight has no trip in the box. Answers the bound that the prices tell which it began
-    /// with: no feasible plan in the box costs less.
+    /// The next round on a box: moves the prices by the least trips under them, or leaves them
+    /// where a flight has no trip in the box. Answers the bound that the prices tell which it
+    /// began with: no feasible plan in the box costs less. Rounds count from 1. It takes no memory.
     pub fn step(&mut self, s: &Scenario, boxes: &Boxes, round: u32) -> Bound
         requires made { IsRoomFor (parts_of s.now) round self.old }
         requires boxes { IsMadeFor (parts_of s.now) boxes.now }
