@@ -25,7 +25,8 @@ use Rattle.time_windows.specs.Boxes.{Box, IsInWindow}
 use Rattle.worked_days.specs.Days.{beside, flight_with, legs_with, plan_with, stop_at, there, trip_at, two_flights}
 use Rattle.worked_days.proofs.WorkedDay.{all_below}
 use Rattle.priced_plans.specs.Values.{IsPricedValue, limit_price}
-use Rattle.lagrange_bound.specs.Rounds.{AreLeastTrips, IsLeastTrip, IsMoved, IsMovedBy, IsRoundBound, IsRoundStep, IsRoundTable, IsRoundedUp, moved_by_capacity, moved_by_turn}
+use Rattle.priced_plans.specs.PricedBound.{IsRoundedUp}
+use Rattle.lagrange_bound.specs.Rounds.{AreLeastTrips, IsLeastTrip, IsMoved, IsMovedBy, IsRoundBound, IsRoundStep, IsRoundTable, moved_by_capacity, moved_by_turn}
 
 abbrev two : Parts
 two = two_flights 1 9 9

@@ -16,6 +16,7 @@ use Rattle.flow_types.specs.Trips.{arrival_of, departure_of}
 use Rattle.flight_routes.specs.Inside.{IsTripIn}
 use Rattle.flight_routes.specs.Prices.{AreFree, ArePricesOf, Block, IsPlaceIn, IsSized, PriceTable, price_in, priced_cost}
 use Rattle.flight_routes.specs.TripOrder.{IsNoLater}
+use Rattle.priced_plans.specs.PricedBound.{IsRoundedUp}
 use Rattle.priced_plans.specs.Values.{HasNoPlan, IsPricedValue}
 use Rattle.time_windows.specs.Boxes.{Box, IsInBox}
 
@@ -116,11 +117,6 @@ IsRoundTable parts box zero table = ArePricesOf parts table × AreFree table
 IsRoundTable parts box (suc before) table =
     (old : PriceTable) × IsRoundTable parts box before old
     × IsRoundStep parts box (suc before) old table
-
--- the value divided by the weight and rounded up: the least number that is no less
-pub record IsRoundedUp (value : ℤ) (weight : ℕ) (least : ℤ) : Type 0 where
-  pub reached : value ≤ℤ (least *ℤ pos weight)
-  pub below : (c : ℤ) → value ≤ℤ (c *ℤ pos weight) → least ≤ℤ c
 
 -- what prices tell: their value, in units of cost
 pub record IsTold (parts : Parts) (box : Box) (table : PriceTable) (least value : ℤ) : Type 0 where

@@ -41,9 +41,9 @@ mod bound;
 mod laws;
 mod value;
 
-pub use bound::priced_bound;
+pub use bound::{priced_bound, rounded_up};
 pub use laws::{
     plans_pay_by_counts, plans_pay_no_more_than_capacities, priced_bounds_are_bounds,
     priced_values_are_bounds, prices_are_small,
 };
-pub use value::priced_value;
+pub use value::{limit_price, priced_value};

@@ -88,8 +88,9 @@ fn plus(sum: Option<i128>, cost: Option<i128>) -> Option<i128>
     }
 }
 
-// What all departures, arrivals and flights inside sectors that there is room for would pay.
-fn limit_price(s: &Scenario, prices: &Prices) -> u128
+/// What all departures, arrivals and flights inside sectors that there is room for would pay. The
+/// prices are of the scenario. It takes no memory, and time for each place and period.
+pub fn limit_price(s: &Scenario, prices: &Prices) -> u128
     requires { ArePricesOf (parts_of s.now) prices.now }
     ensures value { result ≡ limit_price (parts_of s.now) prices.now }
     ensures small { result ≤ 2 ^ 122 }
