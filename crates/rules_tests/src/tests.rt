@@ -9,6 +9,7 @@ ghost use Rattle.worked_days.specs.Days as days;
 use flight_routes::{Prices, Work};
 use flow_types::{Bound, CapKind, OutOfMemory, Plan, PriceKey, Scenario, Stop};
 use greedy_plan::{Greedy, first_bound, first_plan};
+use lagrange_bound::Rounds;
 use plan_rules::{
     Loads, Verdict, cost, first_broken_rules_are_first, judge,
     plans_that_break_nothing_are_feasible, trips_are_counted_once,
@@ -182,6 +183,17 @@ fn the_costs_of_a_day_are_bounded(rt: HostRuntime) -> Result<(), Fail> {
     let s = two_flights(alloc, 1, 9, 9)?;
     let boxes = tight_root(&rt, alloc, &s)?;
     assert_eq!(rt; first_bound(alloc, &s, &boxes)?, Bound::AtLeast(0));
+    Ok(())
+}
+
+#[test]
+fn rounds_of_prices_bound_a_day(rt: HostRuntime) -> Result<(), Fail> {
+    let alloc = rt.alloc();
+    let s = two_flights(alloc, 1, 9, 9)?;
+    let boxes = tight_root(&rt, alloc, &s)?;
+    let mut rounds = Rounds::new(alloc, &s)?;
+    assert_eq!(rt; rounds.step(&s, &boxes, 1), Bound::AtLeast(0));
+    assert_eq!(rt; rounds.step(&s, &boxes, 2), Bound::AtLeast(1));
     Ok(())
 }
 
