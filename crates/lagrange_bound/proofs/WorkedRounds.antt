@@ -2,11 +2,10 @@
 -- both leave in the first period, and the bound is 0. So that period's departures pay 1024 after
 -- one round, and the bound is 1, which is what the best plan costs.
 use Rattle.std.proofs.Common.{◌≡◌, ◌⊎◌, ℕ, zero, suc, ◌+◌, ◌*◌, ◌<◌, ◌≤◌, Bool, false, true, nat_eq, List, [], ◌∷◌, replicate, slice_get, slice_index, Option, Some, ℤ, pos, negsuc, ◌+ℤ◌, ◌-ℤ◌, ◌*ℤ◌, ◌≤ℤ◌, inl, inr, refl, sym, ap, ap₂, subst, arith}
-use Rattle.std.proofs.lemmas.Bool.{and_parts, cases_lt, false≢true}
+use Rattle.std.proofs.lemmas.Bool.{and_parts, cases_lt}
 use Rattle.std.proofs.lemmas.Bool.Decides.{nat_tests}
 use Rattle.std.proofs.lemmas.Int.{ints}
 use Rattle.exact_sums.specs.Leasts.{IsLeastAt}
-use Rattle.exact_sums.proofs.ShortLists.{all_three}
 use Rattle.flow_types.specs.declared.bound.Bound.TheVariants.{AtLeast}
 use Rattle.flow_types.specs.declared.bound.PriceKey.TheVariants as key
 use Rattle.flow_types.specs.declared.flight.Cost.TheVariants.{Linear}
@@ -21,11 +20,12 @@ use Rattle.flow_types.specs.Trips.{IsOnward, IsStep, IsTrip}
 use Rattle.flight_routes.specs.Inside.{IsTripIn}
 use Rattle.flight_routes.specs.Prices.{AreFree, ArePricesOf, Block, PriceTable, price_in, priced_cost, priced_cost_of, stays_price}
 use Rattle.flight_routes.specs.TripOrder.{IsNoLater}
-use Rattle.time_windows.specs.Boxes.{Box, IsInWindow}
+use Rattle.time_windows.specs.Boxes.{Box}
 use Rattle.worked_days.specs.Days.{beside, flight_with, legs_with, plan_with, stop_at, there, trip_at, two_flights}
 use Rattle.worked_days.proofs.WorkedDay.{all_below}
 use Rattle.priced_plans.specs.Values.{IsPricedValue, limit_price}
 use Rattle.priced_plans.specs.PricedBound.{IsRoundedUp}
+use Rattle.priced_plans.proofs.WorkedPrices.{on_time as trip_on_time}
 use Rattle.lagrange_bound.specs.Rounds.{AreLeastTrips, IsLeastTrip, IsMoved, IsMovedBy, IsRoundBound, IsRoundStep, IsRoundTable, moved_by_capacity, moved_by_turn}
 
 abbrev two : Parts
@@ -177,49 +177,7 @@ module _ (first : ℕ) (low : first ≤ 1024) (number : ℕ) (name : List ℕ)
 
   -- a flight on time is in the box, and pays the price
   on_time : IsTripIn two all_open number (trip_at 0 2)
-  on_time = record {
-    flight = flight name;
-    there = is;
-    trip = (
-      refl,
-      record { early = omega arith; late = omega arith },
-      (
-        (
-          0,
-          record { from = 0; to = 1; least = 0 },
-          omega arith,
-          refl,
-          record {
-            from = refl;
-            to = refl;
-            least = omega arith;
-          },
-        ),
-        record { early = omega arith; late = omega arith },
-        (
-          (
-            1,
-            record { from = 1; to = 2; least = 2 },
-            omega arith,
-            refl,
-            record {
-              from = refl;
-              to = refl;
-              least = omega arith;
-            },
-          ),
-          record { early = omega arith; late = omega arith },
-          refl,
-        ),
-      ),
-    );
-    inside = record {
-      windows = all_three
-          (λ (stop : Stop). IsInWindow (all_open number stop.node).window stop.time) _ _ _
-          (omega arith, omega arith) (omega arith, omega arith) (omega arith, omega arith);
-      musts = λ node must. absurd (false≢true must);
-    };
-  }
+  on_time = trip_on_time number name is
 
   on_time_costs : cost_of (trip_at 0 2) ≡ pos first
   on_time_costs = omega (arith, ints)

@@ -1,5 +1,5 @@
 -- Prices that are found in rounds, each from those before it, and the bound that a round tells.
-use Rattle.std.specs.Prelude.{◌≡◌, ◌⊎◌, ◌<◌, ℕ, zero, suc, ◌+◌, ◌-◌, ◌*◌, ◌/◌, nat_le, if◌then◌else◌, List, [], length, Option, None, Some, slice_get, slice_index_or, ℤ, pos, ◌*ℤ◌, ◌≤ℤ◌}
+use Rattle.std.specs.Prelude.{◌≡◌, ◌⊎◌, ◌<◌, ℕ, zero, suc, ◌+◌, ◌-◌, ◌*◌, ◌/◌, nat_le, if◌then◌else◌, List, [], length, Option, None, Some, slice_get, slice_index_or, ℤ, ◌≤ℤ◌}
 use Rattle.exact_sums.specs.Leasts.{IsFirstLeast}
 use Rattle.flow_types.specs.declared.bound.Bound.{Bound}
 use Rattle.flow_types.specs.declared.bound.Bound.TheVariants.{AtLeast, NoPlan}

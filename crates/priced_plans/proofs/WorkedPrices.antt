@@ -18,7 +18,7 @@ use Rattle.flight_routes.specs.Inside.{IsTripIn}
 use Rattle.flight_routes.specs.Prices.{ArePricesOf, Block, PriceTable, price_in, priced_cost, priced_cost_of, stays_price}
 use Rattle.time_windows.specs.Boxes.{Box, IsInWindow}
 use Rattle.worked_days.specs.Days.{beside, flight_with, legs_with, plan_with, there, there_and_back, trip_at, two_flights}
-use Rattle.worked_days.proofs.WorkedDay.{two_flights-valid}
+use Rattle.worked_days.proofs.WorkedDay.{trip_is, two_flights-valid}
 use Rattle.priced_plans.specs.Values.{BoundsPlans, IsPricedValue, limit_price, loads_price, plan_price, turns_price}
 use Rattle.priced_plans.proofs.ValueFacts.{value-below}
 
@@ -128,44 +128,13 @@ costs_one name number (stop ∷ rest) trip =
     (late_costs stop.time (arrival_from stop rest) long) (departs_dear stop.time)
 
 -- a flight on time is in the box
-on_time : (number : ℕ) (name : List ℕ) → slice_get two.flights number ≡ Some (flight name)
+pub on_time : (number : ℕ) (name : List ℕ) → slice_get two.flights number ≡ Some (flight name)
     → IsTripIn two all_open number (trip_at 0 2)
 on_time number name is = record {
   flight = flight name;
   there = is;
-  trip = (
-    refl,
-    record { early = omega arith; late = omega arith },
-    (
-      (
-        0,
-        record { from = 0; to = 1; least = 0 },
-        omega arith,
-        refl,
-        record {
-          from = refl;
-          to = refl;
-          least = omega arith;
-        },
-      ),
-      record { early = omega arith; late = omega arith },
-      (
-        (
-          1,
-          record { from = 1; to = 2; least = 2 },
-          omega arith,
-          refl,
-          record {
-            from = refl;
-            to = refl;
-            least = omega arith;
-          },
-        ),
-        record { early = omega arith; late = omega arith },
-        refl,
-      ),
-    ),
-  );
+  trip = trip_is name 0 1 0 (Linear 1 2) 0 2 (omega arith) (omega arith) (omega arith)
+      (omega arith) (omega arith);
   inside = record {
     windows = all_three
         (λ (stop : Stop). IsInWindow (all_open number stop.node).window stop.time) _ _ _
