@@ -108,6 +108,13 @@ pub record ArePricesOf (parts : Parts) (table : PriceTable) : Type 0 where
   pub inside : IsSized (length parts.places) parts.day.periods table.inside
   pub turns : IsSized (length parts.connections) parts.day.periods table.turns
 
+-- two tables of the same size
+pub record AreAlike (a b : PriceTable) : Type 0 where
+  pub departures : IsSized b.departures.rows b.departures.periods a.departures
+  pub arrivals : IsSized b.arrivals.rows b.arrivals.periods a.arrivals
+  pub inside : IsSized b.inside.rows b.inside.periods a.inside
+  pub turns : IsSized b.turns.rows b.turns.periods a.turns
+
 -- every price is 0
 abbrev pub AreFree : PriceTable → Type 0
 AreFree table = (key : PriceKey) → price_at table key ≡ 0

@@ -25,7 +25,8 @@
 //! Proved: `least_trip` and `least_fit` answer the least over all trips of the flight in the box,
 //! or over all of those that fit, and nothing exactly where there is none (`least`). `trip` is then
 //! the first, in the order of trips, of those that reach it, and has no stops where there is none
-//! (`first`). A price is what it was set to last (`here`, `others`), and 0 before (`free`).
+//! (`first`). A price is what it was set to last (`here`, `others`), and 0 before (`free`);
+//! `copy_from` takes all those of another `Prices` over.
 //!
 //! Both calls turn their question into rates of the flight: what leaving and arriving in a period
 //! cost, what being at a node has cost up to a period, and how long the flight may stay there. A

@@ -66,6 +66,14 @@ impl PriceBlock {
     {
         clear_all(&mut self.prices);
     }
+
+    /// Sets every price to that of another block of the same size.
+    pub fn copy_from(&mut self, other: &PriceBlock)
+        requires { IsSized other.now.rows other.now.periods self.old }
+        ensures { self.new ≡ other.now }
+    {
+        self.prices.copy_from_slice(&other.prices);
+    }
 }
 
 // Sets each number to zero.

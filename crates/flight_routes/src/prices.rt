@@ -35,7 +35,7 @@ impl Prices {
     ghost use Rattle.flow_types.specs.declared.bound.PriceKey.{PriceKey};
     ghost use Rattle.flow_types.specs.declared.parts.Parts.{Parts};
     ghost use Rattle.flow_types.specs.Scenario.{parts_of};
-    ghost use Rattle.flight_routes.specs.Prices.{AreFree, ArePricesOf, IsKeyOf, IsPlaceIn, price_at, price_in};
+    ghost use Rattle.flight_routes.specs.Prices.{AreAlike, AreFree, ArePricesOf, IsKeyOf, IsPlaceIn, price_at, price_in};
 
     /// The prices of the scenario, all 0.
     pub fn new(alloc: Global, s: &Scenario) -> Result<Prices, OutOfMemory>
@@ -79,6 +79,17 @@ impl Prices {
         self.arrivals.clear();
         self.inside.clear();
         self.turns.clear();
+    }
+
+    /// Sets every price to that of other prices of the same scenario. It takes no memory.
+    pub fn copy_from(&mut self, other: &Prices)
+        requires { AreAlike self.old other.now }
+        ensures { self.new ≡ other.now }
+    {
+        self.departures.copy_from(&other.departures);
+        self.arrivals.copy_from(&other.arrivals);
+        self.inside.copy_from(&other.inside);
+        self.turns.copy_from(&other.turns);
     }
 
     /// The price of a departure.
