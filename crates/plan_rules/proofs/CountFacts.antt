@@ -20,22 +20,32 @@ counted-none count none [] = refl
 counted-none count none (flight ∷ flights) =
     omega (arith, none flight, counted-none count none flights)
 
+-- a trip in place of another one counts as much more as it counts more
+pub counted-put : (count : Flight → List Stop → ℕ) (flights : List Flight)
+    (trips : List (List Stop)) (n : ℕ) (flight : Flight) (before stops : List Stop)
+    → slice_get flights n ≡ Some flight → slice_get trips n ≡ Some before
+    → counted count flights (set trips n stops) + count flight before
+    ≡ counted count flights trips + count flight stops
+counted-put count [] trips n flight before stops here held = cc
+counted-put count (f ∷ flights) [] n flight before stops here held = cc
+counted-put count (f ∷ flights) (trip ∷ trips) zero flight before stops here held =
+    let same : f ≡ flight = cc in
+    let was : trip ≡ before = cc in
+    let then : count f trip ≡ count flight before =
+    ap (λ (g : Flight). count g trip) same ∙ ap (count flight) was in
+    let now : count f stops ≡ count flight stops = ap (λ (g : Flight). count g stops) same in
+    omega arith
+counted-put count (f ∷ flights) (trip ∷ trips) (suc n) flight before stops here held =
+    omega (arith, counted-put count flights trips n flight before stops here held)
+
 -- one trip more counts as much more
 pub counted-set : (count : Flight → List Stop → ℕ) → ((flight : Flight) → count flight [] ≡ 0)
     → (flights : List Flight) (trips : List (List Stop)) (n : ℕ) (flight : Flight)
     (stops : List Stop)
     → slice_get flights n ≡ Some flight → slice_get trips n ≡ Some []
     → counted count flights (set trips n stops) ≡ counted count flights trips + count flight stops
-counted-set count none [] trips n flight stops here empty = cc
-counted-set count none (f ∷ flights) [] n flight stops here empty = cc
-counted-set count none (f ∷ flights) (trip ∷ trips) zero flight stops here empty =
-    let same : f ≡ flight = cc in
-    let nothing : trip ≡ [] = cc in
-    let before : count f trip ≡ 0 = ap (count f) nothing ∙ none f in
-    let now : count f stops ≡ count flight stops = ap (λ (g : Flight). count g stops) same in
-    omega arith
-counted-set count none (f ∷ flights) (trip ∷ trips) (suc n) flight stops here empty =
-    omega (arith, counted-set count none flights trips n flight stops here empty)
+counted-set count none flights trips n flight stops here empty =
+    omega (arith, none flight, counted-put count flights trips n flight [] stops here empty)
 
 -- if each trip counts once, there are no more than flights
 pub counted-le : (count : Flight → List Stop → ℕ) (periods : ℕ)

@@ -5,7 +5,7 @@ use Rattle.std.proofs.lemmas.Bool.Decides.{nat_tests}
 use Rattle.std.proofs.lemmas.List.{get_or-set_same, get_or-set_other, get_or_read}
 use Rattle.std.proofs.lemmas.Nat.{same_from_place}
 use Rattle.flow_types.specs.Counts.{one_if}
-use Rattle.plan_rules.specs.Grid.{Adds, count_at}
+use Rattle.plan_rules.specs.Grid.{Adds, Takes, count_at}
 use Rattle.plan_rules.specs.Cells.{Cells}
 
 one_more_by : (xs : List ℕ) (w a b k t : ℕ) → b < w → t < w → a * w + b < length xs
@@ -69,6 +69,62 @@ adds_same m n old new same adds = record {
 -- nothing
 pub adds_none : (cells : Cells) → Adds (λ k t. 0) cells cells
 adds_none cells = record { places = refl; periods = refl; each = λ k t k_in t_in fits. omega arith }
+
+one_less_by : (xs : List ℕ) (w a b k t : ℕ) → b < w → t < w → a * w + b < length xs
+    → (a * w + b ≡ k * w + t) ⊎ (a * w + b ≡ k * w + t → ⊥)
+    → get_or (set xs (a * w + b) (get_or xs (a * w + b) 0 - 1)) (k * w + t) 0
+    ≡ get_or xs (k * w + t) 0 - one_if ((a == k) && (b == t))
+one_less_by xs w a b k t b_in t_in within (inl same) =
+    let both = same_from_place a b k t w b_in t_in same in
+    let one : one_if ((a == k) && (b == t)) ≡ 1 = grind (arith, nat_tests) in
+    let here = ap (λ i. get_or
+    (set xs (a * w + b) (get_or xs (a * w + b) 0 - 1)) i 0) (sym same) in
+    let put = get_or-set_same xs (a * w + b) (get_or xs (a * w + b) 0 - 1) 0 within in
+    let there = ap (λ i. get_or xs i 0) same in
+    here ∙ put ∙ omega arith
+one_less_by xs w a b k t b_in t_in within (inr other) =
+    let none : one_if ((a == k) && (b == t)) ≡ 0 = grind (arith, nat_tests, ap (λ n. n * w + t)) in
+    get_or-set_other xs (a * w + b) (k * w + t) _ 0 (λ e. other (sym e)) ∙ omega arith
+
+-- the count at place a and period b is set to one less, down to 0
+pub one_less : (xs : List ℕ) (w a b k t old : ℕ) → b < w → t < w → a * w + b < length xs
+    → old ≡ get_or xs (a * w + b) old
+    → get_or (set xs (a * w + b) (old - 1)) (k * w + t) 0
+    ≡ get_or xs (k * w + t) 0 - one_if ((a == k) && (b == t))
+one_less xs w a b k t old b_in t_in within is =
+    let read : old ≡ get_or xs (a * w + b) 0 = get_or_read xs (a * w + b) old within is 0 in
+    ap (λ n. get_or (set xs (a * w + b) (n - 1)) (k * w + t) 0) read
+    ∙ one_less_by xs w a b k t b_in t_in within (cases_eq (a * w + b) (k * w + t))
+
+-- one taken after the other
+pub takes_then : (m n : ℕ → ℕ → ℕ) (old mid new : Cells) → Takes m old mid → Takes n mid new
+    → Takes (λ k t. m k t + n k t) old new
+takes_then m n old mid new first second = record {
+  places = second.places ∙ first.places;
+  periods = second.periods ∙ first.periods;
+  each = λ k t k_in t_in.
+      let one : count_at mid k t ≡ count_at old k t - m k t = first.each k t k_in t_in in
+      let two : count_at new k t ≡ count_at mid k t - n k t =
+      second.each k t (omega (arith, first.places)) (omega (arith, first.periods)) in
+      omega arith;
+}
+
+-- equal counts that are taken, said otherwise
+pub takes_same : (m n : ℕ → ℕ → ℕ) (old new : Cells)
+    → ((k t : ℕ) → k < old.places → t < old.periods → m k t ≡ n k t) → Takes m old new
+    → Takes n old new
+takes_same m n old new same takes = record {
+  places = takes.places;
+  periods = takes.periods;
+  each = λ k t k_in t_in.
+      let e = same k t k_in t_in in
+      let one : count_at new k t ≡ count_at old k t - m k t = takes.each k t k_in t_in in
+      omega arith;
+}
+
+-- nothing is taken
+pub takes_none : (cells : Cells) → Takes (λ k t. 0) cells cells
+takes_none cells = record { places = refl; periods = refl; each = λ k t k_in t_in. omega arith }
 
 -- the periods of a stay so far, and one more
 pub stay_more : (a b k t now : ℕ) → b ≤ now

@@ -1,5 +1,5 @@
 -- Counts by place and period, kept in one block.
-use Rattle.std.specs.Prelude.{◌≡◌, ℕ, ◌+◌, ◌*◌, ◌^◌, ◌<◌, slice_index}
+use Rattle.std.specs.Prelude.{◌≡◌, ℕ, ◌+◌, ◌-◌, ◌*◌, ◌^◌, ◌<◌, slice_index}
 use Rattle.plan_rules.specs.Cells.{Cells}
 
 -- the count of a place in a period
@@ -21,3 +21,10 @@ pub record Adds (more : ℕ → ℕ → ℕ) (old new : Cells) : Type 0 where
   pub periods : new.periods ≡ old.periods
   pub each : (k t : ℕ) → k < old.places → t < old.periods → count_at old k t + more k t < 2 ^ 32
       → count_at new k t ≡ count_at old k t + more k t
+
+-- each count has shrunk by so much, down to 0 at the most
+pub record Takes (less : ℕ → ℕ → ℕ) (old new : Cells) : Type 0 where
+  pub places : new.places ≡ old.places
+  pub periods : new.periods ≡ old.periods
+  pub each : (k t : ℕ) → k < old.places → t < old.periods
+      → count_at new k t ≡ count_at old k t - less k t

@@ -8,7 +8,7 @@ use Rattle.flow_types.specs.declared.plan.Stop.{Stop}
 use Rattle.flow_types.specs.Counts.{departs_at, arrives_at, stays_at, departures_at, arrivals_at, occupancy_at}
 use Rattle.flow_types.specs.Trips.{IsTrip, departure_of, arrival_of}
 use Rattle.plan_rules.specs.Cells.{Cells, Tally}
-use Rattle.plan_rules.specs.Grid.{Adds, IsEmpty, count_at}
+use Rattle.plan_rules.specs.Grid.{Adds, IsEmpty, Takes, count_at}
 
 -- the counts of one kind
 abbrev pub cells_of : Tally → CapKind → Cells
@@ -97,3 +97,12 @@ pub record AddsTrip (flight : Flight) (number : ℕ) (stops : List Stop)
   pub inside : Adds (λ k t. stays_at k t flight stops) old.inside new.inside
   pub leaves : new.leaves ≡ slice_set old.leaves number (departure_of stops)
   pub arrives : new.arrives ≡ slice_set old.arrives number (arrival_of stops)
+
+-- one trip less
+pub record TakesTrip (flight : Flight) (number : ℕ) (stops : List Stop)
+    (old new : Tally) : Type 0 where
+  pub departures : Takes (λ k t. departs_at k t flight stops) old.departures new.departures
+  pub arrivals : Takes (λ k t. arrives_at k t flight stops) old.arrivals new.arrivals
+  pub inside : Takes (λ k t. stays_at k t flight stops) old.inside new.inside
+  pub leaves : new.leaves ≡ slice_set old.leaves number None
+  pub arrives : new.arrives ≡ slice_set old.arrives number None

@@ -1,4 +1,4 @@
-//! What a plan costs.
+//! What a plan and a trip cost.
 ghost use Rattle.std.specs.Prelude.{◌≡◌, ◌<◌, ◌≤ℤ◌, length, neg_ℤ, pos};
 ghost use Rattle.flow_types.specs.Costs.{plan_cost, trip_cost_at};
 ghost use Rattle.flow_types.specs.Feasible.{AreTrips};
@@ -21,8 +21,9 @@ pub fn cost(s: &Scenario, plan: &Plan) -> i64
     cost
 }
 
-// The cost of the flight's trip.
-fn trip_cost(s: &Scenario, flight: u32, stops: &[Stop]) -> i64
+/// The cost of a trip of the flight, which is one of the scenario's: the total of its arrival delay
+/// less the credit of its ground delay, nothing where it has no stops. It takes no memory.
+pub fn trip_cost(s: &Scenario, flight: u32, stops: &[Stop]) -> i64
     requires { flight < length (parts_of s.now).flights }
     ensures value { result
         ≡ trip_cost_at (parts_of s.now).tables (flight_at s.now flight) stops.now }

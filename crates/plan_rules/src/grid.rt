@@ -30,7 +30,7 @@ impl Model for Grid {
 impl Grid {
     ghost use Rattle.std.specs.Prelude.{◌==◌, ◌&&◌, ◌<◌, ◌^◌, ℕ, nat_le, nat_lt, IfOk};
     ghost use Rattle.flow_types.specs.Counts.{one_if};
-    ghost use Rattle.plan_rules.specs.Grid.{Adds, IsEmpty, SameSize, count_at};
+    ghost use Rattle.plan_rules.specs.Grid.{Adds, IsEmpty, SameSize, Takes, count_at};
 
     /// A grid of zeros.
     pub fn new(alloc: Global, places: usize, periods: u16) -> Result<Grid, AllocError>
@@ -83,6 +83,27 @@ impl Grid {
     {
         for period in from..to.min(self.periods) {
             self.add(place, period);
+        }
+    }
+
+    /// Counts one less at the place in the period, nothing outside the grid, and never below 0.
+    pub fn take(&mut self, place: u32, period: u16)
+        ensures { Takes (λ k t. one_if ((place == k) && (period == t))) self.old self.new }
+    {
+        let periods = self.periods;
+        if (place as usize) < self.places && period < periods {
+            let at = place as usize * usize::from(periods) + usize::from(period);
+            self.counts[at] = self.counts[at].saturating_sub(1);
+        }
+    }
+
+    /// Counts one less at the place in each period from `from` up to, but not including, `to`.
+    pub fn take_stay(&mut self, place: u32, from: u16, to: u16)
+        ensures { Takes (λ k t. one_if ((place == k) && nat_le from t && nat_lt t to)) self.old
+            self.new }
+    {
+        for period in from..to.min(self.periods) {
+            self.take(place, period);
         }
     }
 }

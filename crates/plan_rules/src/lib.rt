@@ -14,9 +14,9 @@
 //! `judge` answers `Keeps`, with the plan's cost, exactly where the plan is feasible (`keeps`,
 //! `cost`); the loads then count its trips (`loads`). Otherwise it answers the first rule that the
 //! plan breaks, with its values, and the loads hold no trips (`broken`, `loads`). Trips may be
-//! added one by one too (`Loads::add`), and taken out together (`Loads::clear`). `cost` is the sum
-//! of the costs of a plan's trips. `plans_that_break_nothing_are_feasible` ties the two definitions
-//! together.
+//! added one by one too (`Loads::add`), and taken out one by one (`Loads::remove`) or together
+//! (`Loads::clear`). `trip_cost` is the cost of one trip, and `cost` the sum of those of a plan's.
+//! `plans_that_break_nothing_are_feasible` ties the two definitions together.
 //!
 //! Time: `judge` looks at each stop with the legs of its flight, at each period that a flight
 //! spends in a sector, and a few times at each place and period. `Loads` take twelve bytes a place
@@ -33,7 +33,7 @@ mod trip_counts;
 mod trips;
 
 pub use broken::{Broken, Overload};
-pub use costs::cost;
+pub use costs::{cost, trip_cost};
 pub use judging::{Verdict, judge};
 pub use laws::{
     first_broken_rules_are_first, plans_that_break_nothing_are_feasible, trips_are_counted_once,

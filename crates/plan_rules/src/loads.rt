@@ -2,7 +2,10 @@
 ghost use Rattle.std.specs.Prelude.{◌≡◌, ℕ, IfOk, None, length, replicate, slice_index_or};
 
 use crate::grid::Grid;
-use crate::trip_counts::{add_arrival, add_departure, add_stays, arrival_of, departure_of};
+use crate::trip_counts::{
+    add_arrival, add_departure, add_stays, arrival_of, departure_of, take_arrival, take_departure,
+    take_stays,
+};
 use flow_types::{CapKind, Flight, OutOfMemory, Scenario, Stop};
 use std::alloc::Global;
 use std::marker::Model;
@@ -58,7 +61,7 @@ impl Loads {
     ghost use Rattle.flow_types.specs.declared.parts.Parts.{Parts};
     ghost use Rattle.flow_types.specs.declared.plan.Stop.{Stop};
     ghost use Rattle.flow_types.specs.Scenario.{parts_of};
-    ghost use Rattle.plan_rules.specs.Loads.{AddsTrip, AreLoads, IsCell, IsMadeFor, IsTripAt, arrival_at, cells_of, departure_at, load_at, no_trips};
+    ghost use Rattle.plan_rules.specs.Loads.{AddsTrip, AreLoads, IsCell, IsMadeFor, IsTripAt, TakesTrip, arrival_at, cells_of, departure_at, load_at, no_trips};
 
     /// Loads of a scenario, with no trips.
     pub fn new(alloc: Global, s: &Scenario) -> Result<Loads, OutOfMemory>
@@ -120,6 +123,33 @@ impl Loads {
         add_stays(&mut self.inside, flight, stops);
         self.leaves[number] = departure_of(stops);
         self.arrives[number] = arrival_of(stops);
+    }
+
+    /// Takes the flight's trip out again, which is the one that was added. The loads were made for
+    /// the scenario. It takes no memory.
+    pub fn remove(&mut self, s: &Scenario, flight: u32, stops: &[Stop])
+        requires made { IsMadeFor (parts_of s.now) self.old }
+        requires flight { flight < length (parts_of s.now).flights }
+        ensures made { IsMadeFor (parts_of s.now) self.new }
+        ensures trips { (trips : List (List Stop)) → AreLoads (parts_of s.now) trips self.old
+            → slice_get trips flight ≡ Some stops.now
+            → AreLoads (parts_of s.now) (slice_set trips flight []) self.new }
+    {
+        self.take_trip(&s.flights()[flight as usize], flight as usize, stops);
+    }
+
+    // Takes out the trip of the flight, which has that number.
+    fn take_trip(&mut self, flight: &Flight, number: usize, stops: &[Stop])
+        requires leaves { number < length self.old.leaves }
+        requires arrives { number < length self.old.arrives }
+        ensures { TakesTrip flight.now number stops.now self.old self.new }
+    {
+        self.contents = Contents::Trips;
+        take_departure(&mut self.departures, flight, stops);
+        take_arrival(&mut self.arrivals, flight, stops);
+        take_stays(&mut self.inside, flight, stops);
+        self.leaves[number] = None;
+        self.arrives[number] = None;
     }
 
     /// How many flights depart from, arrive at or are inside the place in the period. Both are of

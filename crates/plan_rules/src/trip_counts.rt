@@ -1,8 +1,8 @@
-//! What one trip adds to the counts.
+//! What one trip adds to the counts, and takes from them.
 ghost use Rattle.std.specs.Prelude.{◌≡◌};
 ghost use Rattle.flow_types.specs.Counts.{arrives_at, departs_at, stays_at, stays_from};
 ghost use Rattle.flow_types.specs.Trips.{arrival_of, departure_of};
-ghost use Rattle.plan_rules.specs.Grid.{Adds};
+ghost use Rattle.plan_rules.specs.Grid.{Adds, Takes};
 
 use crate::grid::Grid;
 use flow_types::{Flight, Stop, place_at};
@@ -62,6 +62,44 @@ fn add_stays_from(grid: &mut Grid, flight: &Flight, first: Stop, rest: &[Stop])
     let mut stop = first;
     for next in rest {
         grid.add_stay(place_at(flight, stop.node), stop.time, next.time);
+        stop = *next;
+    }
+}
+
+/// Counts the trip's departure no more.
+pub fn take_departure(grid: &mut Grid, flight: &Flight, stops: &[Stop])
+    ensures { Takes (λ k t. departs_at k t flight.now stops.now) grid.old grid.new }
+{
+    if let Some(stop) = stops.first() {
+        grid.take(place_at(flight, stop.node), stop.time);
+    }
+}
+
+/// Counts the trip's arrival no more.
+pub fn take_arrival(grid: &mut Grid, flight: &Flight, stops: &[Stop])
+    ensures { Takes (λ k t. arrives_at k t flight.now stops.now) grid.old grid.new }
+{
+    if let Some(stop) = stops.last() {
+        grid.take(place_at(flight, stop.node), stop.time);
+    }
+}
+
+/// Counts the trip in none of its places any more.
+pub fn take_stays(grid: &mut Grid, flight: &Flight, stops: &[Stop])
+    ensures { Takes (λ k t. stays_at k t flight.now stops.now) grid.old grid.new }
+{
+    if let Some((first, rest)) = stops.split_first() {
+        take_stays_from(grid, flight, *first, rest);
+    }
+}
+
+// Counts it no more from a stop on.
+fn take_stays_from(grid: &mut Grid, flight: &Flight, first: Stop, rest: &[Stop])
+    ensures { Takes (λ k t. stays_from k t flight.now first rest.now) grid.old grid.new }
+{
+    let mut stop = first;
+    for next in rest {
+        grid.take_stay(place_at(flight, stop.node), stop.time, next.time);
         stop = *next;
     }
 }

@@ -1,4 +1,4 @@
-use Rattle.std.proofs.Common.{◌≡◌, Some, slice_get, refl}
+use Rattle.std.proofs.Common.{◌≡◌, [], Some, slice_get, refl}
 use Rattle.std.proofs.lemmas.Option.{slice_get_read}
 use Rattle.flow_types.specs.Scenario.{parts_of}
 use Rattle.plan_rules.proofs.LoadFacts.{AreLoads-add, trip_there}
@@ -13,6 +13,6 @@ returns-clause-trips c =
     (rw c.flights.ensures at c.index-flights-flight.is) in
     λ trips are absent trip.
     AreLoads-add parts c.args.s.now.valid.flights_few trips are.each c.args.flight flight
-    c.args.stops.now here absent
+    [] c.args.stops.now here absent
     (trip_there parts.day.periods flight c.args.stops.now (trip flight here)) c.args.self.now
-    c.add_trip.new.self are c.add_trip.ensures c.requires.flight
+    c.add_trip.new.self refl are c.add_trip.ensures c.requires.flight

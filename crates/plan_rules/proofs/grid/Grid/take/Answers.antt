@@ -1,0 +1,19 @@
+use Rattle.std.proofs.Common.{arith, refl}
+use Rattle.std.proofs.lemmas.Nat.{mul-add-lt}
+use Rattle.plan_rules.proofs.GridFacts.{one_less}
+use Rattle.plan_rules.proofs.grid.Grid.take.Goals as goal
+
+pub returns-then-period-periods : goal.returns-then-period-periods
+returns-then-period-periods c =
+    let s = c.self.inside in
+    let inside = mul-add-lt c.args.place s.periods c.args.period s.places (omega arith)
+    (omega arith) in
+    rw (← c.self.view_is) (record {
+      places = refl;
+      periods = refl;
+      each = λ k t k_in t_in.
+          rw (c.saturating_sub.ensures, c.from-then-period-periods.ensures, c.from.ensures)
+          (one_less s.counts.items s.periods c.args.place c.args.period k t c.index.result.now
+          (omega arith) t_in (omega (arith, c.self.invariant, s.counts.ok.0))
+          (rw (c.from-then-period-periods.ensures, c.from.ensures) at c.index.ensures));
+    })
