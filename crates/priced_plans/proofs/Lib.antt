@@ -1,3 +1,4 @@
+pub mod KeyFacts
 pub mod RangeFacts
 pub mod CellFacts
 pub mod TurnFacts

@@ -5,8 +5,8 @@ use Rattle.std.specs.Prelude.{int_lt}
 use Rattle.std.proofs.lemmas.Bool.{cases_lt}
 use Rattle.std.proofs.lemmas.Int.{fits_signed_from_abs, ints, to_z-of_z}
 use Rattle.std.proofs.lemmas.Nat.{le-div}
-use Rattle.std.proofs.Math.Nat.{div-le_self, div-mul-le_self, lt-div-mul-add, mul-le-mul_right, suc-mul}
-use Rattle.std.proofs.Math.IntN.{*ℤ-zero, *ℤ_comm}
+use Rattle.std.proofs.Math.Nat.{div-le_self, div-mul-le_self, lt-div-mul-add, mul-le-mul_left, mul-le-mul_right, suc-mul}
+use Rattle.std.proofs.Math.IntN.{*ℤ-zero, *ℤ_comm, zero-*ℤ}
 use Rattle.exact_sums.proofs.ProductFacts.{times-more}
 use Rattle.flow_types.specs.declared.bound.Bound.{Bound}
 use Rattle.flow_types.specs.declared.bound.Bound.TheVariants.{AtLeast, NoPlan}
@@ -103,6 +103,39 @@ above_small size w small weight =
 pub size_small : (value : ℤ) → IsValueWithin (2 ^ 123) value → unsigned_abs value < 2 ^ 126
 size_small (pos n) near = omega (arith, ints, near.high)
 size_small (negsuc n) near = omega (arith, ints, near.low)
+
+-- what is rounded is no further from 0
+rounded_near : (value up : ℤ) (w : ℕ) → 0 < w → IsRoundedUp value w up
+    → unsigned_abs up ≤ unsigned_abs value
+rounded_near (pos v) (pos n) w weight is =
+    let more : v * 1 ≤ v * w = mul-le-mul_left v weight in
+    let least = is.below (pos v) (omega (arith, ints, more)) in
+    omega (arith, ints, least)
+rounded_near (pos v) (negsuc n) w weight is =
+    let down = minus-times n w in
+    let some : suc n * w ≡ n * w + w = suc-mul n w in
+    let reached = is.reached in
+    absurd (omega (arith, ints, reached, down, some, weight))
+rounded_near (negsuc v) (pos n) w weight is =
+    let none : pos 0 *ℤ pos w ≡ pos 0 = zero-*ℤ (pos w) in
+    let least = is.below (pos 0) (omega (arith, ints, none)) in
+    omega (arith, ints, least)
+rounded_near (negsuc v) (negsuc n) w weight is =
+    let down = minus-times n w in
+    let more : suc n * 1 ≤ suc n * w = mul-le-mul_left (suc n) weight in
+    let reached = is.reached in
+    omega (arith, ints, reached, down, more)
+
+near_within : (value : ℤ) → IsValueWithin (2 ^ 123) value → unsigned_abs value < 2 ^ 124
+near_within (pos n) near = let up = near.high in omega (arith, ints, up)
+near_within (negsuc n) near = let down = near.low in omega (arith, ints, down)
+
+pub rounded_within : (value up : ℤ) (weight : ℕ) → 0 < weight → IsValueWithin (2 ^ 123) value
+    → IsRoundedUp value weight up → unsigned_abs up < 2 ^ 124
+rounded_within value up weight some near rounded =
+    let small = near_within value near in
+    let le = rounded_near value up weight some rounded in
+    omega (arith, small, le)
 
 -- a bound that prices tell is one of the feasible plans
 pub bound-below : (parts : Parts) (box : Box) (weight : ℕ) (table : PriceTable) (bound : Bound)

@@ -74,7 +74,7 @@ moved rows periods k t old new was now place = record {
   in_day = omega (arith, place.in_day, was.long, now.long);
 }
 
-key_moved : (parts : Parts) (old new : PriceTable) (at : PriceKey) → ArePricesOf parts old
+pub key_moved : (parts : Parts) (old new : PriceTable) (at : PriceKey) → ArePricesOf parts old
     → ArePricesOf parts new → IsKeyOf new at → IsKeyOf old at
 key_moved parts old new (key.Dep k t) was now is =
     moved (length parts.places) parts.day.periods k t old.departures new.departures

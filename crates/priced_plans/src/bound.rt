@@ -40,12 +40,13 @@ pub fn priced_bound(
 }
 
 /// The least number that is no less than the value divided by the weight. The value is no further
-/// from 0 than 2^123, the weight is above 0.
-#[tactic(auto, using(crate::proofs::RoundFacts::rounded_above, crate::proofs::RoundFacts::rounded_below))]
+/// from 0 than 2^123, the weight is above 0, and the number is nearer to 0 than 2^124.
+#[tactic(auto, using(crate::proofs::RoundFacts::rounded_above, crate::proofs::RoundFacts::rounded_below, crate::proofs::RoundFacts::rounded_within))]
 pub fn rounded_up(value: i128, weight: u64) -> i128
     requires near { IsValueWithin (2 ^ 123) value }
     requires weight { 0 < weight }
-    ensures { IsRoundedUp value weight result }
+    ensures rounded { IsRoundedUp value weight result }
+    ensures near { unsigned_abs result < 2 ^ 124 }
 {
     if value > 0 {
         above(value.unsigned_abs(), weight)

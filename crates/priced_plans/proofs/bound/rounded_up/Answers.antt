@@ -1,11 +1,11 @@
 use Rattle.std.proofs.Common.{◌≡◌, ◌∙◌, ◌+◌, ◌-◌, ◌/◌, ◌<◌, ◌^◌, true, ap, arith, pos, subst, sym, unsigned_abs}
 use Rattle.std.specs.Prelude.{int_lt}
 use Rattle.priced_plans.specs.PricedBound.{IsRoundedUp}
-use Rattle.priced_plans.proofs.RoundFacts.{above_small, rounded_positive, size_small, whole, whole_wide}
+use Rattle.priced_plans.proofs.RoundFacts.{above_small, rounded_positive, rounded_within, size_small, whole, whole_wide}
 use Rattle.priced_plans.proofs.bound.rounded_up.Goals as goal
 
-pub returns-then-value-gt0 : goal.returns-then-value-gt0
-returns-then-value-gt0 c =
+pub returns-then-value-gt0-clause-rounded : goal.returns-then-value-gt0-clause-rounded
+returns-then-value-gt0-clause-rounded c =
     let same = whole c.args.value c.ranges.value in
     let size = c.unsigned_abs.ensures.value ∙ ap unsigned_abs same in
     let near = size_small c.args.value c.requires.near in
@@ -18,3 +18,8 @@ returns-then-value-gt0 c =
     (subst (λ z. int_lt (pos 0) z ≡ true) same c.if-value-gt0.true) c.requires.weight
     (c.above.ensures
     ∙ ap (λ n. pos ((n + (c.args.weight - 1)) / c.args.weight)) size))
+
+pub returns-then-value-gt0-clause-near : goal.returns-then-value-gt0-clause-near
+returns-then-value-gt0-clause-near c =
+    rounded_within c.args.value _ c.args.weight c.requires.weight c.requires.near
+    (returns-then-value-gt0-clause-rounded c)
