@@ -1,6 +1,7 @@
-pub mod BoundFacts
+pub mod BestFacts
 pub mod MoveFacts
 pub mod NearFacts
+pub mod SameFacts
 pub mod StepFacts
 pub mod TakeFacts
 pub mod WorkedRounds

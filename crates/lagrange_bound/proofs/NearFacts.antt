@@ -25,11 +25,12 @@ use Rattle.flight_routes.specs.Rates.{IsValueWithin}
 use Rattle.flight_routes.proofs.TripFacts.{in_day}
 use Rattle.time_windows.specs.Boxes.{Box}
 use Rattle.priced_plans.specs.Values.{IsPricedSum}
+use Rattle.priced_plans.specs.Valuing.{plus}
 use Rattle.plan_rules.specs.Cells.{Tally}
 use Rattle.plan_rules.specs.Loads.{AreLoads, no_trips}
-use Rattle.lagrange_bound.specs.Moves.{IsKeyFor}
+use Rattle.priced_plans.specs.Keys.{IsKeyFor}
 use Rattle.lagrange_bound.specs.Rounds.{cost_weight}
-use Rattle.lagrange_bound.specs.Taking.{HaveTaken, IsTakenSum, plus}
+use Rattle.lagrange_bound.specs.Taking.{HaveTaken, IsTakenSum}
 use Rattle.lagrange_bound.proofs.TakeFacts.{none_taken}
 
 -- the most that a price is, here
@@ -74,15 +75,15 @@ node_there periods parts flight valid k (inr later) (inr before) (inr past) =
     let some = has_kind-within kind.Dep parts.places flight.from valid.origin in
     omega (arith, some, get_or_past flight.nodes k 0 past)
 
+pub place_there : (parts : Parts) (flight : Flight)
+    → IsFlight parts.day.periods parts.places parts.tables flight → (k : ℕ)
+    → place_at flight k < length parts.places
+place_there parts flight is k =
+    node_there parts.day.periods parts flight is k (cases_eq k 0)
+    (cases_eq (k + 1) (length flight.nodes)) (cases_lt k (length flight.nodes))
+
 module _ (parts : Parts) (table : PriceTable) (valid : IsScenario parts)
     (low : (k : PriceKey) → IsKeyFor parts k → price_at table k ≤ top) where
-  place_there : (flight : Flight)
-      → IsFlight parts.day.periods parts.places parts.tables flight → (k : ℕ)
-      → place_at flight k < length parts.places
-  place_there flight is k =
-      node_there parts.day.periods parts flight is k (cases_eq k 0)
-      (cases_eq (k + 1) (length flight.nodes)) (cases_lt k (length flight.nodes))
-
   stay_low : (flight : Flight) (stop : Stop) (leaves : ℕ) (origin : Bool)
       → IsFlight parts.day.periods parts.places parts.tables flight
       → leaves < parts.day.periods
@@ -93,7 +94,7 @@ module _ (parts : Parts) (table : PriceTable) (valid : IsScenario parts)
   stay_low flight stop leaves false is day =
       summed_low (price_in table.inside (place_at flight stop.node)) stop.time leaves
       (λ t before. low (key.Sector (place_at flight stop.node) t)
-      (place_there flight is stop.node, omega (arith, before, day)))
+      (place_there parts flight is stop.node, omega (arith, before, day)))
 
   -- stays pay for no more periods than the trip takes
   stays_low : (flight : Flight) (stop : Stop) (rest : List Stop)
@@ -218,7 +219,7 @@ module _ (parts : Parts) (table : PriceTable) (valid : IsScenario parts)
       → IsTakenSum parts box table (number + 1) new (plus sum cost)
   sum_more box number old new None cost within before is taken = before
   sum_more box number old new (Some sum) None within before is taken =
-      (number, record { within = within; none = is })
+      record { number = number; within = within; none = is }
   sum_more box number old new (Some sum) (Some least) within before is taken =
       let near = least_near box number least is in
       let grown : (number + 1) * 2 ^ 84 ≡ number * 2 ^ 84 + 2 ^ 84 = omega arith in

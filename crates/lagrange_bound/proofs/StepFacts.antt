@@ -1,6 +1,5 @@
 -- What the loads move prices by is what the trips do that they count.
-use Rattle.std.proofs.Common.{◌≡◌, Bool, ℤ, ◌⊎◌, ℕ, ◌<◌, ◌≤◌, true, List, [], length, Option, None, Some, slice_get, slice_index_or, inl, inr, refl, sym, ap, ap₂, subst, ◌∙◌, arith}
-use Rattle.std.specs.Option.{is_some}
+use Rattle.std.proofs.Common.{◌≡◌, ◌⊎◌, ℕ, ◌<◌, ◌≤◌, true, List, [], length, Option, None, Some, slice_get, slice_index_or, inl, inr, refl, sym, ap, ap₂, subst, ◌∙◌, arith}
 use Rattle.std.proofs.lemmas.Bool.{cases_lt}
 use Rattle.std.proofs.lemmas.List.{get_or_past}
 use Rattle.flow_types.specs.declared.bound.PriceKey.TheVariants as key
@@ -16,7 +15,7 @@ use Rattle.plan_rules.proofs.CountFacts.{AreTripsOrNone-length}
 use Rattle.time_windows.specs.Boxes.{Box}
 use Rattle.lagrange_bound.specs.Moves.{AreMoved, moved_by_times, moved_price}
 use Rattle.lagrange_bound.specs.Rounds.{IsMovedBy, IsRoundStep, is_by, moved, moved_by_capacity, moved_by_turn, step_of}
-use Rattle.lagrange_bound.specs.Taking.{HaveTaken, IsTakenSum}
+use Rattle.lagrange_bound.specs.Taking.{HaveTaken}
 use Rattle.lagrange_bound.proofs.TakeFacts.{all_taken}
 
 module _ (parts : Parts) (trips : List (List Stop)) (loads : Tally)
@@ -125,11 +124,3 @@ round_played parts box round step loads old new sized is (trips, have) made = in
         (moved_by_trips parts trips loads have.counted step old new sized made);
   },
 )
-
--- the trips are taken where there is a sum of what they cost
-module _ (parts : Parts) (box : Box) (table : PriceTable) (loads : Tally) where
-  pub trips_taken : (sum : Option ℤ) (some : Bool)
-      → IsTakenSum parts box table (length parts.flights) loads sum → is_some sum ≡ some
-      → some ≡ true → HaveTaken parts box table (length parts.flights) loads
-  trips_taken None some is told yes' = let no : ⊥ = cc in absurd no
-  trips_taken (Some sum) some is told yes' = is.trips

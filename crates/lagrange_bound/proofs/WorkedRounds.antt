@@ -341,12 +341,12 @@ first_bound : IsRoundBound two all_open 0 (AtLeast (pos 0))
 first_bound = (
   table_with 0,
   no_round,
-  (pos 0, record { priced = value_is 0 (omega arith); rounded = rounded 0 }),
+  (pos 0, value_is 0 (omega arith), rounded 0),
 )
 
 second_bound : IsRoundBound two all_open 1 (AtLeast (pos 1))
 second_bound = (
   table_with 1024,
   one_round,
-  (pos 1024, record { priced = value_is 1024 (omega arith); rounded = rounded 1 }),
+  (pos 1024, value_is 1024 (omega arith), rounded 1),
 )

@@ -2,4 +2,5 @@ pub mod Moves
 pub mod Rounds
 pub mod Taking
 pub mod Sums
+pub mod Best
 pub mod Work

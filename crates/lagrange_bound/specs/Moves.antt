@@ -9,8 +9,8 @@ use Rattle.flight_routes.specs.Prices.{ArePricesOf, PriceTable, price_at}
 use Rattle.plan_rules.specs.Cells.{Tally}
 use Rattle.plan_rules.specs.Loads.{arrival_at, departure_at, load_at}
 use Rattle.lagrange_bound.specs.Rounds.{is_by, moved, moved_by_capacity}
-use Rattle.lagrange_bound.specs.declared.moves.PriceKind.{PriceKind}
-use Rattle.lagrange_bound.specs.declared.moves.PriceKind.TheVariants.{Departure, Arrival, Stay, Turn}
+use Rattle.priced_plans.specs.declared.kinds.PriceKind.{PriceKind}
+use Rattle.priced_plans.specs.Keys.{IsKeyFor, key_in, number_in, period_in, row_in, rows_of}
 
 -- the price of a connection in a period
 abbrev pub moved_by_times : Tally → ℕ → Option Connection → ℕ → ℕ → ℕ
@@ -30,59 +30,7 @@ moved_price parts loads step (key.Sector place period) price =
 moved_price parts loads step (key.Connect connection period) price =
     moved_by_times loads step (slice_get parts.connections connection) period price
 
--- the key names a price of the day
-abbrev pub IsKeyFor : Parts → PriceKey → Type 0
-IsKeyFor parts (key.Dep place period) =
-    (place < length parts.places) × (period < parts.day.periods)
-IsKeyFor parts (key.Arr place period) =
-    (place < length parts.places) × (period < parts.day.periods)
-IsKeyFor parts (key.Sector place period) =
-    (place < length parts.places) × (period < parts.day.periods)
-IsKeyFor parts (key.Connect connection period) =
-    (connection < length parts.connections) × (period < parts.day.periods)
-
--- prices of a kind by row and period, and how many rows there are
-abbrev pub key_in : PriceKind → ℕ → ℕ → PriceKey
-key_in Departure row period = key.Dep row period
-key_in Arrival row period = key.Arr row period
-key_in Stay row period = key.Sector row period
-key_in Turn row period = key.Connect row period
-
-abbrev pub rows_of : Parts → PriceKind → ℕ
-rows_of parts Departure = length parts.places
-rows_of parts Arrival = length parts.places
-rows_of parts Stay = length parts.places
-rows_of parts Turn = length parts.connections
-
-abbrev pub kind_number : PriceKind → ℕ
-kind_number Departure = 0
-kind_number Arrival = 1
-kind_number Stay = 2
-kind_number Turn = 3
-
-abbrev pub number_in : PriceKey → ℕ
-number_in (key.Dep row period) = 0
-number_in (key.Arr row period) = 1
-number_in (key.Sector row period) = 2
-number_in (key.Connect row period) = 3
-
-abbrev pub row_in : PriceKey → ℕ
-row_in (key.Dep row period) = row
-row_in (key.Arr row period) = row
-row_in (key.Sector row period) = row
-row_in (key.Connect row period) = row
-
-abbrev pub period_in : PriceKey → ℕ
-period_in (key.Dep row period) = period
-period_in (key.Arr row period) = period
-period_in (key.Sector row period) = period
-period_in (key.Connect row period) = period
-
--- the one price; those of a row before a period; those of the first rows; those of first kinds
-abbrev pub is_at : ℕ → ℕ → ℕ → PriceKey → Bool
-is_at kind row period key =
-    nat_eq (number_in key) kind && (nat_eq (row_in key) row && nat_eq (period_in key) period)
-
+-- those of a row before a period; those of the first rows; those of first kinds
 abbrev pub is_in_row : ℕ → ℕ → ℕ → PriceKey → Bool
 is_in_row kind row period key =
     nat_eq (number_in key) kind && (nat_eq (row_in key) row && nat_lt (period_in key) period)

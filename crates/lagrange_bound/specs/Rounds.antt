@@ -1,24 +1,21 @@
 -- Prices that are found in rounds, each from those before it, and the bound that a round tells.
-use Rattle.std.specs.Prelude.{◌≡◌, ◌⊎◌, ◌<◌, ℕ, zero, suc, ◌+◌, ◌-◌, ◌*◌, ◌/◌, nat_le, if◌then◌else◌, List, [], length, Option, None, Some, slice_get, slice_index_or, ℤ, ◌≤ℤ◌}
+use Rattle.std.specs.Prelude.{◌≡◌, ◌⊎◌, ℕ, zero, suc, ◌+◌, ◌-◌, ◌*◌, ◌/◌, nat_le, if◌then◌else◌, List, [], length, Option, None, Some, slice_get, slice_index_or}
 use Rattle.exact_sums.specs.Leasts.{IsFirstLeast}
 use Rattle.flow_types.specs.declared.bound.Bound.{Bound}
-use Rattle.flow_types.specs.declared.bound.Bound.TheVariants.{AtLeast, NoPlan}
 use Rattle.flow_types.specs.declared.flight.Connection.{Connection}
 use Rattle.flow_types.specs.declared.parts.Parts.{Parts}
 use Rattle.flow_types.specs.declared.place.CapKind.{CapKind}
 use Rattle.flow_types.specs.declared.place.CapKind.TheVariants as kind
 use Rattle.flow_types.specs.declared.plan.Stop.{Stop}
 use Rattle.flow_types.specs.Capacities.{capacity_of, has_kind}
-use Rattle.flow_types.specs.Costs.{plan_cost}
 use Rattle.flow_types.specs.Counts.{arrivals_at, departures_at, occupancy_at, one_if}
-use Rattle.flow_types.specs.Feasible.{IsFeasible}
 use Rattle.flow_types.specs.Trips.{arrival_of, departure_of}
 use Rattle.flight_routes.specs.Inside.{IsTripIn}
 use Rattle.flight_routes.specs.Prices.{AreFree, ArePricesOf, Block, IsPlaceIn, IsSized, PriceTable, price_in, priced_cost}
 use Rattle.flight_routes.specs.TripOrder.{IsNoLater}
-use Rattle.priced_plans.specs.PricedBound.{IsRoundedUp}
-use Rattle.priced_plans.specs.Values.{HasNoPlan, IsPricedValue}
-use Rattle.time_windows.specs.Boxes.{Box, IsInBox}
+use Rattle.priced_plans.specs.PricedBound.{IsPricedBound}
+use Rattle.priced_plans.specs.Valuing.{LacksTrip}
+use Rattle.time_windows.specs.Boxes.{Box}
 
 -- how much costs weigh beside prices
 abbrev pub cost_weight : ℕ
@@ -27,11 +24,6 @@ cost_weight = 1024
 -- by how much a price rises, in a round, for each one too many
 abbrev pub step_of : ℕ → ℕ
 step_of round = 1024 / round
-
--- a flight of which no trip is in the box
-pub record HasNoTrip (parts : Parts) (box : Box) (number : ℕ) : Type 0 where
-  pub within : number < length parts.flights
-  pub none : (stops : List Stop) → IsTripIn parts box number stops → ⊥
 
 -- of the trips of the flight in the box that cost the least with their prices, the first
 abbrev pub IsLeastTrip : Parts → Box → PriceTable → ℕ → List Stop → Type 0
@@ -101,15 +93,14 @@ pub record IsRoundBy (parts : Parts) (box : Box) (round : ℕ) (old new : PriceT
   pub moved : IsMovedBy parts trips (step_of round) old new
 
 -- or leaves them where a flight has no trip in the box
-pub record IsRoundWithout (parts : Parts) (box : Box) (old new : PriceTable)
-    (number : ℕ) : Type 0 where
-  pub none : HasNoTrip parts box number
+pub record IsRoundWithout (parts : Parts) (box : Box) (old new : PriceTable) : Type 0 where
+  pub none : LacksTrip parts box
   pub same : new ≡ old
 
 abbrev pub IsRoundStep : Parts → Box → ℕ → PriceTable → PriceTable → Type 0
 IsRoundStep parts box round old new =
     ((trips : List (List Stop)) × IsRoundBy parts box round old new trips)
-    ⊎ ((number : ℕ) × IsRoundWithout parts box old new number)
+    ⊎ IsRoundWithout parts box old new
 
 -- the prices after so many rounds, which begin with prices of 0
 abbrev pub IsRoundTable : Parts → Box → ℕ → PriceTable → Type 0
@@ -119,23 +110,10 @@ IsRoundTable parts box (suc before) table =
     × IsRoundStep parts box (suc before) old table
 
 -- what prices tell: their value, in units of cost
-pub record IsTold (parts : Parts) (box : Box) (table : PriceTable) (least value : ℤ) : Type 0 where
-  pub priced : IsPricedValue parts box cost_weight table value
-  pub rounded : IsRoundedUp value cost_weight least
-
--- NoPlan where a flight has no trip in the box
 abbrev pub IsTableBound : Parts → Box → PriceTable → Bound → Type 0
-IsTableBound parts box table NoPlan = (number : ℕ) × HasNoTrip parts box number
-IsTableBound parts box table (AtLeast least) = (value : ℤ) × IsTold parts box table least value
+IsTableBound parts box table bound = IsPricedBound parts box cost_weight table bound
 
 -- what the prices after so many rounds tell
 abbrev pub IsRoundBound : Parts → Box → ℕ → Bound → Type 0
 IsRoundBound parts box round bound =
     (table : PriceTable) × IsRoundTable parts box round table × IsTableBound parts box table bound
-
--- no feasible plan in the box costs less; there is none below NoPlan
-abbrev pub BoundsAll : Parts → Box → Bound → Type 0
-BoundsAll parts box NoPlan = HasNoPlan parts box
-BoundsAll parts box (AtLeast least) =
-    (plan : List (List Stop)) → IsFeasible parts plan → IsInBox box plan
-    → least ≤ℤ plan_cost parts.tables parts.flights plan

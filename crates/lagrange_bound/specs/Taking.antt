@@ -1,5 +1,5 @@
 -- Least trips that are taken flight by flight, and counted.
-use Rattle.std.specs.Prelude.{◌≡◌, ◌≤◌, ◌<◌, ◌*◌, ◌^◌, ℕ, List, [], length, Option, None, Some, slice_get, ℤ, ◌+ℤ◌}
+use Rattle.std.specs.Prelude.{◌≡◌, ◌≤◌, ◌<◌, ◌*◌, ◌^◌, ℕ, List, [], length, Option, None, Some, slice_get, ℤ}
 use Rattle.flow_types.specs.declared.parts.Parts.{Parts}
 use Rattle.flow_types.specs.declared.plan.Stop.{Stop}
 use Rattle.flight_routes.specs.Prices.{PriceTable}
@@ -8,7 +8,8 @@ use Rattle.plan_rules.specs.Cells.{Tally}
 use Rattle.plan_rules.specs.Loads.{AreLoads}
 use Rattle.time_windows.specs.Boxes.{Box}
 use Rattle.priced_plans.specs.Values.{IsPricedSum}
-use Rattle.lagrange_bound.specs.Rounds.{HasNoTrip, IsLeastTrip, cost_weight}
+use Rattle.priced_plans.specs.Valuing.{LacksTrip}
+use Rattle.lagrange_bound.specs.Rounds.{IsLeastTrip, cost_weight}
 
 -- the first flights, so many, have their least trips, and the others none
 pub record AreTaken (parts : Parts) (box : Box) (table : PriceTable) (number : ℕ) (loads : Tally)
@@ -31,11 +32,5 @@ pub record IsSumOf (parts : Parts) (box : Box) (table : PriceTable) (number : �
 
 -- nothing once a flight has no trip
 abbrev pub IsTakenSum : Parts → Box → PriceTable → ℕ → Tally → Option ℤ → Type 0
-IsTakenSum parts box table number loads None = (flight : ℕ) × HasNoTrip parts box flight
+IsTakenSum parts box table number loads None = LacksTrip parts box
 IsTakenSum parts box table number loads (Some sum) = IsSumOf parts box table number loads sum
-
--- the sum of two, where both are there
-abbrev pub plus : Option ℤ → Option ℤ → Option ℤ
-plus None cost = None
-plus (Some sum) None = None
-plus (Some sum) (Some cost) = Some (sum +ℤ cost)

@@ -7,30 +7,32 @@
 //! round begins with prices of 0, costs weigh 1,024, and the step of round j is 1,024 / j.
 //!
 //!     let mut rounds = Rounds::new(alloc, &s)?;
-//!     for round in 1..101 {
-//!         match rounds.step(&s, &boxes, round) {
-//!             Bound::AtLeast(least) => println!("no plan in the box costs less than {least}"),
-//!             Bound::NoPlan => println!("a flight has no trip in the box"),
-//!         }
+//!     match rounds.play(&s, &boxes, 100) {
+//!         Bound::AtLeast(least) => println!("no plan in the box costs less than {least}"),
+//!         Bound::NoPlan => println!("a flight has no trip in the box"),
 //!     }
 //!     let price = rounds.prices().departure(place, period);
 //!
 //! These are the subgradient steps of Lagrangian relaxation (Held, Wolfe and Crowder, "Validation
-//! of subgradient optimization", 1974).
+//! of subgradient optimization", 1974). Their bounds rise and fall, so the best prices are kept.
 //!
 //! `specs/Rounds.antt` says what a round is, what the prices are after so many of them, and what
-//! bound they tell: their value (`priced_plans`), divided by the weight and rounded up. `Work` is
-//! what `Rounds` is seen as. `Moves`, `Sums` and `Taking` serve the proof.
+//! bound they tell: their value (`priced_plans`), divided by the weight and rounded up.
+//! `specs/Best.antt` says what the best of so many rounds is. `Work` is what `Rounds` is seen as.
+//! `Moves`, `Sums` and `Taking` serve the proof.
 //!
-//! Proved: `step` moves the prices exactly as a round does (`step`), by the first of the least
-//! trips of each flight, and answers exactly the bound that the prices tell which it began with,
-//! or that a flight has no trip (`bound`). That is a bound on the feasible plans in the box
-//! (`sound`), and so is that of any round (`round_bounds_are_bounds`). Nothing is said of how good
-//! it is. `proofs/WorkedRounds.antt` has a round worked out.
+//! Proved: `play` keeps prices that are exactly those after one of the rounds (`one`), each moved by
+//! the first of the least trips of each flight. It answers exactly the bound that they tell, or that
+//! a flight has no trip (`told`), and no round up to the last has a greater one (`least`). That is a
+//! bound on the feasible plans in the box (`sound`), and so is that of any round
+//! (`round_bounds_are_bounds`). Where a place has no capacity of a kind its price is 0 (`placed`).
+//! A round has one bound in a box (`round_bounds_are_the_same`). Nothing is said of how good it is.
+//! `proofs/WorkedRounds.antt` has a round worked out.
 //!
-//! Memory: prices and loads, 36 bytes a place and period, eight a connection and period and eight
-//! a flight, and the room for least trips, 0.9 MB, once. `step` takes none. Time: `step` finds a
-//! least trip for each flight, and looks at each price twice.
+//! Memory: prices twice and loads, 60 bytes a place and period, sixteen a connection and period and
+//! eight a flight, and the room for least trips, 0.9 MB, once. `play` takes none. Time: each round
+//! finds a least trip for each flight, and looks at each price twice, or four times where its
+//! prices are kept.
 #![tactic(auto)]
 
 mod laws;
@@ -39,5 +41,6 @@ mod rounds;
 mod taking;
 mod values;
 
-pub use laws::round_bounds_are_bounds;
-pub use rounds::Rounds;
+pub use laws::{round_bounds_are_bounds, round_bounds_are_the_same};
+pub use rounds::{Rounds, is_above};
+pub use taking::COST_WEIGHT;

@@ -4,46 +4,14 @@ ghost use Rattle.flow_types.specs.declared.bound.PriceKey.{PriceKey};
 ghost use Rattle.flow_types.specs.Scenario.{parts_of};
 ghost use Rattle.flight_routes.specs.Prices.{ArePricesOf, IsKeyOf, price_at};
 ghost use Rattle.plan_rules.specs.Loads.{IsMadeFor, load_at};
-ghost use Rattle.lagrange_bound.specs.Moves.{AreMoved, HasRoomIn, HaveRoom, IsKeyFor, is_at, is_in_kinds, is_in_row, is_in_rows, key_in, kind_number, most_rise, moved_by_times, moved_price, number_in, period_in, row_in, rows_of};
+ghost use Rattle.priced_plans.specs.Keys.{IsKeyFor, is_at, key_in, kind_number, number_in, period_in, row_in, rows_of};
+ghost use Rattle.lagrange_bound.specs.Moves.{AreMoved, HasRoomIn, HaveRoom, is_in_kinds, is_in_row, is_in_rows, most_rise, moved_by_times, moved_price};
 ghost use Rattle.lagrange_bound.specs.Rounds.{is_by, moved, moved_by_capacity};
 
 use flight_routes::Prices;
 use flow_types::{CapKind, PriceKey, Scenario, has_kind};
 use plan_rules::Loads;
-
-/// What a price is put on.
-#[derive(Clone, Copy, Debug, PartialEq, Eq)]
-pub enum PriceKind {
-    Departure,
-    Arrival,
-    Stay,
-    Turn,
-}
-
-// The price of a row in a period.
-fn key_in(kind: PriceKind, row: u32, period: u16) -> PriceKey
-    ensures { result ≡ key_in kind row period }
-{
-    match kind {
-        PriceKind::Departure => PriceKey::Dep { place: row, period },
-        PriceKind::Arrival => PriceKey::Arr { place: row, period },
-        PriceKind::Stay => PriceKey::Sector { place: row, period },
-        PriceKind::Turn => PriceKey::Connect {
-            connection: row,
-            period,
-        },
-    }
-}
-
-// How many rows of prices of a kind there are.
-fn rows_of(s: &Scenario, kind: PriceKind) -> usize
-    ensures { result ≡ rows_of (parts_of s.now) kind }
-{
-    match kind {
-        PriceKind::Departure | PriceKind::Arrival | PriceKind::Stay => s.places().len(),
-        PriceKind::Turn => s.connections().len(),
-    }
-}
+use priced_plans::{PriceKind, key_in, price_at, rows_of};
 
 // A price and a step more for each by which the count exceeds the limit, or less; no less than 0.
 fn moved(step: u64, count: u32, limit: u32, price: u64) -> u64
@@ -137,19 +105,6 @@ fn moved_price(s: &Scenario, loads: &Loads, step: u64, key: PriceKey, price: u64
         PriceKey::Connect { connection, period } => {
             moved_by_times(s, loads, step, connection, period, price)
         }
-    }
-}
-
-// The price that a key names.
-fn price_at(prices: &Prices, key: PriceKey) -> u64
-    requires { IsKeyOf prices.now key }
-    ensures { result ≡ price_at prices.now key }
-{
-    match key {
-        PriceKey::Dep { place, period } => prices.departure(place, period),
-        PriceKey::Arr { place, period } => prices.arrival(place, period),
-        PriceKey::Sector { place, period } => prices.stay(place, period),
-        PriceKey::Connect { connection, period } => prices.turn(connection, period),
     }
 }
 

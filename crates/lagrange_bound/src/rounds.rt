@@ -1,14 +1,15 @@
-//! Prices that are found in rounds.
-ghost use Rattle.std.specs.Prelude.{◌≡◌, ◌≤◌, ◌<◌, ◌+◌, ◌*◌};
-ghost use Rattle.flow_types.specs.declared.bound.PriceKey.{PriceKey};
+//! Prices that are found in rounds, and the best of them.
+ghost use Rattle.std.specs.Prelude.{◌≡◌, ◌≤◌, ◌<◌, ◌+◌, length, true, false};
 ghost use Rattle.flow_types.specs.Scenario.{parts_of};
-ghost use Rattle.flight_routes.specs.Prices.{ArePricesOf, price_at};
+ghost use Rattle.flight_routes.specs.Prices.{AreFree, ArePricesOf};
 ghost use Rattle.flight_routes.specs.Work.{IsWorkFor};
 ghost use Rattle.plan_rules.specs.Loads.{IsMadeFor as AreLoadsFor};
+ghost use Rattle.time_windows.specs.Boxes.{Box};
 ghost use Rattle.time_windows.specs.Held.{IsMadeFor, box_of};
-ghost use Rattle.lagrange_bound.specs.Moves.{IsKeyFor, most_rise};
+ghost use Rattle.lagrange_bound.specs.Best.{IsAtMost, IsNear};
 ghost use Rattle.lagrange_bound.specs.Rounds.{IsRoundStep, IsTableBound};
-ghost use Rattle.lagrange_bound.specs.Work.{most_rounds};
+ghost use Rattle.lagrange_bound.specs.Taking.{HaveTaken};
+ghost use Rattle.lagrange_bound.specs.Work.{AreLow, ArePlayed, AreTakenFor, IsBest, most_rounds};
 
 use crate::moves::move_prices;
 use crate::taking::take_trips;
@@ -16,16 +17,17 @@ use crate::values::{bound_of, value_of};
 use flight_routes::{Prices, Work};
 use flow_types::{Bound, OutOfMemory, Scenario};
 use plan_rules::Loads;
-use priced_plans::priced_values_are_bounds;
+use priced_plans::priced_bounds_are_bounds;
 use std::alloc::Global;
 use std::marker::Model;
 use time_windows::Boxes;
 
-/// The prices after some rounds, with the room that a round takes. Contracts see it as a
-/// `RoundRoom`.
+/// Room to play rounds in, and the best prices of those that were played last. Contracts see it as
+/// a `RoundRoom`.
 #[derive(Debug, Drop)]
 pub struct Rounds {
     prices: Prices,
+    best: Prices,
     work: Work,
     loads: Loads,
 }
@@ -37,94 +39,188 @@ impl Model for Rounds {
 
     ghost view = { λ a. record {
       prices = a.prices;
+      best = a.best;
       work = a.work;
       loads = a.loads;
     } };
 }
 
 impl Rounds {
-    ghost use Rattle.std.specs.Prelude.{◌≡◌, ◌≤◌, ◌<◌, ◌+◌, IfOk};
+    ghost use Rattle.std.specs.Prelude.{◌≡◌, ◌≤◌, IfOk};
     ghost use Rattle.flow_types.specs.Scenario.{parts_of};
     ghost use Rattle.flight_routes.specs.Prices.{AreFree};
     ghost use Rattle.time_windows.specs.Held.{IsMadeFor, box_of};
-    ghost use Rattle.lagrange_bound.specs.Rounds.{BoundsAll, IsRoundStep, IsTableBound};
+    ghost use Rattle.priced_plans.specs.PricedBound.{BoundsFeasible};
+    ghost use Rattle.priced_plans.specs.Keys.{ArePlaced};
+    ghost use Rattle.lagrange_bound.specs.Best.{IsMostOfRounds, IsNear, IsOneOfRounds};
+    ghost use Rattle.lagrange_bound.specs.Rounds.{IsTableBound};
     ghost use Rattle.lagrange_bound.specs.Work.{IsRoomFor, most_rounds};
 
     /// Room for the rounds of the scenario, with prices of 0.
     pub fn new(alloc: Global, s: &Scenario) -> Result<Rounds, OutOfMemory>
-        ensures made { IfOk result (IsRoomFor (parts_of s.now) 1) }
-        ensures free { IfOk result (λ rounds. AreFree rounds.prices) }
+        ensures made { IfOk result (IsRoomFor (parts_of s.now)) }
+        ensures free { IfOk result (λ rounds. AreFree rounds.best) }
     {
         Ok(Rounds {
             prices: Prices::new(alloc, s)?,
+            best: Prices::new(alloc, s)?,
             work: Work::new(alloc, s)?,
             loads: Loads::new(alloc, s)?,
         })
     }
 
-    /// The next round on a box: moves the prices by the least trips under them, or leaves them
-    /// where a flight has no trip in the box. Answers the bound that the prices tell which it
-    /// began with: no feasible plan in the box costs less. Rounds count from 1. It takes no memory.
-    pub fn step(&mut self, s: &Scenario, boxes: &Boxes, round: u32) -> Bound
-        requires made { IsRoomFor (parts_of s.now) round self.old }
+    /// Plays so many rounds on a box, from prices of 0, and keeps the prices of the round with the
+    /// greatest bound. Answers what they tell: no feasible plan in the box costs less, or there is
+    /// none, since a flight has no trip in the box. The bound is nearer to 0 than 2^124.
+    ///
+    /// The room and the box are of the scenario, and there are at most 2^18 rounds. With none the
+    /// prices are 0. It takes no memory, and time as a least trip for each flight, and for each
+    /// place and period, once more often than there are rounds.
+    pub fn play(&mut self, s: &Scenario, boxes: &Boxes, rounds: u32) -> Bound
+        requires made { IsRoomFor (parts_of s.now) self.old }
         requires boxes { IsMadeFor (parts_of s.now) boxes.now }
-        requires some { 1 ≤ round }
-        requires few { round ≤ most_rounds }
-        ensures step { IsRoundStep (parts_of s.now) (box_of boxes.now) round self.old.prices
-            self.new.prices }
-        ensures bound { IsTableBound (parts_of s.now) (box_of boxes.now) self.old.prices result }
-        ensures sound { BoundsAll (parts_of s.now) (box_of boxes.now) result }
-        ensures made { IsRoomFor (parts_of s.now) (round + 1) self.new }
+        requires few { rounds ≤ most_rounds }
+        ensures one { IsOneOfRounds (parts_of s.now) (box_of boxes.now) rounds self.new.best }
+        ensures told { IsTableBound (parts_of s.now) (box_of boxes.now) self.new.best result }
+        ensures least { IsMostOfRounds (parts_of s.now) (box_of boxes.now) rounds result }
+        ensures sound { BoundsFeasible (parts_of s.now) (box_of boxes.now) result }
+        ensures near { IsNear result }
+        ensures placed { ArePlaced (parts_of s.now) self.new.best }
+        ensures made { IsRoomFor (parts_of s.now) self.new }
     {
-        priced_values_are_bounds();
-        play_round(
+        priced_bounds_are_bounds();
+        self.prices.clear();
+        play_rounds(
             s,
             boxes,
-            round,
+            rounds,
             &mut self.prices,
+            &mut self.best,
             &mut self.work,
             &mut self.loads,
         )
     }
 
-    /// The prices.
+    /// The prices that are kept.
     pub fn prices(&self) -> &Prices
-        ensures { result.now ≡ self.now.prices }
+        ensures { result.now ≡ self.now.best }
     {
-        &self.prices
+        &self.best
     }
 }
 
-// One round.
-fn play_round(
+// Plays them, from prices of 0.
+fn play_rounds(
     s: &Scenario,
     boxes: &Boxes,
-    round: u32,
+    rounds: u32,
     prices: &mut Prices,
+    best: &mut Prices,
     work: &mut Work,
     loads: &mut Loads,
 ) -> Bound
     requires boxes { IsMadeFor (parts_of s.now) boxes.now }
-    requires some { 1 ≤ round }
-    requires few { round ≤ most_rounds }
+    requires few { rounds ≤ most_rounds }
     requires prices { ArePricesOf (parts_of s.now) prices.old }
-    requires low { (key : PriceKey) → IsKeyFor (parts_of s.now) key
-        → price_at prices.old key ≤ round * most_rise }
+    requires free { AreFree prices.old }
+    requires best { ArePricesOf (parts_of s.now) best.old }
     requires work { IsWorkFor (parts_of s.now) work.old }
     requires loads { AreLoadsFor (parts_of s.now) loads.old }
-    ensures step { IsRoundStep (parts_of s.now) (box_of boxes.now) round prices.old prices.new }
-    ensures bound { IsTableBound (parts_of s.now) (box_of boxes.now) prices.old result }
+    ensures kept { IsBest (parts_of s.now) (box_of boxes.now) rounds best.new result }
+    ensures near { IsNear result }
     ensures prices { ArePricesOf (parts_of s.now) prices.new }
-    ensures low { (key : PriceKey) → IsKeyFor (parts_of s.now) key
-        → price_at prices.new key ≤ (round + 1) * most_rise }
     ensures work { IsWorkFor (parts_of s.now) work.new }
-    ensures made { AreLoadsFor (parts_of s.now) loads.new }
+    ensures loads { AreLoadsFor (parts_of s.now) loads.new }
+{
+    let mut bound = tell(s, boxes, prices, work, loads);
+    best.copy_from(prices);
+    for played in 0..rounds {
+        if let Bound::NoPlan = bound {
+            return Bound::NoPlan;
+        }
+        bound = play_round(s, boxes, played, bound, prices, best, work, loads);
+    }
+    bound
+}
+
+// One round more, after so many. Keeps its prices if they tell more than those that are kept.
+fn play_round(
+    s: &Scenario,
+    boxes: &Boxes,
+    played: u32,
+    bound: Bound,
+    prices: &mut Prices,
+    best: &mut Prices,
+    work: &mut Work,
+    loads: &mut Loads,
+) -> Bound
+    requires boxes { IsMadeFor (parts_of s.now) boxes.now }
+    requires few { played < most_rounds }
+    requires played { ArePlayed (parts_of s.now) (box_of boxes.now) played prices.old best.old
+        loads.old bound }
+    requires taken { HaveTaken (parts_of s.now) (box_of boxes.now) prices.old
+        (length (parts_of s.now).flights) loads.old }
+    requires near { IsNear bound }
+    requires work { IsWorkFor (parts_of s.now) work.old }
+    requires loads { AreLoadsFor (parts_of s.now) loads.old }
+    ensures near { IsNear result }
+    ensures played { ArePlayed (parts_of s.now) (box_of boxes.now) (played + 1) prices.new best.new
+        loads.new result }
+    ensures work { IsWorkFor (parts_of s.now) work.new }
+    ensures loads { AreLoadsFor (parts_of s.now) loads.new }
+{
+    move_on(s, loads, played, prices);
+    let told = tell(s, boxes, prices, work, loads);
+    if is_above(told, bound) {
+        best.copy_from(prices);
+        told
+    } else {
+        bound
+    }
+}
+
+// Moves the prices as the next round after so many, by the trips that the loads count.
+fn move_on(s: &Scenario, loads: &Loads, played: u32, prices: &mut Prices)
+    requires loads { AreLoadsFor (parts_of s.now) loads.now }
+    requires prices { ArePricesOf (parts_of s.now) prices.old }
+    requires few { played < most_rounds }
+    requires low { AreLow (parts_of s.now) played prices.old }
+    ensures step { (box : Box) → HaveTaken (parts_of s.now) box prices.old
+        (length (parts_of s.now).flights) loads.now
+        → IsRoundStep (parts_of s.now) box (played + 1) prices.old prices.new }
+    ensures size { ArePricesOf (parts_of s.now) prices.new }
+    ensures low { AreLow (parts_of s.now) (played + 1) prices.new }
+{
+    move_prices(s, loads, 1024 / (u64::from(played) + 1), prices);
+}
+
+// What the prices tell. The loads then count the least trips under them.
+fn tell(s: &Scenario, boxes: &Boxes, prices: &Prices, work: &mut Work, loads: &mut Loads) -> Bound
+    requires boxes { IsMadeFor (parts_of s.now) boxes.now }
+    requires prices { ArePricesOf (parts_of s.now) prices.now }
+    requires low { AreLow (parts_of s.now) most_rounds prices.now }
+    requires work { IsWorkFor (parts_of s.now) work.old }
+    requires loads { AreLoadsFor (parts_of s.now) loads.old }
+    ensures told { IsTableBound (parts_of s.now) (box_of boxes.now) prices.now result }
+    ensures near { IsNear result }
+    ensures taken { AreTakenFor (parts_of s.now) (box_of boxes.now) prices.now loads.new result }
+    ensures work { IsWorkFor (parts_of s.now) work.new }
+    ensures loads { AreLoadsFor (parts_of s.now) loads.new }
 {
     loads.clear();
     let sum = take_trips(s, boxes, prices, work, loads);
-    let bound = bound_of(value_of(s, prices, sum));
-    if sum.is_some() {
-        move_prices(s, loads, 1024 / u64::from(round), prices);
+    bound_of(value_of(s, prices, sum))
+}
+
+/// Whether the first bound is above the second; that there is no plan is above all numbers.
+pub fn is_above(first: Bound, second: Bound) -> bool
+    ensures above { result ≡ true → IsAtMost second first }
+    ensures strictly { result ≡ true → IsAtMost first second → ⊥ }
+    ensures not { result ≡ false → IsAtMost first second }
+{
+    match (first, second) {
+        (_, Bound::NoPlan) => false,
+        (Bound::NoPlan, Bound::AtLeast(_)) => true,
+        (Bound::AtLeast(first), Bound::AtLeast(second)) => first > second,
     }
-    bound
 }

@@ -9,9 +9,10 @@ ghost use Rattle.flight_routes.specs.Rates.{IsValueWithin};
 ghost use Rattle.flight_routes.specs.Work.{IsWorkFor};
 ghost use Rattle.plan_rules.specs.Loads.{AreLoads, IsMadeFor as AreLoadsFor, no_trips};
 ghost use Rattle.time_windows.specs.Held.{IsMadeFor, box_of};
-ghost use Rattle.lagrange_bound.specs.Moves.{IsKeyFor};
+ghost use Rattle.priced_plans.specs.Keys.{IsKeyFor};
 ghost use Rattle.lagrange_bound.specs.Rounds.{cost_weight};
-ghost use Rattle.lagrange_bound.specs.Taking.{HaveTaken, IsTakenSum, plus};
+ghost use Rattle.lagrange_bound.specs.Taking.{HaveTaken, IsTakenSum};
+ghost use Rattle.priced_plans.specs.Valuing.{plus};
 
 use flight_routes::{Prices, Work};
 use flow_types::Scenario;
@@ -19,7 +20,7 @@ use plan_rules::Loads;
 use time_windows::Boxes;
 
 /// How much costs weigh beside prices.
-pub const WEIGHT: u64 = 1024;
+pub const COST_WEIGHT: u64 = 1024;
 
 // Takes the least trip of the next flight and counts it, and answers what it costs with its prices;
 // nothing where there is no trip.
@@ -44,7 +45,7 @@ fn take_trip(
     ensures work { IsWorkFor (parts_of s.now) work.new }
     ensures made { AreLoadsFor (parts_of s.now) loads.new }
 {
-    match work.least_trip(s, boxes, flight, WEIGHT, prices) {
+    match work.least_trip(s, boxes, flight, COST_WEIGHT, prices) {
         None => None,
         Some(least) => {
             loads.add(s, flight, work.trip());

@@ -4,9 +4,10 @@ ghost use Rattle.flow_types.specs.Scenario.{parts_of};
 ghost use Rattle.flight_routes.specs.Prices.{ArePricesOf};
 ghost use Rattle.flight_routes.specs.Rates.{IsValueWithin};
 ghost use Rattle.priced_plans.specs.Values.{limit_price};
+ghost use Rattle.lagrange_bound.specs.Best.{IsNear};
 ghost use Rattle.lagrange_bound.specs.Sums.{IsBoundOf, less};
 
-use crate::taking::WEIGHT;
+use crate::taking::COST_WEIGHT;
 use flight_routes::Prices;
 use flow_types::{Bound, Scenario};
 use priced_plans::{limit_price, rounded_up};
@@ -38,10 +39,11 @@ pub fn value_of(s: &Scenario, prices: &Prices, sum: Option<i128>) -> Option<i128
 /// is none.
 pub fn bound_of(value: Option<i128>) -> Bound
     requires near { IfSome value (IsValueWithin (2 ^ 123)) }
-    ensures { IsBoundOf value result }
+    ensures told { IsBoundOf value result }
+    ensures near { IsNear result }
 {
     match value {
         None => Bound::NoPlan,
-        Some(value) => Bound::AtLeast(rounded_up(value, WEIGHT)),
+        Some(value) => Bound::AtLeast(rounded_up(value, COST_WEIGHT)),
     }
 }

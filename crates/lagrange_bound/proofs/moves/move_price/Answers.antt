@@ -9,11 +9,11 @@ pub returns : goal.returns
 returns c =
     let parts = parts_of c.args.s.now in
     let move = moved_price parts c.args.loads.now c.args.step in
-    let value = subst (λ p. c.moved_price.result ≡ move c.args.key p) c.price_at-price.ensures
+    let value = subst (λ p. c.moved_price.result ≡ move c.args.key p) c.price_at-price.ensures.price
     c.moved_price.ensures.value in
     one_moved parts move c.args.key c.args.prices.now c.set.new.self c.requires.prices
     (c.set.ensures.here ∙ value)
     (subst (λ m. m ≤ price_at c.args.prices.now c.args.key + most_rise) value
-    (subst (λ p. c.moved_price.result ≤ p + most_rise) c.price_at-price.ensures
+    (subst (λ p. c.moved_price.result ≤ p + most_rise) c.price_at-price.ensures.price
     c.moved_price.ensures.rise))
     c.set.ensures.others (c.set.ensures.size parts c.requires.prices)

@@ -1,5 +1,5 @@
 use Rattle.flow_types.specs.Scenario.{parts_of}
-use Rattle.lagrange_bound.specs.declared.moves.PriceKind.TheVariants.{Arrival, Stay, Turn}
+use Rattle.priced_plans.specs.declared.kinds.PriceKind.TheVariants.{Arrival, Stay, Turn}
 use Rattle.lagrange_bound.specs.Moves.{moved_price}
 use Rattle.lagrange_bound.proofs.MoveFacts.{all_kinds, first_kind, kinds_next, room_in_kinds}
 use Rattle.lagrange_bound.proofs.moves.move_prices.Goals as goal

@@ -1,5 +1,6 @@
 use Rattle.flow_types.specs.Scenario.{parts_of}
-use Rattle.lagrange_bound.specs.Moves.{AreMoved, is_in_rows, kind_number, moved_price}
+use Rattle.priced_plans.specs.Keys.{kind_number}
+use Rattle.lagrange_bound.specs.Moves.{AreMoved, is_in_rows, moved_price}
 use Rattle.lagrange_bound.proofs.moves.move_rows.Given as goal
 
 abbrev pub invariant-loop-row : goal.invariant-loop-row

@@ -1,16 +1,24 @@
-use Rattle.std.proofs.Common.{ℕ, ◌/◌, ap, sym}
+use Rattle.std.proofs.Common.{refl}
 use Rattle.flow_types.specs.Scenario.{parts_of}
 use Rattle.time_windows.specs.Held.{box_of}
-use Rattle.lagrange_bound.proofs.StepFacts.{round_played, trips_taken}
+use Rattle.lagrange_bound.proofs.BestFacts.{best_changes, best_stays}
 use Rattle.lagrange_bound.proofs.rounds.play_round.Goals as goal
 
-pub returns-then-is_some-clause-step : goal.returns-then-is_some-clause-step
-returns-then-is_some-clause-step c =
-    let parts = parts_of c.args.s.now in
+pub returns-then-is_above-clause-played : goal.returns-then-is_above-clause-played
+returns-then-is_above-clause-played c =
     let box = box_of c.args.boxes.now in
-    round_played parts box c.args.round (1024 / c.from.result) c.take_trips-sum.new.loads
-    c.args.prices.now c.move_prices.new.prices c.requires.prices
-    (ap (λ (n : ℕ). 1024 / n) c.from.ensures)
-    (trips_taken parts box c.args.prices.now c.take_trips-sum.new.loads c.take_trips-sum.result
-    c.is_some.result c.take_trips-sum.ensures.sum (sym c.is_some.ensures) c.if-is_some.true)
-    c.move_prices.ensures
+    best_changes (parts_of c.args.s.now) box c.args.s.now.valid c.args.played c.args.prices.now
+    c.args.best.now c.move_on.new.prices c.args.loads.now c.tell-told.new.loads c.args.bound
+    c.tell-told.result c.requires.played (c.move_on.ensures.step box c.requires.taken)
+    c.move_on.ensures.size c.move_on.ensures.low c.tell-told.ensures.told
+    c.tell-told.ensures.taken c.copy_from.new.self c.copy_from.ensures
+    (c.if-is_above.ensures.above refl)
+
+pub returns-else-is_above-clause-played : goal.returns-else-is_above-clause-played
+returns-else-is_above-clause-played c =
+    let box = box_of c.args.boxes.now in
+    best_stays (parts_of c.args.s.now) box c.args.s.now.valid c.args.played c.args.prices.now
+    c.args.best.now c.move_on.new.prices c.args.loads.now c.tell-told.new.loads c.args.bound
+    c.tell-told.result c.requires.played (c.move_on.ensures.step box c.requires.taken)
+    c.move_on.ensures.size c.move_on.ensures.low c.tell-told.ensures.told
+    c.tell-told.ensures.taken (c.if-is_above.ensures.not refl)

@@ -1,0 +1,24 @@
+use Rattle.std.proofs.Common.{◌≡◌, subst, arith}
+use Rattle.flow_types.specs.Scenario.{parts_of}
+use Rattle.time_windows.specs.Held.{box_of}
+use Rattle.lagrange_bound.specs.Work.{IsBest}
+use Rattle.lagrange_bound.proofs.BestFacts.{first_played}
+use Rattle.lagrange_bound.proofs.rounds.play_rounds.Goals as goal
+
+pub loop-played-init : goal.loop-played-init
+loop-played-init c = (
+  first_played (parts_of c.args.s.now) (box_of c.args.boxes.now) c.args.s.now.valid
+      c.args.prices.now c.copy_from.new.self c.tell-bound.new.loads c.tell-bound.result
+      c.requires.prices c.requires.free c.tell-bound.ensures.told c.tell-bound.ensures.taken
+      c.copy_from.ensures,
+  c.tell-bound.ensures.work,
+  c.tell-bound.ensures.loads,
+  c.tell-bound.ensures.near,
+)
+
+pub returns-clause-kept : goal.returns-clause-kept
+returns-clause-kept c =
+    let all : c.loop-played.played ≡ c.args.rounds =
+    omega (arith, c.loop-played.auto.played-end, c.loop-played-test.false) in
+    subst (λ n. IsBest (parts_of c.args.s.now) (box_of c.args.boxes.now) n c.loop-played.best
+    c.loop-played.bound) all c.loop-played.invariant.0.kept
