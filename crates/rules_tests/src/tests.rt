@@ -10,6 +10,7 @@ use flight_routes::{Prices, Work};
 use flow_types::{Bound, CapKind, OutOfMemory, Plan, PriceKey, Scenario, Stop};
 use greedy_plan::{Greedy, first_bound, first_plan};
 use lagrange_bound::Rounds;
+use plan_improver::Improver;
 use plan_rules::{
     Loads, Verdict, cost, first_broken_rules_are_first, judge,
     plans_that_break_nothing_are_feasible, trips_are_counted_once,
@@ -177,6 +178,39 @@ fn a_day_is_planned(rt: HostRuntime) -> Result<(), Fail> {
     Ok(())
 }
 
+// The cost of a plan that is found in place of the start, if one is.
+fn cheaper_cost(
+    rt: &impl Abort,
+    alloc: Global,
+    s: &Scenario,
+    start: &Plan,
+) -> Result<Option<i64>, OutOfMemory> {
+    let boxes = tight_root(rt, alloc, s)?;
+    let mut improver = Improver::new(alloc, s)?;
+    match improver.cheaper_plan(alloc, s, &boxes, start)? {
+        None => Ok(None),
+        Some(plan) => Ok(Some(cost(s, &plan))),
+    }
+}
+
+#[test]
+fn plans_are_made_cheaper(rt: HostRuntime) -> Result<(), Fail> {
+    let alloc = rt.alloc();
+    let s = two_flights(alloc, 1, 9, 9)?;
+    // The second flight's times, and what the plan costs that is found.
+    for (departs, arrives, cheaper) in [
+        (0, 2, Some(1)),
+        (1, 3, None),
+        (2, 5, Some(1)),
+        (4, 6, Some(1)),
+    ] {
+        let start = plan_with(alloc, &trip_at(departs, arrives))?;
+        assert_eq!(rt; cheaper_cost(&rt, alloc, &s, &start)?, cheaper, "{departs}");
+    }
+    assert_eq!(rt; cheaper_cost(&rt, alloc, &s, &Plan::empty(alloc))?, Some(1));
+    Ok(())
+}
+
 #[test]
 fn the_costs_of_a_day_are_bounded(rt: HostRuntime) -> Result<(), Fail> {
     let alloc = rt.alloc();
@@ -189,11 +223,22 @@ fn the_costs_of_a_day_are_bounded(rt: HostRuntime) -> Result<(), Fail> {
 #[test]
 fn rounds_of_prices_bound_a_day(rt: HostRuntime) -> Result<(), Fail> {
     let alloc = rt.alloc();
-    let s = two_flights(alloc, 1, 9, 9)?;
+    let s = two_flights(alloc, 1, 1, 1)?;
     let boxes = tight_root(&rt, alloc, &s)?;
     let mut rounds = Rounds::new(alloc, &s)?;
-    assert_eq!(rt; rounds.step(&s, &boxes, 1), Bound::AtLeast(0));
-    assert_eq!(rt; rounds.step(&s, &boxes, 2), Bound::AtLeast(1));
+    // So many rounds, the best bound, and what its prices say of the first period and place. The
+    // rounds by themselves tell 0, 0, 1, 0, 2 and 1.
+    for (count, bound, price) in [
+        (0, 0, 0),
+        (1, 0, 0),
+        (2, 1, 512),
+        (3, 1, 512),
+        (4, 2, 427),
+        (5, 2, 427),
+    ] {
+        assert_eq!(rt; rounds.play(&s, &boxes, count), Bound::AtLeast(bound));
+        assert_eq!(rt; rounds.prices().departure(0, 0), price);
+    }
     Ok(())
 }
 

@@ -1,0 +1,128 @@
+//! Capacities that are full.
+ghost use Rattle.flow_types.specs.Scenario.{parts_of};
+ghost use Rattle.plan_rules.specs.Loads.{IsMadeFor};
+
+use flow_types::{CapKind, Flight, OutOfMemory, Scenario, Stop, has_kind, place_at};
+use plan_rules::Loads;
+
+/// A capacity in one period.
+#[derive(Clone, Copy, Debug, PartialEq, Eq)]
+pub struct Cell {
+    pub kind: CapKind,
+    pub place: u32,
+    pub period: u16,
+}
+
+/// The periods in which a flight is under way.
+#[derive(Clone, Copy, Debug, PartialEq, Eq)]
+pub struct Times {
+    pub leaves: u16,
+    pub arrives: u16,
+}
+
+/// The times of a trip, none where it has no stops.
+pub fn times_of(stops: &[Stop]) -> Option<Times> {
+    let leaves = stops.first()?.time;
+    let arrives = stops.last()?.time;
+    Some(Times { leaves, arrives })
+}
+
+/// Adds the full capacities that may keep the flight from `early` and give it `late`: those of
+/// departures and arrivals between these times, and those of its sectors on the whole way.
+pub fn add_full_cells(
+    cells: &mut Vec<Cell>,
+    s: &Scenario,
+    loads: &Loads,
+    flight: &Flight,
+    early: Times,
+    late: Times,
+) -> Result<(), OutOfMemory>
+    requires { IsMadeFor (parts_of s.now) loads.now }
+{
+    add_full(
+        cells,
+        s,
+        loads,
+        CapKind::Dep,
+        flight.from,
+        early.leaves,
+        late.leaves,
+    )?;
+    add_full(
+        cells,
+        s,
+        loads,
+        CapKind::Arr,
+        flight.to,
+        early.arrives,
+        late.arrives,
+    )?;
+    for place in flight.nodes.items() {
+        add_full(
+            cells,
+            s,
+            loads,
+            CapKind::Sector,
+            *place,
+            early.leaves,
+            late.arrives,
+        )?;
+    }
+    Ok(())
+}
+
+// Adds those of one place in the periods from `first` to `last`, if it has capacities of the kind.
+fn add_full(
+    cells: &mut Vec<Cell>,
+    s: &Scenario,
+    loads: &Loads,
+    kind: CapKind,
+    place: u32,
+    first: u16,
+    last: u16,
+) -> Result<(), OutOfMemory>
+    requires { IsMadeFor (parts_of s.now) loads.now }
+{
+    if !has_kind(kind, s.places(), place) {
+        return Ok(());
+    }
+    for period in first..s.day().periods {
+        if period <= last && loads.load(kind, place, period) >= s.capacity(kind, place, period) {
+            cells.push(Cell {
+                kind,
+                place,
+                period,
+            })?;
+        }
+    }
+    Ok(())
+}
+
+/// Whether the trip of the flight counts for the capacity in its period.
+pub fn meets(flight: &Flight, stops: &[Stop], cell: Cell) -> bool {
+    match cell.kind {
+        CapKind::Dep => is_there(flight, stops.first(), cell),
+        CapKind::Arr => is_there(flight, stops.last(), cell),
+        CapKind::Sector => stays(flight, stops, cell),
+    }
+}
+
+// Whether the stop is at the place in the period.
+fn is_there(flight: &Flight, stop: Option<&Stop>, cell: Cell) -> bool {
+    match stop {
+        None => false,
+        Some(stop) => stop.time == cell.period && place_at(flight, stop.node) == cell.place,
+    }
+}
+
+// Whether the trip is at the place in the period, before it enters the next.
+fn stays(flight: &Flight, stops: &[Stop], cell: Cell) -> bool {
+    for at in 1..stops.len() {
+        let stop = stops[at - 1];
+        let is_then = stop.time <= cell.period && cell.period < stops[at].time;
+        if is_then && place_at(flight, stop.node) == cell.place {
+            return true;
+        }
+    }
+    false
+}

@@ -1,0 +1,224 @@
+//! Which flights are taken out together.
+ghost use Rattle.std.specs.Prelude.{◌≡◌, ◌<◌, ◌^◌, length};
+ghost use Rattle.flow_types.specs.Scenario.{parts_of};
+ghost use Rattle.plan_rules.specs.Loads.{IsMadeFor};
+
+use crate::cells::{Cell, Times, add_full_cells, meets, times_of};
+use crate::draft::Choice;
+use crate::generator::Generator;
+use flow_types::{Flight, OutOfMemory, Scenario, Stop};
+use plan_rules::Loads;
+use std::alloc::Global;
+use time_windows::{Boxes, End, Turn};
+
+// How many full capacities a choice looks at.
+const MOST_CELLS: usize = 4;
+
+// With how many flights beside the delayed one it begins.
+const MOST_OTHERS: usize = 8;
+
+// How many flights it comes to, with those that they have connections with.
+const MOST_CHOSEN: usize = 24;
+
+/// The flights that are taken out together, in the order in which they are put back, with the lists
+/// that serve their choice.
+#[derive(Debug, Drop)]
+pub struct Chosen {
+    generator: Generator,
+    delayed: Vec<u32>,
+    cells: Vec<Cell>,
+    others: Vec<u32>,
+    flights: Vec<u32>,
+}
+
+impl Chosen {
+    /// None yet.
+    pub fn new(alloc: Global) -> Chosen {
+        Chosen {
+            generator: Generator::new(),
+            delayed: Vec::new(alloc),
+            cells: Vec::new(alloc),
+            others: Vec::new(alloc),
+            flights: Vec::new(alloc),
+        }
+    }
+
+    /// Begins the numbers that choices are drawn by anew.
+    pub fn restart(&mut self) {
+        self.generator = Generator::new();
+    }
+
+    /// The flights, in the order in which they are put back.
+    pub fn flights(&self) -> &[u32] {
+        &self.flights
+    }
+
+    /// The flight at this position in that order, if there is one.
+    pub fn flight_at(&self, position: usize) -> Option<u32> {
+        self.flights.get(position).copied()
+    }
+
+    /// Chooses this flight alone.
+    pub fn choose_one(&mut self, flight: u32) -> Result<(), OutOfMemory> {
+        self.flights.clear();
+        self.flights.push(flight)?;
+        Ok(())
+    }
+
+    /// Chooses a delayed flight with some that are in its way, and tells whether one is delayed.
+    pub fn choose(
+        &mut self,
+        s: &Scenario,
+        boxes: &Boxes,
+        loads: &Loads,
+        choices: &[Choice],
+    ) -> Result<bool, OutOfMemory>
+        requires loads { IsMadeFor (parts_of s.now) loads.now }
+        requires count { length choices.now ≡ length (parts_of s.now).flights }
+    {
+        list_delayed(&mut self.delayed, choices)?;
+        if self.delayed.is_empty() {
+            return Ok(false);
+        }
+        let flight = self.delayed[self.generator.below(self.delayed.len())];
+        self.list_cells(s, loads, choices, flight)?;
+        self.list_others(s, boxes, choices, flight)?;
+        self.choose_one(flight)?;
+        add_with_partners(&mut self.flights, boxes, &self.others)?;
+        self.generator.mix(&mut self.flights);
+        Ok(true)
+    }
+
+    // Lists some full capacities that the flight would have to pass to be earlier.
+    fn list_cells(
+        &mut self,
+        s: &Scenario,
+        loads: &Loads,
+        choices: &[Choice],
+        flight: u32,
+    ) -> Result<(), OutOfMemory>
+        requires loads { IsMadeFor (parts_of s.now) loads.now }
+        requires count { length choices.now ≡ length (parts_of s.now).flights }
+    {
+        self.cells.clear();
+        let Some(choice) = choices.get(flight as usize) else {
+            return Ok(());
+        };
+        let Some(early) = times_of(choice.alone.items()) else {
+            return Ok(());
+        };
+        let details = &s.flights()[flight as usize];
+        let late = late_times(details, choice.trip.items());
+        add_full_cells(&mut self.cells, s, loads, details, early, late)?;
+        self.generator.mix(&mut self.cells);
+        self.cells.truncate(MOST_CELLS);
+        Ok(())
+    }
+
+    // Lists some of its partners and of the flights that fill these capacities.
+    fn list_others(
+        &mut self,
+        s: &Scenario,
+        boxes: &Boxes,
+        choices: &[Choice],
+        flight: u32,
+    ) -> Result<(), OutOfMemory>
+        requires { length choices.now ≡ length (parts_of s.now).flights }
+    {
+        self.others.clear();
+        add_partners(
+            &mut self.others,
+            boxes.turns().of_flight(flight, End::Arrival),
+        )?;
+        add_partners(
+            &mut self.others,
+            boxes.turns().of_flight(flight, End::Departure),
+        )?;
+        add_meeting(&mut self.others, s, choices, &self.cells, flight)?;
+        self.generator.mix(&mut self.others);
+        self.others.truncate(1 + self.generator.below(MOST_OTHERS));
+        Ok(())
+    }
+}
+
+// Lists the flights that cost more than their least.
+fn list_delayed(delayed: &mut Vec<u32>, choices: &[Choice]) -> Result<(), OutOfMemory>
+    requires { length choices.now < 2 ^ 32 }
+{
+    delayed.clear();
+    for flight in 0..choices.len() {
+        if choices[flight].extra > 0 {
+            delayed.push(flight as u32)?;
+        }
+    }
+    Ok(())
+}
+
+// The times of a trip; where it has no stops, the latest that the flight may have.
+fn late_times(flight: &Flight, stops: &[Stop]) -> Times {
+    match times_of(stops) {
+        Some(times) => times,
+        None => Times {
+            leaves: flight.sd.saturating_add(flight.mg),
+            arrives: flight.sa.saturating_add(flight.md),
+        },
+    }
+}
+
+// Adds the flights, other than this one, that fill one of the capacities.
+fn add_meeting(
+    flights: &mut Vec<u32>,
+    s: &Scenario,
+    choices: &[Choice],
+    cells: &[Cell],
+    flight: u32,
+) -> Result<(), OutOfMemory>
+    requires { length choices.now ≡ length (parts_of s.now).flights }
+{
+    for number in 0..choices.len() {
+        let other = number as u32;
+        if other != flight && meets_any(&s.flights()[number], choices[number].trip.items(), cells) {
+            add_once(flights, other)?;
+        }
+    }
+    Ok(())
+}
+
+// Whether the trip of the flight counts for one of the capacities.
+fn meets_any(flight: &Flight, stops: &[Stop], cells: &[Cell]) -> bool {
+    cells.iter().any(|cell| meets(flight, stops, *cell))
+}
+
+// Adds each of these flights, and those that it has connections with.
+fn add_with_partners(
+    flights: &mut Vec<u32>,
+    boxes: &Boxes,
+    others: &[u32],
+) -> Result<(), OutOfMemory> {
+    for other in others {
+        if flights.len() < MOST_CHOSEN {
+            add_once(flights, *other)?;
+            add_partners(flights, boxes.turns().of_flight(*other, End::Arrival))?;
+            add_partners(flights, boxes.turns().of_flight(*other, End::Departure))?;
+        }
+    }
+    Ok(())
+}
+
+// Adds the other flights of the connections.
+fn add_partners(flights: &mut Vec<u32>, turns: &[Turn]) -> Result<(), OutOfMemory> {
+    for turn in turns {
+        if flights.len() < MOST_CHOSEN {
+            add_once(flights, turn.other)?;
+        }
+    }
+    Ok(())
+}
+
+// Adds the flight, unless it is there.
+fn add_once(flights: &mut Vec<u32>, flight: u32) -> Result<(), OutOfMemory> {
+    if !flights.contains(&flight) {
+        flights.push(flight)?;
+    }
+    Ok(())
+}

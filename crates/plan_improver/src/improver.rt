@@ -1,0 +1,356 @@
+//! The search for a plan that costs less.
+ghost use Rattle.std.specs.Prelude.{◌≡◌, ◌↔◌, IfSome, IsTrue, length};
+ghost use Rattle.flow_types.specs.Scenario.{parts_of};
+ghost use Rattle.plan_rules.specs.Loads.{IsMadeFor as AreLoadsFor};
+ghost use Rattle.time_windows.specs.Held.{box_of};
+ghost use Rattle.plan_improver.specs.Cheaper.{IsCheaper, IsLess};
+
+use crate::choosing::Chosen;
+use crate::draft::{Choice, add_trips, choices_of, extra_of, plan_of};
+use crate::inside::is_in_box;
+use flight_routes::Work;
+use flow_types::{Flight, OutOfMemory, Plan, Scenario, Trip};
+use plan_rules::{Loads, Verdict, judge};
+use std::alloc::Global;
+use std::marker::Model;
+use time_windows::Boxes;
+
+// How many trials there are for each flight.
+const TRIALS_A_FLIGHT: usize = 10;
+
+// How many legs, times the periods of the day, the trials may look at, if each takes one flight out.
+const MOST_STEPS: usize = 4_000_000;
+
+// A trip that a flight is given in a trial, and how much more than the least it costs.
+#[derive(Debug, Drop)]
+struct Offer {
+    flight: u32,
+    trip: Trip,
+    extra: i64,
+}
+
+/// The room of searches, made once for a scenario: twelve bytes a place and period, eight a flight,
+/// and 0.9 MB. It keeps the plan of the last search. Contracts see it as a `SearchRoom`.
+#[derive(Debug, Drop)]
+pub struct Improver {
+    work: Work,
+    loads: Loads,
+    choices: Vec<Choice>,
+    chosen: Chosen,
+    offers: Vec<Offer>,
+}
+
+impl Model for Improver {
+    ghost use Rattle.plan_improver.specs.Work.{SearchRoom};
+    ghost use Rattle.std.specs.Prelude.{vec_len};
+
+    ghost Value = { SearchRoom };
+
+    ghost view = { λ a. record {
+      work = a.work;
+      loads = a.loads;
+      flights = vec_len a.choices;
+    } };
+}
+
+impl Improver {
+    ghost use Rattle.std.specs.Prelude.{◌≡◌, ◌<◌, ◌^◌, IfOk, IfSome, IsTrue, length};
+    ghost use Rattle.flow_types.specs.Scenario.{parts_of};
+    ghost use Rattle.time_windows.specs.Held.{IsMadeFor, box_of};
+    ghost use Rattle.plan_improver.specs.Cheaper.{IsCheaper};
+    ghost use Rattle.plan_improver.specs.Work.{IsFilledFor, IsSearchRoomFor};
+
+    /// Room for the plans of the scenario.
+    pub fn new(alloc: Global, s: &Scenario) -> Result<Improver, OutOfMemory>
+        ensures { IfOk result (IsSearchRoomFor (parts_of s.now)) }
+    {
+        Ok(Improver {
+            work: Work::new(alloc, s)?,
+            loads: Loads::new(alloc, s)?,
+            choices: Vec::new(alloc),
+            chosen: Chosen::new(alloc),
+            offers: Vec::new(alloc),
+        })
+    }
+
+    /// A plan in the box that keeps every rule, and costs less than the start if that keeps them
+    /// too; nothing where the search finds none. The start may be any list of trips, as of the first
+    /// flights alone: where it breaks a rule, the search begins with the greedy plan, as far as it
+    /// goes.
+    ///
+    /// The box is one of the scenario that the room was made for. The same box and start give the
+    /// same plan, whatever was searched before. It takes memory for the stops of three plans while
+    /// it runs, and for the plan; time for ten trials a flight, fewer on long days with many legs,
+    /// each as 24 least trips at the most and a look at each stop of a plan.
+    ///
+    /// Large neighbourhood search (Shaw, "Using constraint programming and local search methods to
+    /// solve vehicle routing problems", 1998).
+    pub fn cheaper_plan(
+        &mut self,
+        alloc: Global,
+        s: &Scenario,
+        boxes: &Boxes,
+        start: &Plan,
+    ) -> Result<Option<Plan>, OutOfMemory>
+        requires made { IsSearchRoomFor (parts_of s.now) self.old }
+        requires boxes { IsMadeFor (parts_of s.now) boxes.now }
+        ensures cheaper { IfOk result (λ found. IfSome found
+            (IsCheaper (parts_of s.now) (box_of boxes.now) start.now)) }
+        ensures made { IsSearchRoomFor (parts_of s.now) self.new }
+    {
+        self.chosen.restart();
+        let verdict = judge(&mut self.loads, s, start);
+        if !self.fill(alloc, s, boxes, trips_kept(verdict, start))? {
+            return Ok(None);
+        }
+        self.place_all(alloc, s, boxes)?;
+        self.search(alloc, s, boxes)?;
+        let plan = plan_of(alloc, &self.choices)?;
+        Ok(if_cheaper(&mut self.loads, s, boxes, start, plan))
+    }
+
+    // Takes the start for the present plan, and tells whether each flight has a trip at all.
+    fn fill(
+        &mut self,
+        alloc: Global,
+        s: &Scenario,
+        boxes: &Boxes,
+        start: &[Trip],
+    ) -> Result<bool, OutOfMemory>
+        requires made { IsSearchRoomFor (parts_of s.now) self.old }
+        requires boxes { IsMadeFor (parts_of s.now) boxes.now }
+        ensures filled { IfOk result (λ filled. IsTrue filled → IsFilledFor (parts_of s.now) self.new) }
+        ensures made { IsSearchRoomFor (parts_of s.now) self.new }
+    {
+        self.loads.clear();
+        let found = choices_of(alloc, s, boxes, &mut self.work, &self.loads, start)?;
+        match found {
+            None => Ok(false),
+            Some(choices) => {
+                add_trips(&mut self.loads, s, &choices);
+                self.choices = choices;
+                Ok(true)
+            }
+        }
+    }
+
+    // Tries to give a trip to each flight that is left out.
+    fn place_all(&mut self, alloc: Global, s: &Scenario, boxes: &Boxes) -> Result<(), OutOfMemory>
+        requires filled { IsFilledFor (parts_of s.now) self.old }
+        requires boxes { IsMadeFor (parts_of s.now) boxes.now }
+        ensures filled { IsFilledFor (parts_of s.now) self.new }
+    {
+        for flight in 0..self.choices.len() {
+            if self.choices[flight].trip.items().is_empty() {
+                self.chosen.choose_one(flight as u32)?;
+                self.exchange(alloc, s, boxes)?;
+            }
+        }
+        Ok(())
+    }
+
+    // Makes trials, while a flight is delayed.
+    fn search(&mut self, alloc: Global, s: &Scenario, boxes: &Boxes) -> Result<(), OutOfMemory>
+        requires filled { IsFilledFor (parts_of s.now) self.old }
+        requires boxes { IsMadeFor (parts_of s.now) boxes.now }
+        ensures filled { IsFilledFor (parts_of s.now) self.new }
+    {
+        for _ in 0..trials_of(s) {
+            if !self.chosen.choose(s, boxes, &self.loads, &self.choices)? {
+                return Ok(());
+            }
+            self.exchange(alloc, s, boxes)?;
+        }
+        Ok(())
+    }
+
+    // Gives the chosen flights other trips, if these cost no more together.
+    fn exchange(&mut self, alloc: Global, s: &Scenario, boxes: &Boxes) -> Result<(), OutOfMemory>
+        requires filled { IsFilledFor (parts_of s.now) self.old }
+        requires boxes { IsMadeFor (parts_of s.now) boxes.now }
+        ensures filled { IsFilledFor (parts_of s.now) self.new }
+    {
+        let extra = take_out(&mut self.loads, s, &self.choices, self.chosen.flights());
+        self.offers.clear();
+        if self.put_back(alloc, s, boxes, extra)? {
+            accept(&mut self.choices, &mut self.offers);
+        } else {
+            refuse(&mut self.loads, s, &self.offers);
+            put_in(&mut self.loads, s, &self.choices, self.chosen.flights());
+        }
+        Ok(())
+    }
+
+    // Offers each chosen flight the least trip that fits, in their order, and tells whether all have
+    // one and these cost no more than so much more than the least ones.
+    fn put_back(
+        &mut self,
+        alloc: Global,
+        s: &Scenario,
+        boxes: &Boxes,
+        most: i64,
+    ) -> Result<bool, OutOfMemory>
+        requires filled { IsFilledFor (parts_of s.now) self.old }
+        requires boxes { IsMadeFor (parts_of s.now) boxes.now }
+        ensures filled { IsFilledFor (parts_of s.now) self.new }
+    {
+        let mut left = most;
+        for at in 0..self.chosen.flights().len() {
+            if let Some(flight) = self.chosen.flight_at(at) {
+                left = left.saturating_sub(self.offer(alloc, s, boxes, flight)?);
+            }
+            if left < 0 {
+                return Ok(false);
+            }
+        }
+        Ok(true)
+    }
+
+    // Offers the flight the least trip that fits, and tells how much more than its least it costs.
+    fn offer(
+        &mut self,
+        alloc: Global,
+        s: &Scenario,
+        boxes: &Boxes,
+        flight: u32,
+    ) -> Result<i64, OutOfMemory>
+        requires filled { IsFilledFor (parts_of s.now) self.old }
+        requires boxes { IsMadeFor (parts_of s.now) boxes.now }
+        ensures filled { IsFilledFor (parts_of s.now) self.new }
+    {
+        let Some(choice) = self.choices.get(flight as usize) else {
+            return Ok(0);
+        };
+        let least = choice.least;
+        let _fit = self.work.least_fit(s, boxes, flight, &self.loads);
+        let trip = Trip::from_stops(alloc, self.work.trip())?;
+        let extra = extra_of(s, flight, trip.items(), least);
+        self.loads.add(s, flight, trip.items());
+        self.offers.push(Offer {
+            flight,
+            trip,
+            extra,
+        })?;
+        Ok(extra)
+    }
+}
+
+// The plan, if it keeps every rule, is in the box, and costs less than the start if that keeps them
+// too.
+fn if_cheaper(
+    loads: &mut Loads,
+    s: &Scenario,
+    boxes: &Boxes,
+    start: &Plan,
+    plan: Plan,
+) -> Option<Plan>
+    requires { AreLoadsFor (parts_of s.now) loads.old }
+    ensures cheaper { IfSome result (IsCheaper (parts_of s.now) (box_of boxes.now) start.now) }
+    ensures made { AreLoadsFor (parts_of s.now) loads.new }
+{
+    let before = judge(loads, s, start);
+    let after = judge(loads, s, &plan);
+    if is_cheaper(before, after) && is_in_box(boxes, &plan) {
+        Some(plan)
+    } else {
+        None
+    }
+}
+
+// The trips with which the search begins: those of the plan, if it keeps every rule.
+fn trips_kept(verdict: Verdict, plan: &Plan) -> &[Trip] {
+    match verdict {
+        Verdict::Keeps { .. } => plan.items(),
+        Verdict::Breaks(_) => &[],
+    }
+}
+
+// How many trials a search makes: so many for each flight, and fewer where least trips take long.
+fn trials_of(s: &Scenario) -> usize {
+    let flights = s.flights().len();
+    let steps = legs_of(s.flights()).saturating_mul(usize::from(s.day().periods));
+    let trials = MOST_STEPS.saturating_mul(flights) / steps.max(1);
+    trials.min(TRIALS_A_FLIGHT.saturating_mul(flights))
+}
+
+// How many legs the flights have.
+fn legs_of(flights: &[Flight]) -> usize {
+    let mut legs = 0usize;
+    for flight in flights {
+        legs = legs.saturating_add(flight.legs.items().len());
+    }
+    legs
+}
+
+// Takes the flights' trips out of the loads, and tells how much more than their least they cost.
+fn take_out(loads: &mut Loads, s: &Scenario, choices: &[Choice], flights: &[u32]) -> i64
+    requires loads { AreLoadsFor (parts_of s.now) loads.old }
+    requires count { length choices.now ≡ length (parts_of s.now).flights }
+    ensures { AreLoadsFor (parts_of s.now) loads.new }
+{
+    let mut extra = 0i64;
+    for flight in flights {
+        if let Some(choice) = choices.get(*flight as usize) {
+            loads.remove(s, *flight, choice.trip.items());
+            extra = extra.saturating_add(choice.extra);
+        }
+    }
+    extra
+}
+
+// Puts them in again.
+fn put_in(loads: &mut Loads, s: &Scenario, choices: &[Choice], flights: &[u32])
+    requires loads { AreLoadsFor (parts_of s.now) loads.old }
+    requires count { length choices.now ≡ length (parts_of s.now).flights }
+    ensures { AreLoadsFor (parts_of s.now) loads.new }
+{
+    for flight in flights {
+        if let Some(choice) = choices.get(*flight as usize) {
+            loads.add(s, *flight, choice.trip.items());
+        }
+    }
+}
+
+// Takes the trips that were offered out of the loads.
+fn refuse(loads: &mut Loads, s: &Scenario, offers: &[Offer])
+    requires loads { AreLoadsFor (parts_of s.now) loads.old }
+    ensures { AreLoadsFor (parts_of s.now) loads.new }
+{
+    for offer in offers {
+        if (offer.flight as usize) < s.flights().len() {
+            loads.remove(s, offer.flight, offer.trip.items());
+        }
+    }
+}
+
+// Gives the flights the trips that were offered.
+fn accept(choices: &mut [Choice], offers: &mut Vec<Offer>)
+    ensures { length choices.new ≡ length choices.old }
+{
+    while let Some(
+        Offer {
+            flight,
+            trip,
+            extra,
+        },
+    ) = offers.pop()
+    {
+        if let Some(choice) = choices.get_mut(flight as usize) {
+            choice.trip = trip;
+            choice.extra = extra;
+        }
+    }
+}
+
+// Whether the plan after keeps every rule, and costs less if the one before keeps them too.
+fn is_cheaper(before: Verdict, after: Verdict) -> bool
+    ensures { IsTrue result ↔ IsLess before after }
+{
+    match after {
+        Verdict::Breaks(_) => false,
+        Verdict::Keeps { cost: now } => match before {
+            Verdict::Breaks(_) => true,
+            Verdict::Keeps { cost } => now < cost,
+        },
+    }
+}
