@@ -1,7 +1,7 @@
 -- How large the numbers of a leaf may be.
 use Rattle.std.specs.Prelude.{ℕ, ◌^◌, ◌<◌, List, length, All}
 use Rattle.branch_tree.specs.declared.leaf.Leaf.{Leaf}
-use Rattle.branch_tree.specs.declared.leaf.Leaf.TheVariants.{Dual, Empty, Unit as UnitLeaf}
+use Rattle.branch_tree.specs.declared.leaf.Leaf.TheVariants.{Dual, Empty, Lag, Unit as UnitLeaf}
 use Rattle.branch_tree.specs.declared.leaf.Multiplier.{Multiplier}
 
 -- the weight and the multipliers are below 2^62, and there are fewer than 2^32 of these
@@ -14,3 +14,4 @@ abbrev pub IsInRange : Leaf → Type 0
 IsInRange Empty = Unit {0}
 IsInRange UnitLeaf = Unit {0}
 IsInRange (Dual weight rows) = HasRange weight rows
+IsInRange (Lag weight rows) = HasRange weight rows

@@ -12,9 +12,10 @@ use Rattle.flow_types.specs.Valid.{IsScenario}
 use Rattle.plan_rules.proofs.TripFacts.{AreTrips-length}
 use Rattle.time_windows.specs.Boxes.{Box, IsBoxOf, IsClosedMust, IsInBox}
 use Rattle.branch_tree.specs.declared.leaf.Leaf.{Leaf}
-use Rattle.branch_tree.specs.declared.leaf.Leaf.TheVariants.{Dual, Empty, Unit as UnitLeaf}
+use Rattle.branch_tree.specs.declared.leaf.Leaf.TheVariants.{Dual, Empty, Lag, Unit as UnitLeaf}
 use Rattle.branch_tree.specs.declared.leaf.Multiplier.{Multiplier}
-use Rattle.dual_leaf.specs.Leaf.{IsBoundOn, IsCostIn, IsDualAnswer, IsLeafBound, IsUnitBox}
+use Rattle.dual_leaf.specs.Leaf.{IsBoundOn, IsCostIn, IsDualAnswer, IsLagAnswer, IsLeafBound, IsUnitBox}
+use Rattle.dual_leaf.proofs.LagFacts.{table-sound}
 use Rattle.dual_leaf.proofs.OptionFacts.{no_plan_by}
 use Rattle.dual_leaf.proofs.SoundFacts.{dual_sound}
 use Rattle.dual_leaf.proofs.UnitBoxFacts.{one_trip}
@@ -53,6 +54,12 @@ dual_bound parts box weight rows bound valid made (inl is) =
     dual_sound parts box weight rows bound valid made is
 dual_bound parts box weight rows bound valid made (inr fault) = absurd fault
 
+lag_bound : (parts : Parts) (box : Box) (weight : ℕ) (rows : List Multiplier) (bound : Bound)
+    → IsScenario parts → IsLagAnswer parts box weight rows (Ok bound) → IsBoundOn parts box bound
+lag_bound parts box weight rows bound valid (inl is) =
+    table-sound parts box weight is.table (Ok bound) valid is.said
+lag_bound parts box weight rows bound valid (inr fault) = absurd fault
+
 pub leaf_bounds : (parts : Parts) (box : Box) (leaf : Leaf) (bound : Bound) → IsScenario parts
     → IsBoxOf parts box → IsLeafBound parts box leaf (Ok bound) → IsBoundOn parts box bound
 leaf_bounds parts box Empty bound valid made (is, (f, n, closed)) =
@@ -61,3 +68,5 @@ leaf_bounds parts box UnitLeaf bound valid made (unit, cost) =
     unit_sound parts box bound valid unit cost
 leaf_bounds parts box (Dual weight rows) bound valid made is =
     dual_bound parts box weight rows bound valid made is
+leaf_bounds parts box (Lag weight rows) bound valid made is =
+    lag_bound parts box weight rows bound valid is

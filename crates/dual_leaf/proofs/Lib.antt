@@ -2,6 +2,7 @@ pub mod ColumnFacts
 pub mod CostGrowFacts
 pub mod CostSizeFacts
 pub mod GrowFacts
+pub mod LagFacts
 pub mod LandFacts
 pub mod NumberFacts
 pub mod OptionFacts

@@ -44,13 +44,3 @@ times-le (suc w) a b le =
 pub times-down : (w : ℕ) (a : ℤ) → a ≤ℤ pos 0 → (pos w *ℤ a) ≤ℤ pos 0
 times-down zero a down = omega (arith, ints, zero-*ℤ a)
 times-down (suc w) a down = omega (arith, ints, times-more w a, times-down w a down, down)
-
--- so many times a number below 0
-pub neg-times : (n w : ℕ) → neg_ℤ (pos n) *ℤ pos w ≡ neg_ℤ (pos (n * w))
-neg-times n zero = omega (arith, ints, *ℤ-zero (neg_ℤ (pos n)))
-neg-times n (suc w) =
-    let grown : n * suc w ≡ n * w + n = omega arith in
-    omega (arith, ints, more-times (neg_ℤ (pos n)) w, neg-times n w, grown)
-
-pub minus-times : (n w : ℕ) → negsuc n *ℤ pos w ≡ neg_ℤ (pos (suc n * w))
-minus-times n w = neg-times (suc n) w

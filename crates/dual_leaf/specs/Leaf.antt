@@ -1,19 +1,24 @@
 -- The bound of a leaf on a tight box, or why it has none.
-use Rattle.std.specs.Prelude.{◌≡◌, ◌⊎◌, ◌≢◌, ℕ, ◌^◌, ◌<◌, List, Result, Ok, Err, ℤ, pos, ◌*ℤ◌, ◌≤ℤ◌, unsigned_abs}
+use Rattle.std.specs.Prelude.{◌≡◌, ◌⊎◌, ◌≢◌, ℕ, ◌^◌, ◌<◌, List, Result, Ok, Err, ℤ, pos, ◌≤ℤ◌, unsigned_abs}
 use Rattle.flow_types.specs.declared.bound.Bound.{Bound}
 use Rattle.flow_types.specs.declared.bound.Bound.TheVariants.{AtLeast, NoPlan}
 use Rattle.flow_types.specs.declared.parts.Parts.{Parts}
 use Rattle.flow_types.specs.declared.plan.Stop.{Stop}
 use Rattle.flow_types.specs.Costs.{plan_cost}
 use Rattle.flow_types.specs.Feasible.{IsFeasible}
+use Rattle.flight_routes.specs.Prices.{PriceTable}
+use Rattle.priced_plans.specs.PricedBound.{IsRoundedUp}
+use Rattle.priced_plans.specs.Values.{IsPricedValue}
+use Rattle.priced_plans.specs.Valuing.{LacksTrip}
 use Rattle.time_windows.specs.Boxes.{Box, IsClosedMust, IsInBox, options_of}
 use Rattle.time_windows.specs.Tight.{IsEarlierNode, IsFirstClosed}
 use Rattle.branch_tree.specs.declared.leaf.Leaf.{Leaf}
-use Rattle.branch_tree.specs.declared.leaf.Leaf.TheVariants.{Dual, Empty, Unit as UnitLeaf}
+use Rattle.branch_tree.specs.declared.leaf.Leaf.TheVariants.{Dual, Empty, Lag, Unit as UnitLeaf}
 use Rattle.branch_tree.specs.declared.leaf.Multiplier.{Multiplier}
 use Rattle.dual_leaf.specs.declared.fault.LeafFault.{LeafFault}
 use Rattle.dual_leaf.specs.declared.fault.LeafFault.TheVariants.{Closed, NotEmpty, NotUnit, UnknownRow, Useless}
 use Rattle.dual_leaf.specs.Dual.{AreKnown, IsDualValue, IsFirstUnknown}
+use Rattle.dual_leaf.specs.Lag.{ArePriceable, ArePricedBy, IsFirstUnpriceable}
 
 -- no node that must be entered is closed
 abbrev pub IsLive : Box → Type 0
@@ -49,12 +54,7 @@ IsUnitBound parts box (Ok bound) = IsUnitBox box × IsCostIn parts box bound
 IsUnitBound parts box (Err fault) =
     (flight : ℕ) × (node : ℕ) × (fault ≡ NotUnit flight node) × IsNotUnit box flight node
 
--- the value divided by the weight and rounded up: the least number that is no less
-pub record IsRoundedUp (value : ℤ) (weight : ℕ) (least : ℤ) : Type 0 where
-  pub reached : value ≤ℤ (least *ℤ pos weight)
-  pub below : (c : ℤ) → value ≤ℤ (c *ℤ pos weight) → least ≤ℤ c
-
--- what a value says by its weight
+-- what a value says by its weight: that, divided by it and rounded up
 abbrev pub IsSaid : ℕ → ℤ → Result Bound LeafFault → Type 0
 IsSaid weight value (Ok (AtLeast least)) = (0 < weight) × IsRoundedUp value weight least
 IsSaid weight value (Ok NoPlan) = (weight ≡ 0) × (pos 1 ≤ℤ value)
@@ -84,10 +84,51 @@ abbrev pub IsDualAnswer : Parts → Box → ℕ → List Multiplier → Result B
 IsDualAnswer parts box weight rows answer =
     IsDualBound parts box weight rows answer ⊎ IsDualFault parts box rows answer
 
+-- some flight has no trip in the box, whatever the weight
+pub record IsLackSaid (parts : Parts) (box : Box) (answer : Result Bound LeafFault) : Type 0 where
+  pub lacks : LacksTrip parts box
+  pub none : answer ≡ Ok NoPlan
+
+-- or what the value of the prices says
+pub record IsPriceSaid (parts : Parts) (box : Box) (weight : ℕ) (table : PriceTable)
+    (answer : Result Bound LeafFault) : Type 0 where
+  pub value : ℤ
+  pub priced : IsPricedValue parts box weight table value
+  pub said : IsSaid weight value answer
+
+abbrev pub IsTableSaid : Parts → Box → ℕ → PriceTable → Result Bound LeafFault → Type 0
+IsTableSaid parts box weight table answer =
+    IsLackSaid parts box answer ⊎ IsPriceSaid parts box weight table answer
+
+-- The box is live and all rows may have a price: what the prices say.
+pub record IsLagBound (parts : Parts) (box : Box) (weight : ℕ) (rows : List Multiplier)
+    (answer : Result Bound LeafFault) : Type 0 where
+  pub live : IsLive box
+  pub priceable : ArePriceable parts rows
+  pub table : PriceTable
+  pub prices : ArePricedBy parts rows table
+  pub said : IsTableSaid parts box weight table answer
+
+-- or there are none: the first node that must be entered and is closed, or, in a live box, the
+-- first row that may have no price
+abbrev pub IsLagFault : Parts → Box → List Multiplier → Result Bound LeafFault → Type 0
+IsLagFault parts box rows (Ok bound) = ⊥
+IsLagFault parts box rows (Err NotEmpty) = ⊥
+IsLagFault parts box rows (Err (NotUnit flight node)) = ⊥
+IsLagFault parts box rows (Err (Closed flight node)) = IsFirstClosed box flight node
+IsLagFault parts box rows (Err (UnknownRow position)) =
+    IsLive box × IsFirstUnpriceable parts rows position
+IsLagFault parts box rows (Err (Useless value)) = ⊥
+
+abbrev pub IsLagAnswer : Parts → Box → ℕ → List Multiplier → Result Bound LeafFault → Type 0
+IsLagAnswer parts box weight rows answer =
+    IsLagBound parts box weight rows answer ⊎ IsLagFault parts box rows answer
+
 abbrev pub IsLeafBound : Parts → Box → Leaf → Result Bound LeafFault → Type 0
 IsLeafBound parts box Empty answer = IsEmptyBound box answer
 IsLeafBound parts box UnitLeaf answer = IsUnitBound parts box answer
 IsLeafBound parts box (Dual weight rows) answer = IsDualAnswer parts box weight rows answer
+IsLeafBound parts box (Lag weight rows) answer = IsLagAnswer parts box weight rows answer
 
 -- no plan in the box that keeps every rule costs less; there is none below NoPlan
 abbrev pub IsBoundOn : Parts → Box → Bound → Type 0
@@ -98,4 +139,4 @@ IsBoundOn parts box (AtLeast least) = (plan : List (List Stop)) → IsFeasible p
 -- not too far from 0
 abbrev pub IsNearBound : Bound → Type 0
 IsNearBound NoPlan = Unit {0}
-IsNearBound (AtLeast least) = unsigned_abs least < 2 ^ 115
+IsNearBound (AtLeast least) = unsigned_abs least < 2 ^ 124

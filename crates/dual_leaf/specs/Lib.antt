@@ -1,5 +1,6 @@
 pub mod Columns
 pub mod Dual
+pub mod Lag
 pub mod Landing
 pub mod Leaf
 pub mod Options

@@ -1,6 +1,7 @@
 -- The room for the bounds of leaves.
 use Rattle.std.specs.Prelude.{◌≡◌, List, length}
 use Rattle.flow_types.specs.declared.parts.Parts.{Parts}
+use Rattle.flight_routes.specs.Prices.{ArePricesOf, PriceTable}
 use Rattle.flight_routes.specs.Work.{IsWorkFor, Worked}
 use Rattle.plan_rules.specs.Cells.{Tally}
 use Rattle.plan_rules.specs.Loads.{IsMadeFor as AreLoadsFor}
@@ -14,6 +15,7 @@ pub record Room : Type 0 where
   pub sums : Summed
   pub visits : List (List Visit)
   pub work : Worked
+  pub prices : PriceTable
   pub loads : Tally
 
 -- for the scenario
@@ -22,4 +24,5 @@ pub record IsRoomFor (parts : Parts) (room : Room) : Type 0 where
   pub positions : length room.sums.factors ≡ room.columns.count
   pub visits : AreVisitsOf parts room.visits
   pub work : IsWorkFor parts room.work
+  pub prices : ArePricesOf parts room.prices
   pub loads : AreLoadsFor parts room.loads

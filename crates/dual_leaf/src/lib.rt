@@ -14,16 +14,16 @@
 //!         Err(fault) => println!("the leaf says nothing: {fault:?}"),
 //!     }
 //!
-//! The definitions stand in `specs/`: `Leaf` (the bound of a leaf, or why it has none) and `Dual`
-//! (what a Dual leaf comes to: the Lagrangian dual of the by-time program). The others serve the
-//! proof: `Columns` (a position for each variable that a tight box may leave free), `Landing`
+//! The definitions stand in `specs/`: `Leaf` (the bound of a leaf, or why it has none), `Dual` (what
+//! a Dual leaf comes to: the Lagrangian dual of the by-time program) and `Lag` (the prices that a Lag
+//! leaf is; what these come to is said in `priced_plans`). The others serve the proof: `Columns` (a position for each variable that a tight box may leave free), `Landing`
 //! (where a variable counts, and how sums grow), `Slots`, `Sums`, `Rows`, `Options`, `UnitSums`,
 //! and `Work` (the room).
 //!
 //! Proved: `leaf_bound` gives exactly the bound of the leaf, or exactly the first fault (`bound`),
 //! and no plan in the box that keeps every rule costs less, whoever chose the multipliers
 //! (`sound`). So it is of any bound that the definition gives a leaf (`leaf_bounds_are_bounds`),
-//! which serves trees of leaves. What `leaf_bound` gives is nearer to 0 than 2^115 (`near`), so
+//! which serves trees of leaves. What `leaf_bound` gives is nearer to 0 than 2^124 (`near`), so
 //! that sums with it have room.
 //!
 //! A Dual leaf is worked out in sums: a constant, and a factor for each variable that is free. Each
@@ -33,11 +33,15 @@
 //! up to date, so the value is there at once; and each position knows the leaf that set it, so
 //! nothing is cleared.
 //!
+//! For a Lag leaf the prices are set that its multipliers are, and then each flight's least trip is
+//! found under them: whole trips, where a Dual leaf looks at one variable at a time.
+//!
 //! Memory: 20 bytes for each variable that the tight root box leaves free (0.4 GB for the largest
-//! days), 24 for each of 32 nodes a flight, `Visits`, `Loads`, and 1.1 MB; `leaf_bound` takes none.
-//! Time: for a Dual leaf the nodes of the flights, the periods by which they may be late or wait,
-//! and for each row that the leaf names what `RowBuffer::fill_with` takes, and for each of its
-//! terms of being inside the legs of the flight; for a Unit leaf a least trip for each flight.
+//! days), 24 for each of 32 nodes a flight, `Visits`, `Loads`, `Prices`, and 1.1 MB; `leaf_bound`
+//! takes none. Time: for a Dual leaf the nodes of the flights, the periods by which they may be late
+//! or wait, and for each row that the leaf names what `RowBuffer::fill_with` takes, and for each of
+//! its terms of being inside the legs of the flight; for a Unit leaf a least trip for each flight; for
+//! a Lag leaf that, and each price.
 #![tactic(auto)]
 
 mod bound;
@@ -45,6 +49,7 @@ mod columns;
 mod costs;
 mod dual;
 mod fault;
+mod lag;
 mod landing;
 mod laws;
 mod options;

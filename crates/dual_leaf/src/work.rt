@@ -1,23 +1,26 @@
 //! The bounds of leaves.
 ghost use Rattle.std.specs.Prelude.{◌≡◌, IfOk, length};
 ghost use Rattle.flow_types.specs.Scenario.{parts_of};
+ghost use Rattle.flight_routes.specs.Prices.{ArePricesOf};
+ghost use Rattle.flight_routes.specs.Work.{IsWorkFor};
 ghost use Rattle.time_windows.specs.Held.{IsMadeFor, box_of};
 ghost use Rattle.time_windows.specs.Tight.{IsTight};
 ghost use Rattle.bytime_model.specs.Visits.{AreVisitsOf};
 ghost use Rattle.branch_tree.specs.Leaves.{HasRange};
 ghost use Rattle.dual_leaf.specs.Columns.{AreColumnsOf};
-ghost use Rattle.dual_leaf.specs.Leaf.{IsBoundOn, IsDualAnswer, IsNearBound};
+ghost use Rattle.dual_leaf.specs.Leaf.{IsBoundOn, IsDualAnswer, IsLagAnswer, IsNearBound};
 
 use crate::bound::said;
 use crate::columns::Columns;
 use crate::dual::dual_value;
 use crate::fault::LeafFault;
+use crate::lag::lag_said;
 use crate::options::first_closed;
 use crate::plain::{empty_bound, unit_bound};
 use crate::sums::Sums;
 use branch_tree::{Leaf, Multiplier};
 use bytime_model::{RowBuffer, Visits};
-use flight_routes::Work;
+use flight_routes::{Prices, Work};
 use flow_types::{Bound, OutOfMemory, Scenario};
 use plan_rules::Loads;
 use std::alloc::Global;
@@ -32,8 +35,9 @@ pub struct LeafWork {
     sums: Sums,
     buffer: RowBuffer,
     visits: Visits,
-    // For the plan of a unit box.
+    // For least trips under prices, and for the plan of a unit box.
     work: Work,
+    prices: Prices,
     loads: Loads,
 }
 
@@ -47,6 +51,7 @@ impl Model for LeafWork {
       sums = a.sums;
       visits = a.visits;
       work = a.work;
+      prices = a.prices;
       loads = a.loads;
     } };
 }
@@ -61,7 +66,8 @@ impl LeafWork {
     ghost use Rattle.dual_leaf.specs.Work.{IsRoomFor};
 
     /// Room for the leaves of the scenario: 20 bytes for each variable that the tight root box
-    /// leaves free, 24 for each of 32 nodes a flight, the visits to its places, loads, and 1.1 MB.
+    /// leaves free, 24 for each of 32 nodes a flight, the visits to its places, loads, prices, and
+    /// 1.1 MB.
     /// While it runs it takes the memory of a root box.
     pub fn new(alloc: Global, s: &Scenario) -> Result<LeafWork, OutOfMemory>
         ensures { IfOk result (IsRoomFor (parts_of s.now)) }
@@ -74,6 +80,7 @@ impl LeafWork {
             buffer: RowBuffer::new(alloc)?,
             visits: Visits::new(alloc, s)?,
             work: Work::new(alloc, s)?,
+            prices: Prices::new(alloc, s)?,
             loads: Loads::new(alloc, s)?,
         })
     }
@@ -86,14 +93,18 @@ impl LeafWork {
     /// or `NoPlan` where that breaks a rule. A Dual leaf has its value divided by its weight and
     /// rounded up: the value is the least, over all values 0 or 1 that the box leaves the
     /// variables, of the weight times the cost plus each multiplier times what its row is above its
-    /// limit (the Lagrangian dual). With the weight 0 a value above 0 gives `NoPlan`.
+    /// limit (the Lagrangian dual). A Lag leaf has a value divided and rounded up so too, by whole
+    /// trips: its multipliers are prices on capacities and connections, and the value is what the
+    /// least trips of all flights cost, times the weight, and pay, less what all capacities would
+    /// pay; where a flight has no trip in the box it has `NoPlan`. The last multiplier of a row
+    /// counts. With the weight 0 a value above 0 gives `NoPlan`.
     ///
-    /// The bound is nearer to 0 than 2^115.
+    /// The bound is nearer to 0 than 2^124.
     ///
     /// The fault is the first of those that `LeafFault` lists. No cut has a row yet, whatever the
     /// pool. It takes no memory, and time for each node; for a Dual leaf also for each period by
-    /// which a flight may be late or wait, and for the rows that the leaf names; for a Unit leaf as
-    /// a least trip for each flight.
+    /// which a flight may be late or wait, and for the rows that the leaf names; for a Unit or a Lag
+    /// leaf as a least trip for each flight, and for a Lag leaf for each price.
     pub fn leaf_bound(
         &mut self,
         s: &Scenario,
@@ -123,11 +134,20 @@ impl LeafWork {
                 *weight,
                 rows.items(),
             ),
+            Leaf::Lag { weight, rows } => lag_bound(
+                &mut self.work,
+                &mut self.prices,
+                s,
+                boxes,
+                *weight,
+                rows.items(),
+            ),
         }
     }
 }
 
 // That of a Dual leaf.
+#[tactic(auto, using(crate::proofs::RoundFacts::within_near))]
 fn dual_bound(
     sums: &mut Sums,
     buffer: &mut RowBuffer,
@@ -155,5 +175,30 @@ fn dual_bound(
     match dual_value(sums, buffer, columns, visits, s, boxes, weight, rows) {
         Err(position) => Err(LeafFault::UnknownRow(position)),
         Ok(value) => said(value, weight),
+    }
+}
+
+// That of a Lag leaf.
+fn lag_bound(
+    work: &mut Work,
+    prices: &mut Prices,
+    s: &Scenario,
+    boxes: &Boxes,
+    weight: u64,
+    rows: &[Multiplier],
+) -> Result<Bound, LeafFault>
+    requires work { IsWorkFor (parts_of s.now) work.old }
+    requires prices { ArePricesOf (parts_of s.now) prices.old }
+    requires boxes { IsMadeFor (parts_of s.now) boxes.now }
+    requires range { HasRange weight rows.now }
+    ensures bound { IsLagAnswer (parts_of s.now) (box_of boxes.now) weight rows.now result }
+    ensures sound { IfOk result (IsBoundOn (parts_of s.now) (box_of boxes.now)) }
+    ensures near { IfOk result IsNearBound }
+    ensures work { IsWorkFor (parts_of s.now) work.new }
+    ensures prices { ArePricesOf (parts_of s.now) prices.new }
+{
+    match first_closed(s, boxes) {
+        Some(closed) => Err(LeafFault::Closed(closed.flight, closed.node)),
+        None => lag_said(work, prices, s, boxes, weight, rows),
     }
 }

@@ -22,8 +22,8 @@ use worked_days::TWO_FLIGHTS;
 // The longest text of a day.
 const MOST_BYTES: usize = 4_096;
 
-// Leaves on the tight root box of the day of two flights; with rows, those that
-// docs/relaxation.md works out.
+// Leaves on the tight root box of the day of two flights, the Dual ones with rows those that
+// docs/relaxation.md works out; and one where both flights leave at once.
 const ON_TWO_FLIGHTS: &str = "\
 dual 1: at least -8
 dual 1, 1 enter 0 1 0, 1 enter 0 1 1, 1 enter 0 1 2, 1 enter 0 1 3, 1 enter 0 2 2, \
@@ -35,6 +35,13 @@ dual 1, 1 dep 0 0, 2 enter 0 1 0, 1 enter 0 1 1, 1 enter 0 1 2, 1 enter 0 1 3, 2
 dual 0: useless 0
 empty: not empty
 unit: not unit 0 0
+lag 1: at least 0
+lag 1, 1 dep 0 0: at least 1
+lag 1, 1 dep 0 0, 1 mono 0 0 1: unknown row 1
+lag 0, 1 dep 0 0: useless -1
+by 0 0 0
+by 1 0 0
+lag 0, 1 dep 0 0: no plan
 ";
 
 /// The day of a text.

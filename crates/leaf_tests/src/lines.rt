@@ -10,6 +10,13 @@ use std::alloc::Global;
 use std::str::SplitWhitespace;
 use std::test::Fail;
 
+// What a leaf that names rows is.
+#[derive(Clone, Copy, Debug)]
+enum Kind {
+    Dual,
+    Lag,
+}
+
 /// A flight, a node and a period; or a place or a connection, and a period.
 pub type At = (u32, u16, u16);
 
@@ -69,29 +76,39 @@ fn are_in_range(weight: u64, rows: &[Multiplier]) -> bool
     weight < 1 << 62 && rows.len() < 1 << 32 && rows.iter().all(|row| row.value < 1 << 62)
 }
 
-fn dual_with(weight: u64, rows: Multipliers) -> Result<Leaf, Fail>
+fn leaf_with(kind: Kind, weight: u64, rows: Multipliers) -> Result<Leaf, Fail>
     ensures { IfOk result IsInRange }
 {
-    if are_in_range(weight, rows.items()) {
-        Ok(Leaf::Dual { weight, rows })
-    } else {
-        Err(Fail::from("a large number"))
+    if !are_in_range(weight, rows.items()) {
+        return Err(Fail::from("a large number"));
+    }
+    match kind {
+        Kind::Dual => Ok(Leaf::Dual { weight, rows }),
+        Kind::Lag => Ok(Leaf::Lag { weight, rows }),
     }
 }
 
-// A Dual leaf, as `dual 1, 5 dep 0 3`.
-fn dual_of(alloc: Global, text: &str) -> Result<Leaf, Fail>
+// The kind of a leaf that names rows.
+fn kind_of(word: &str) -> Kind {
+    match word {
+        "lag" => Kind::Lag,
+        _ => Kind::Dual,
+    }
+}
+
+// A Dual or a Lag leaf, as `dual 1, 5 dep 0 3`.
+fn rows_leaf(alloc: Global, text: &str) -> Result<Leaf, Fail>
     ensures { IfOk result IsInRange }
 {
     let mut parts = text.split(',');
     let mut words = parts.next().unwrap_or("").split_whitespace();
-    let _kind = words.next();
+    let kind = kind_of(words.next().unwrap_or(""));
     let weight = number_in(&mut words)?;
     let mut rows = Multipliers::empty(alloc);
     for part in parts {
         rows.add(multiplier_of(part)?)?;
     }
-    dual_with(weight, rows)
+    leaf_with(kind, weight, rows)
 }
 
 /// A leaf.
@@ -101,7 +118,7 @@ pub fn leaf_of(alloc: Global, text: &str) -> Result<Leaf, Fail>
     match text {
         "empty" => Ok(Leaf::Empty),
         "unit" => Ok(Leaf::Unit),
-        _ => dual_of(alloc, text),
+        _ => rows_leaf(alloc, text),
     }
 }
 

@@ -13,7 +13,7 @@ use Rattle.time_windows.specs.Boxes.{Box, IsBoxOf}
 use Rattle.time_windows.specs.Splits.{early_branch, late_branch}
 use Rattle.time_windows.specs.Tight.{IsTight}
 use Rattle.branch_tree.specs.declared.leaf.Leaf.{Leaf as LeafKind}
-use Rattle.branch_tree.specs.declared.leaf.Leaf.TheVariants.{Dual, Empty, Unit as UnitLeaf}
+use Rattle.branch_tree.specs.declared.leaf.Leaf.TheVariants.{Dual, Empty, Lag, Unit as UnitLeaf}
 use Rattle.branch_tree.specs.declared.tree.TreeNode.{TreeNode}
 use Rattle.branch_tree.specs.declared.tree.TreeNode.TheVariants.{Leaf, Split}
 use Rattle.branch_tree.specs.Forests.{AreSides, Leads}
@@ -42,6 +42,7 @@ settled parts limits cutoff bound box Empty node =
 settled parts limits cutoff bound box UnitLeaf node = inl node.kind
 settled parts limits cutoff bound box (Dual weight rows) node =
     inr (record { live = node.kind.live; choice = node.kind.choice })
+settled parts limits cutoff bound box (Lag weight rows) node = absurd node.kind
 
 abbrev AreTight : Parts → List Box → Type 0
 AreTight parts [] = Unit {0}

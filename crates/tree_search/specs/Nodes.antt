@@ -8,7 +8,7 @@ use Rattle.flow_types.specs.declared.plan.Stop.{Stop}
 use Rattle.flow_types.specs.Costs.{plan_cost}
 use Rattle.time_windows.specs.Boxes.{Box, IsBoxOf, options_of}
 use Rattle.branch_tree.specs.declared.leaf.Leaf.{Leaf as LeafKind}
-use Rattle.branch_tree.specs.declared.leaf.Leaf.TheVariants.{Dual, Empty, Unit as UnitLeaf}
+use Rattle.branch_tree.specs.declared.leaf.Leaf.TheVariants.{Dual, Empty, Lag, Unit as UnitLeaf}
 use Rattle.branch_tree.specs.declared.tree.TreeNode.{TreeNode}
 use Rattle.branch_tree.specs.declared.tree.TreeNode.TheVariants.{Leaf, Split}
 use Rattle.dual_leaf.specs.Leaf.{IsLeafBound, IsLive}
@@ -40,12 +40,13 @@ pub record IsRunLeaf (parts : Parts) (limits : Limits) (cutoff : Option ℤ) (bo
   pub is : leaf ≡ relaxed_leaf parts box limits cutoff
 
 -- the leaf of an empty box is Empty, and that of a unit box Unit: the plan in it, if it keeps every
--- rule, is no cheaper than the cutoff
+-- rule, is no cheaper than the cutoff; no leaf is one of prices yet
 abbrev pub IsLeafKind : Parts → Limits → Option ℤ → Bound → Box → LeafKind → Type 0
 IsLeafKind parts limits cutoff bound box Empty = Unit {0}
 IsLeafKind parts limits cutoff bound box UnitLeaf = is_reached cutoff bound ≡ true
 IsLeafKind parts limits cutoff bound box (Dual weight rows) =
     IsRunLeaf parts limits cutoff box (Dual weight rows)
+IsLeafKind parts limits cutoff bound box (Lag weight rows) = ⊥
 
 pub record IsLeafNode (parts : Parts) (limits : Limits) (cutoff : Option ℤ) (bound : Bound)
     (box : Box) (leaf : LeafKind) : Type 0 where

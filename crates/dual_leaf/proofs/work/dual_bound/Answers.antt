@@ -3,7 +3,7 @@ use Rattle.flow_types.specs.Scenario.{parts_of}
 use Rattle.time_windows.specs.Held.{box_of}
 use Rattle.dual_leaf.specs.Leaf.{IsSaid}
 use Rattle.dual_leaf.proofs.NumberFacts.{ready_box}
-use Rattle.dual_leaf.proofs.RoundFacts.{said_near}
+use Rattle.dual_leaf.proofs.RoundFacts.{within_near}
 use Rattle.dual_leaf.proofs.SoundFacts.{if_sound}
 use Rattle.dual_leaf.proofs.SumsFacts.{whole_near}
 use Rattle.dual_leaf.proofs.work.dual_bound.Goals as goal
@@ -20,11 +20,4 @@ returns-in-Ok-clause-sound c =
     c.in-Ok.ensures.value.0 c.in-Ok.value c.in-Ok.ensures.value.1
     (subst (λ z. IsSaid c.args.weight z c.said.result)
     (whole_near c.in-Ok.value (let near = c.in-Ok.ensures.near in omega (arith, near)))
-    c.said.ensures)
-
-pub returns-in-Ok-clause-near : goal.returns-in-Ok-clause-near
-returns-in-Ok-clause-near c =
-    said_near c.args.weight c.in-Ok.value c.said.result c.in-Ok.ensures.near
-    (subst (λ z. IsSaid c.args.weight z c.said.result)
-    (whole_near c.in-Ok.value (let near = c.in-Ok.ensures.near in omega (arith, near)))
-    c.said.ensures)
+    c.said.ensures.said)

@@ -14,5 +14,6 @@ returns c = record {
       ∙ ap (λ (n : Numbering). n.count) (sym c.columns.view_is);
   visits = c.in_ok-new-2.ensures;
   work = c.in_ok-new-3.ensures.made;
-  loads = c.in_ok-new-4.ensures.made;
+  prices = c.in_ok-new-4.ensures.size;
+  loads = c.in_ok-new-5.ensures.made;
 }
