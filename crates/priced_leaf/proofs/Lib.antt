@@ -1,0 +1,2 @@
+pub mod ListingFacts
+pub mod TellFacts

@@ -1,0 +1,219 @@
+-- One price more is listed; a row and a kind are at their end.
+use Rattle.std.proofs.Common.{◌≡◌, ◌⊎◌, ℕ, ◌+◌, ◌<◌, ◌≤◌, Bool, true, false, ◌&&◌, ◌||◌, nat_eq, nat_lt, if◌then◌else◌, List, [], ◌∷◌, ◌++◌, length, slice_get, None, Some, zero, suc, refl, sym, ap, ◌∙◌, subst, inl, inr, arith}
+use Rattle.std.proofs.lemmas.Bool.{cases_lt}
+use Rattle.std.proofs.lemmas.Bool.Decides.{nat_tests}
+use Rattle.flow_types.specs.declared.bound.PriceKey.{PriceKey}
+use Rattle.flow_types.specs.declared.bound.PriceKey.TheVariants as key
+use Rattle.flow_types.specs.declared.parts.Parts.{Parts}
+use Rattle.flight_routes.specs.Prices.{PriceTable, price_at}
+use Rattle.priced_plans.specs.declared.kinds.PriceKind.{PriceKind}
+use Rattle.priced_plans.specs.Keys.{ArePlaced, IsKeyFor, has_limit, kind_number, number_in, period_in, row_in, rows_of}
+use Rattle.priced_plans.proofs.KeyFacts.{key_at, period_within, row_within}
+use Rattle.branch_tree.specs.declared.leaf.Multiplier.{Multiplier}
+use Rattle.dual_leaf.specs.Lag.{ArePriceable, is_key, is_priceable, key_of, set_by, set_on}
+use Rattle.dual_leaf.proofs.LagFacts.{set-more}
+use Rattle.priced_leaf.specs.Leaf.{row_of}
+use Rattle.priced_leaf.specs.Listing.{IsListed, is_listed}
+
+named : (k : PriceKey) → key_of (row_of k) ≡ Some k
+named (key.Dep place period) = refl
+named (key.Arr place period) = refl
+named (key.Sector place period) = refl
+named (key.Connect connection period) = refl
+
+and_true : (a b : Bool) → a ≡ true → b ≡ true → (a && b) ≡ true
+and_true true true first second = refl
+and_true true false first second = absurd (let e : false ≡ true = second in cc)
+and_true false b first second = absurd (let e : false ≡ true = first in cc)
+
+is_less : (a b : ℕ) → a < b → nat_lt a b ≡ true
+is_less a b less = grind (arith, nat_tests)
+
+-- what has a price may have one
+limited : (parts : Parts) (table : PriceTable) (k : PriceKey) → ArePlaced parts table
+    → IsKeyFor parts k → 0 < price_at table k → has_limit parts k ≡ true
+limited parts table k placed within some = by (has_limit parts k) refl where
+  by : (b : Bool) → has_limit parts k ≡ b → b ≡ true
+  by true is = refl
+  by false is = absurd (let none = placed k within is in omega (arith, some, none))
+
+priceable : (parts : Parts) (k : PriceKey) → IsKeyFor parts k → has_limit parts k ≡ true
+    → is_priceable parts (row_of k) ≡ true
+priceable parts (key.Dep place period) within limit =
+    and_true (has_limit parts (key.Dep place period)) (nat_lt period parts.day.periods) limit
+    (is_less period parts.day.periods within.1)
+priceable parts (key.Arr place period) within limit =
+    and_true (has_limit parts (key.Arr place period)) (nat_lt period parts.day.periods) limit
+    (is_less period parts.day.periods within.1)
+priceable parts (key.Sector place period) within limit =
+    and_true (has_limit parts (key.Sector place period)) (nat_lt period parts.day.periods) limit
+    (is_less period parts.day.periods within.1)
+priceable parts (key.Connect connection period) within limit =
+    and_true (nat_lt connection (length parts.connections)) (nat_lt period parts.day.periods)
+    (is_less connection (length parts.connections) within.0)
+    (is_less period parts.day.periods within.1)
+
+-- what holds of each item, and of one more
+pushed-each : {A : Type 0} (xs : List A) (x : A) (P : A → Type 0)
+    → ((k : ℕ) (y : A) → slice_get xs k ≡ Some y → P y) → P x
+    → (k : ℕ) (y : A) → slice_get (xs ++ x ∷ []) k ≡ Some y → P y
+pushed-each [] x P each last zero y at = let same : x ≡ y = cc in subst P same last
+pushed-each [] x P each last (suc k) y at = absurd (let e : None ≡ Some y = at in cc)
+pushed-each (first ∷ xs) x P each last zero y at = each 0 y at
+pushed-each (first ∷ xs) x P each last (suc k) y at =
+    pushed-each xs x P (λ i z is. each (suc i) z is) last k y at
+
+-- what comes before the next period is what comes before this one, and what is at it
+one_more : (n r t number row period : ℕ)
+    → (nat_lt number n || (nat_eq number n && (nat_lt row r
+    || (nat_eq row r && nat_lt period (t + 1)))))
+    ≡ ((nat_lt number n || (nat_eq number n && (nat_lt row r
+    || (nat_eq row r && nat_lt period t))))
+    || (nat_eq number n && (nat_eq row r && nat_eq period t)))
+one_more n r t number row period = grind (arith, nat_tests)
+
+row_end : (n r t number row period : ℕ) → period < t
+    → (nat_lt number n || (nat_eq number n && (nat_lt row r
+    || (nat_eq row r && nat_lt period t))))
+    ≡ (nat_lt number n || (nat_eq number n && (nat_lt row (r + 1)
+    || (nat_eq row (r + 1) && nat_lt period 0))))
+row_end n r t number row period before = grind (arith, nat_tests)
+
+kind_end : (n r number row period : ℕ) → (number ≡ n → row < r)
+    → (nat_lt number n || (nat_eq number n && (nat_lt row r
+    || (nat_eq row r && nat_lt period 0))))
+    ≡ (nat_lt number (n + 1) || (nat_eq number (n + 1) && (nat_lt row 0
+    || (nat_eq row 0 && nat_lt period 0))))
+kind_end n r number row period before = by (cases_lt number n) (cases_lt n number)
+  where
+    by : (number < n) ⊎ (n ≤ number) → (n < number) ⊎ (number ≤ n)
+        → (nat_lt number n || (nat_eq number n && (nat_lt row r
+        || (nat_eq row r && nat_lt period 0))))
+        ≡ (nat_lt number (n + 1) || (nat_eq number (n + 1) && (nat_lt row 0
+        || (nat_eq row 0 && nat_lt period 0))))
+    by (inl less) other = grind (arith, nat_tests)
+    by (inr fine) (inl more) = grind (arith, nat_tests)
+    by (inr fine) (inr less) =
+        let here = before (omega (arith, fine, less)) in grind (arith, nat_tests)
+
+pick : (was here now : Bool) (price value sum : ℕ) → now ≡ (was || here)
+    → sum ≡ (if was then price else 0) → (here ≡ true → value ≡ price)
+    → (if here then value else sum) ≡ (if now then price else 0)
+pick was true now price value sum is before same =
+    subst (λ b. value ≡ (if b then price else 0)) (sym (is ∙ all was)) (same refl)
+  where
+    all : (b : Bool) → (b || true) ≡ true
+    all true = refl
+    all false = refl
+pick was false now price value sum is before same =
+    subst (λ b. sum ≡ (if b then price else 0)) (sym (is ∙ none was)) before
+  where
+    none : (b : Bool) → (b || false) ≡ b
+    none true = refl
+    none false = refl
+
+module _ (parts : Parts) (table : PriceTable) where
+  -- the same prices come before another place
+  pub listed-same : (n r t m q u : ℕ) (rows : List Multiplier) → IsListed parts table n r t rows
+      → ((k : PriceKey) → IsKeyFor parts k → is_listed n r t k ≡ is_listed m q u k)
+      → IsListed parts table m q u rows
+  listed-same n r t m q u rows is same = record {
+    priceable = is.priceable;
+    each = λ k within. is.each k within
+        ∙ ap (λ b. if b then price_at table k else 0) (same k within);
+  }
+
+  pub listed-start : IsListed parts table 0 0 0 []
+  listed-start = record {
+    priceable = λ k multiplier at. absurd (let e : None ≡ Some multiplier = at in cc);
+    each = λ k within. none k (number_in k) (row_in k) (period_in k);
+  }
+    where
+      none : (k : PriceKey) (number row period : ℕ)
+          → 0 ≡ (if (nat_lt number 0 || (nat_eq number 0 && (nat_lt row 0
+          || (nat_eq row 0 && nat_lt period 0)))) then price_at table k else 0)
+      none k number row period =
+          ap (λ b. if b then price_at table k else 0) (sym (never number row period))
+        where
+          never : (number row period : ℕ) → (nat_lt number 0 || (nat_eq number 0 && (nat_lt row 0
+              || (nat_eq row 0 && nat_lt period 0)))) ≡ false
+          never number row period = grind (arith, nat_tests)
+
+  pub row-ended : (kind : PriceKind) (r : ℕ) (rows : List Multiplier)
+      → IsListed parts table (kind_number kind) r parts.day.periods rows
+      → IsListed parts table (kind_number kind) (r + 1) 0 rows
+  row-ended kind r rows is =
+      listed-same (kind_number kind) r parts.day.periods (kind_number kind) (r + 1) 0 rows is
+      (λ k within. row_end (kind_number kind) r parts.day.periods (number_in k) (row_in k)
+      (period_in k) (period_within parts k within))
+
+  pub kind-ended : (kind : PriceKind) (rows : List Multiplier)
+      → IsListed parts table (kind_number kind) (rows_of parts kind) 0 rows
+      → IsListed parts table (kind_number kind + 1) 0 0 rows
+  kind-ended kind rows is =
+      listed-same (kind_number kind) (rows_of parts kind) 0 (kind_number kind + 1) 0 0 rows is
+      (λ k within. kind_end (kind_number kind) (rows_of parts kind) (number_in k) (row_in k)
+      (period_in k) (row_within parts kind k within))
+
+  -- the price of a key, if there is one
+  module _ (k : PriceKey) where
+    abbrev n : ℕ
+    n = number_in k
+
+    abbrev r : ℕ
+    r = row_in k
+
+    abbrev t : ℕ
+    t = period_in k
+
+    here_now : (other : PriceKey) → is_listed n r (t + 1) other
+        ≡ (is_listed n r t other || is_key k other)
+    here_now other = one_more n r t (number_in other) (row_in other) (period_in other)
+
+    pub listed-none : (rows : List Multiplier) → price_at table k ≡ 0
+        → IsListed parts table n r t rows → IsListed parts table n r (t + 1) rows
+    listed-none rows none is = record {
+      priceable = is.priceable;
+      each = λ other within. by other within (is_key k other) refl;
+    }
+      where
+        by : (other : PriceKey) → IsKeyFor parts other → (b : Bool) → is_key k other ≡ b
+            → set_by rows other 0 ≡ (if is_listed n r (t + 1) other then price_at table other else 0)
+        by other within true at =
+            let same = ap (price_at table) (key_at k other at) ∙ none in
+            is.each other within ∙ both (is_listed n r t other) (is_listed n r (t + 1) other) same
+          where
+            both : (a b : Bool) → price_at table other ≡ 0
+                → (if a then price_at table other else 0) ≡ (if b then price_at table other else 0)
+            both true true free = refl
+            both true false free = free
+            both false true free = sym free
+            both false false free = refl
+        by other within false at =
+            pick (is_listed n r t other) false (is_listed n r (t + 1) other) (price_at table other)
+            0 (set_by rows other 0) (here_now other ∙ ap (λ b. is_listed n r t other || b) at)
+            (is.each other within) (λ never. absurd (let e : false ≡ true = never in cc))
+
+    pub listed-more : (rows : List Multiplier) (value : ℕ) → ArePlaced parts table
+        → IsKeyFor parts k → value ≡ price_at table k → 0 < value → IsListed parts table n r t rows
+        → IsListed parts table n r (t + 1) (rows ++ record { row = row_of k; value = value } ∷ [])
+    listed-more rows value placed within_day is some before = record {
+      priceable = λ i multiplier at. fine i multiplier at;
+      each = λ other within. set-more rows m other 0
+          ∙ ap (λ z. set_on z value other (set_by rows other 0)) (named k)
+          ∙ pick (is_listed n r t other) (is_key k other) (is_listed n r (t + 1) other)
+          (price_at table other) value (set_by rows other 0) (here_now other)
+          (before.each other within)
+          (λ at. is ∙ ap (price_at table) (sym (key_at k other at)));
+    }
+      where
+        m : Multiplier
+        m = record { row = row_of k; value = value }
+
+        fine : (i : ℕ) (multiplier : Multiplier)
+            → slice_get (rows ++ m ∷ []) i ≡ Some multiplier
+            → is_priceable parts multiplier.row ≡ true
+        fine i multiplier at = pushed-each rows m (λ x. is_priceable parts x.row ≡ true)
+            before.priceable (priceable parts k within_day
+            (limited parts table k placed within_day (omega (arith, is, some)))) i
+            multiplier at

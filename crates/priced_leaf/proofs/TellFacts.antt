@@ -1,0 +1,65 @@
+-- The listed prices are a Lag leaf, whose bound is what they tell.
+use Rattle.std.proofs.Common.{◌≡◌, ℕ, ◌<◌, true, List, Ok, if◌then◌else◌, refl, sym, ap, ◌∙◌, subst, inl, inr, arith}
+use Rattle.flow_types.specs.declared.bound.Bound.{Bound}
+use Rattle.flow_types.specs.declared.bound.Bound.TheVariants.{AtLeast, NoPlan}
+use Rattle.flow_types.specs.declared.bound.PriceKey.{PriceKey}
+use Rattle.flow_types.specs.declared.bound.PriceKey.TheVariants as key
+use Rattle.flow_types.specs.declared.parts.Parts.{Parts}
+use Rattle.flight_routes.specs.Prices.{ArePricesOf, IsKeyOf, PriceTable, price_at}
+use Rattle.priced_plans.specs.Keys.{IsKeyFor}
+use Rattle.priced_plans.specs.PricedBound.{IsPricedBound}
+use Rattle.time_windows.specs.Boxes.{Box}
+use Rattle.branch_tree.specs.declared.leaf.Leaf.{Leaf}
+use Rattle.branch_tree.specs.declared.leaf.Leaf.TheVariants.{Lag}
+use Rattle.branch_tree.specs.declared.leaf.Multiplier.{Multiplier}
+use Rattle.dual_leaf.specs.Leaf.{IsLeafBound, IsLive, IsTableSaid}
+use Rattle.priced_leaf.specs.Leaf.{IsLagOf, TellsAs}
+use Rattle.priced_leaf.specs.Listing.{IsListed, is_listed}
+
+key_for : (parts : Parts) (table : PriceTable) (k : PriceKey) → ArePricesOf parts table
+    → IsKeyOf table k → IsKeyFor parts k
+key_for parts table (key.Dep place period) are is =
+    (omega (arith, are.departures.wide, is.within), omega (arith, are.departures.long, is.in_day))
+key_for parts table (key.Arr place period) are is =
+    (omega (arith, are.arrivals.wide, is.within), omega (arith, are.arrivals.long, is.in_day))
+key_for parts table (key.Sector place period) are is =
+    (omega (arith, are.inside.wide, is.within), omega (arith, are.inside.long, is.in_day))
+key_for parts table (key.Connect connection period) are is =
+    (omega (arith, are.turns.wide, is.within), omega (arith, are.turns.long, is.in_day))
+
+all_listed : (k : PriceKey) → is_listed 4 0 0 k ≡ true
+all_listed (key.Dep place period) = refl
+all_listed (key.Arr place period) = refl
+all_listed (key.Sector place period) = refl
+all_listed (key.Connect connection period) = refl
+
+pub lag-of : (parts : Parts) (weight : ℕ) (table : PriceTable) (rows : List Multiplier)
+    → ArePricesOf parts table → IsListed parts table 4 0 0 rows
+    → IsLagOf parts weight table (Lag weight rows)
+lag-of parts weight table rows are listed = record {
+  rows = rows;
+  is = refl;
+  priceable = listed.priceable;
+  priced = record {
+    size = are;
+    each = λ k is. sym (listed.each k (key_for parts table k are is)
+        ∙ ap (λ b. if b then price_at table k else 0) (all_listed k));
+  };
+}
+
+said : (parts : Parts) (box : Box) (weight : ℕ) (table : PriceTable) (bound : Bound) → 0 < weight
+    → IsPricedBound parts box weight table bound → IsTableSaid parts box weight table (Ok bound)
+said parts box weight table NoPlan some told = inl (record { lacks = told; none = refl })
+said parts box weight table (AtLeast least) some (value, priced, rounded) =
+    inr (record { value = value; priced = priced; said = (some, rounded) })
+
+pub tells : (parts : Parts) (weight : ℕ) (table : PriceTable) (leaf : Leaf) → 0 < weight
+    → IsLagOf parts weight table leaf → TellsAs parts weight table leaf
+tells parts weight table leaf some is = λ box bound live told.
+    subst (λ z. IsLeafBound parts box z (Ok bound)) (sym is.is) (inl (record {
+      live = live;
+      priceable = is.priceable;
+      table = table;
+      prices = is.priced;
+      said = said parts box weight table bound some told;
+    }))

@@ -1,0 +1,8 @@
+use Rattle.flow_types.specs.Scenario.{parts_of}
+use Rattle.priced_plans.specs.Keys.{kind_number}
+use Rattle.priced_leaf.specs.Listing.{IsListed}
+use Rattle.priced_leaf.proofs.listing.list_kind.Given as goal
+
+abbrev pub invariant-loop-row : goal.invariant-loop-row
+invariant-loop-row l =
+    IsListed (parts_of l.s) l.prices (kind_number l.kind) l.row 0 l.rows

@@ -1,0 +1,8 @@
+use Rattle.flow_types.specs.Scenario.{parts_of}
+use Rattle.priced_plans.specs.Keys.{kind_number}
+use Rattle.priced_leaf.specs.Listing.{IsListed}
+use Rattle.priced_leaf.proofs.listing.list_row.Given as goal
+
+abbrev pub invariant-loop-period : goal.invariant-loop-period
+invariant-loop-period l =
+    IsListed (parts_of l.s) l.prices (kind_number l.kind) l.row l.period l.rows

@@ -1,0 +1,36 @@
+-- The leaf that prices are.
+use Rattle.std.specs.Prelude.{◌≡◌, ℕ, List, Ok}
+use Rattle.flow_types.specs.declared.bound.Bound.{Bound}
+use Rattle.flow_types.specs.declared.bound.PriceKey.{PriceKey}
+use Rattle.flow_types.specs.declared.bound.PriceKey.TheVariants as key
+use Rattle.flow_types.specs.declared.parts.Parts.{Parts}
+use Rattle.flight_routes.specs.Prices.{PriceTable}
+use Rattle.priced_plans.specs.PricedBound.{IsPricedBound}
+use Rattle.time_windows.specs.Boxes.{Box}
+use Rattle.bytime_model.specs.declared.names.RowName.{RowName}
+use Rattle.bytime_model.specs.declared.names.RowName.TheVariants.{Arr, Connect, Dep, Sector}
+use Rattle.branch_tree.specs.declared.leaf.Leaf.{Leaf}
+use Rattle.branch_tree.specs.declared.leaf.Leaf.TheVariants.{Lag}
+use Rattle.branch_tree.specs.declared.leaf.Multiplier.{Multiplier}
+use Rattle.dual_leaf.specs.Lag.{ArePriceable, ArePricedBy}
+use Rattle.dual_leaf.specs.Leaf.{IsLeafBound, IsLive}
+
+-- the row that a price is put on
+abbrev pub row_of : PriceKey → RowName
+row_of (key.Dep place period) = Dep place period
+row_of (key.Arr place period) = Arr place period
+row_of (key.Sector place period) = Sector place period
+row_of (key.Connect connection period) = Connect connection period
+
+-- the Lag leaf of this weight whose multipliers are the prices
+pub record IsLagOf (parts : Parts) (weight : ℕ) (table : PriceTable) (leaf : Leaf) : Type 0 where
+  pub rows : List Multiplier
+  pub is : leaf ≡ Lag weight rows
+  pub priceable : ArePriceable parts rows
+  pub priced : ArePricedBy parts rows table
+
+-- in any box what the prices tell is the bound of the leaf
+abbrev pub TellsAs : Parts → ℕ → PriceTable → Leaf → Type 0
+TellsAs parts weight table leaf =
+    (box : Box) (bound : Bound) → IsLive box → IsPricedBound parts box weight table bound
+    → IsLeafBound parts box leaf (Ok bound)

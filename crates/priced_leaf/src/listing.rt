@@ -1,0 +1,125 @@
+//! Prices, listed by their rows.
+ghost use Rattle.std.specs.Prelude.{◌≡◌, ◌<◌, ◌+◌, ◌^◌, IfOk, OnOk};
+ghost use Rattle.flow_types.specs.Scenario.{parts_of};
+ghost use Rattle.flight_routes.specs.Prices.{ArePricesOf, IsKeyOf, price_at};
+ghost use Rattle.priced_plans.specs.Keys.{ArePlaced, IsKeyFor, kind_number, number_in, period_in, row_in, rows_of};
+ghost use Rattle.priced_leaf.specs.Leaf.{IsLagOf, TellsAs, row_of};
+ghost use Rattle.priced_leaf.specs.Listing.{IsListed};
+
+use branch_tree::{Leaf, Multiplier, Multipliers};
+use bytime_model::RowName;
+use flight_routes::Prices;
+use flow_types::{OutOfMemory, PriceKey, Scenario};
+use priced_plans::{PriceKind, key_in, price_at, rows_of};
+use std::alloc::Global;
+
+// The row that a price is put on.
+fn row_of(key: PriceKey) -> RowName
+    ensures { result ≡ row_of key }
+{
+    match key {
+        PriceKey::Dep { place, period } => RowName::Dep { place, period },
+        PriceKey::Arr { place, period } => RowName::Arr { place, period },
+        PriceKey::Sector { place, period } => RowName::Sector { place, period },
+        PriceKey::Connect { connection, period } => RowName::Connect { connection, period },
+    }
+}
+
+// Lists a price, unless it is 0.
+fn list_price(
+    s: &Scenario,
+    prices: &Prices,
+    key: PriceKey,
+    rows: &mut Multipliers,
+) -> Result<(), OutOfMemory>
+    requires prices { ArePricesOf (parts_of s.now) prices.now }
+    requires placed { ArePlaced (parts_of s.now) prices.now }
+    requires key { IsKeyFor (parts_of s.now) key }
+    requires listed { IsListed (parts_of s.now) prices.now (number_in key) (row_in key)
+        (period_in key) rows.old }
+    ensures { OnOk result (IsListed (parts_of s.now) prices.now (number_in key) (row_in key)
+        (period_in key + 1) rows.new) }
+{
+    let value = price_at(prices, key);
+    if value > 0 {
+        let row = row_of(key);
+        rows.add(Multiplier { row, value })?;
+    }
+    Ok(())
+}
+
+// Lists those of a row, period by period.
+fn list_row(
+    s: &Scenario,
+    prices: &Prices,
+    kind: PriceKind,
+    row: u32,
+    rows: &mut Multipliers,
+) -> Result<(), OutOfMemory>
+    requires prices { ArePricesOf (parts_of s.now) prices.now }
+    requires placed { ArePlaced (parts_of s.now) prices.now }
+    requires row { row < rows_of (parts_of s.now) kind }
+    requires listed { IsListed (parts_of s.now) prices.now (kind_number kind) row 0 rows.old }
+    ensures { OnOk result
+        (IsListed (parts_of s.now) prices.now (kind_number kind) (row + 1) 0 rows.new) }
+{
+    for period in 0..s.day().periods {
+        list_price(s, prices, key_in(kind, row, period), rows)?;
+    }
+    Ok(())
+}
+
+// Lists those of a kind.
+fn list_kind(
+    s: &Scenario,
+    prices: &Prices,
+    kind: PriceKind,
+    rows: &mut Multipliers,
+) -> Result<(), OutOfMemory>
+    requires prices { ArePricesOf (parts_of s.now) prices.now }
+    requires placed { ArePlaced (parts_of s.now) prices.now }
+    requires listed { IsListed (parts_of s.now) prices.now (kind_number kind) 0 0 rows.old }
+    ensures { OnOk result
+        (IsListed (parts_of s.now) prices.now (kind_number kind + 1) 0 0 rows.new) }
+{
+    for row in 0..rows_of(s, kind) {
+        list_row(s, prices, kind, row as u32, rows)?;
+    }
+    Ok(())
+}
+
+// Lists them all.
+fn list_prices(alloc: Global, s: &Scenario, prices: &Prices) -> Result<Multipliers, OutOfMemory>
+    requires prices { ArePricesOf (parts_of s.now) prices.now }
+    requires placed { ArePlaced (parts_of s.now) prices.now }
+    ensures { IfOk result (IsListed (parts_of s.now) prices.now 4 0 0) }
+{
+    let mut rows = Multipliers::empty(alloc);
+    list_kind(s, prices, PriceKind::Departure, &mut rows)?;
+    list_kind(s, prices, PriceKind::Arrival, &mut rows)?;
+    list_kind(s, prices, PriceKind::Stay, &mut rows)?;
+    list_kind(s, prices, PriceKind::Turn, &mut rows)?;
+    Ok(rows)
+}
+
+/// The Lag leaf of this weight whose multipliers are the prices, each by its row, in the order of
+/// rows. In any box in which every node is open that must be entered, its bound is what the prices
+/// tell at this weight.
+///
+/// The prices are of the scenario, and 0 wherever a place has no capacity of the kind. The leaf
+/// takes 24 bytes for each price that isn't 0, or up to twice that. Time: for each price.
+pub fn lag_leaf(
+    alloc: Global,
+    s: &Scenario,
+    weight: u64,
+    prices: &Prices,
+) -> Result<Leaf, OutOfMemory>
+    requires weight { 0 < weight }
+    requires prices { ArePricesOf (parts_of s.now) prices.now }
+    requires placed { ArePlaced (parts_of s.now) prices.now }
+    ensures prices { IfOk result (IsLagOf (parts_of s.now) weight prices.now) }
+    ensures bound { IfOk result (TellsAs (parts_of s.now) weight prices.now) }
+{
+    let rows = list_prices(alloc, s, prices)?;
+    Ok(Leaf::Lag { weight, rows })
+}
