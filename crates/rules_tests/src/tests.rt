@@ -226,19 +226,13 @@ fn rounds_of_prices_bound_a_day(rt: HostRuntime) -> Result<(), Fail> {
     let s = two_flights(alloc, 1, 1, 1)?;
     let boxes = tight_root(&rt, alloc, &s)?;
     let mut rounds = Rounds::new(alloc, &s)?;
-    // So many rounds, the best bound, and what its prices say of the first period and place. The
-    // rounds by themselves tell 0, 0, 1, 0, 2 and 1.
-    for (count, bound, price) in [
-        (0, 0, 0),
-        (1, 0, 0),
-        (2, 1, 512),
-        (3, 1, 512),
-        (4, 2, 427),
-        (5, 2, 427),
-    ] {
-        assert_eq!(rt; rounds.play(&s, &boxes, count), Bound::AtLeast(bound));
-        assert_eq!(rt; rounds.prices().departure(0, 0), price);
-    }
+    // By themselves the rounds from 0 to 5 tell 0, 0, 1, 0, 2 and 1.
+    assert_eq!(rt; rounds.play(&s, &boxes, 1), Bound::AtLeast(0));
+    assert_eq!(rt; rounds.prices().departure(0, 0), 0);
+    assert_eq!(rt; rounds.play(&s, &boxes, 3), Bound::AtLeast(1));
+    assert_eq!(rt; rounds.prices().departure(0, 0), 512);
+    assert_eq!(rt; rounds.play(&s, &boxes, 5), Bound::AtLeast(2));
+    assert_eq!(rt; rounds.prices().departure(0, 0), 427);
     Ok(())
 }
 
