@@ -21,13 +21,13 @@
 //! `specs/Best.antt` says what the best of so many rounds is. `Work` is what `Rounds` is seen as.
 //! `Moves`, `Sums` and `Taking` serve the proof.
 //!
-//! Proved: `play` keeps prices that are exactly those after one of the rounds (`one`), each moved by
-//! the first of the least trips of each flight. It answers exactly the bound that they tell, or that
-//! a flight has no trip (`told`), and no round up to the last has a greater one (`least`). That is a
-//! bound on the feasible plans in the box (`sound`), and so is that of any round
+//! Proved: `play` keeps prices that are exactly those after one of the rounds (`one`), each moved
+//! by the first of the least trips of each flight. It answers exactly the bound that they tell, or
+//! that a flight has no trip (`told`), and no round up to the last has a greater one (`least`).
+//! That is a bound on the feasible plans in the box (`sound`), and so is that of any round
 //! (`round_bounds_are_bounds`). Where a place has no capacity of a kind its price is 0 (`placed`).
-//! A round has one bound in a box (`round_bounds_are_the_same`). Nothing is said of how good it is.
-//! `proofs/WorkedRounds.antt` has a round worked out.
+//! A round has one bound in a box (`round_bounds_are_the_same`). Nothing is said of how good it
+//! is. `proofs/WorkedRounds.antt` has a round worked out.
 //!
 //! Memory: prices twice and loads, 60 bytes a place and period, sixteen a connection and period and
 //! eight a flight, and the room for least trips, 0.9 MB, once. `play` takes none. Time: each round
