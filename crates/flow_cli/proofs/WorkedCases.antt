@@ -56,12 +56,12 @@ report_of_infeasible parts = refl
 
 -- The words ask for a plan where they are `plan` and one name, and for a verdict where they are
 -- `judge` and two.
-abbrev budget : ℕ → ℕ → ℕ → Budget
-budget nodes pivots cells =
-    record { nodes = nodes; limits = record { pivots = pivots; cells = cells }; rounds = 64 }
+abbrev budget : ℕ → ℕ → ℕ → ℕ → Budget
+budget nodes pivots cells rounds =
+    record { nodes = nodes; limits = record { pivots = pivots; cells = cells }; rounds = rounds }
 
 abbrev pub default_budget : Budget
-default_budget = budget 2001 20000 2000000
+default_budget = budget 2001 20000 2000000 64
 
 abbrev day : List ℕ
 day = codes "day.csv"
@@ -71,8 +71,8 @@ a_day_to_plan = refl
 
 options_before_and_behind :
     asked (codes "plan" ∷ codes "--cells" ∷ codes "16000000" ∷ day ∷ codes "--pivots" ∷ codes "0"
-    ∷ codes "--nodes" ∷ codes "00000021" ∷ [])
-    ≡ Some (Planned day (budget 21 0 16000000))
+    ∷ codes "--nodes" ∷ codes "00000021" ∷ codes "--rounds" ∷ codes "1000" ∷ [])
+    ≡ Some (Planned day (budget 21 0 16000000 1000))
 options_before_and_behind = refl
 
 a_plan_to_judge : asked (codes "judge" ∷ day ∷ codes "plan.csv" ∷ [])
@@ -120,8 +120,11 @@ a_number_with_a_sign = refl
 an_option_and_its_number_in_a_word : asked (codes "plan" ∷ day ∷ codes "--nodes=21" ∷ []) ≡ None
 an_option_and_its_number_in_a_word = refl
 
+too_many_rounds : asked (codes "plan" ∷ day ∷ codes "--rounds" ∷ codes "1001" ∷ []) ≡ None
+too_many_rounds = refl
+
 an_option_that_is_not_there_yet :
-    asked (codes "plan" ∷ day ∷ codes "--rounds" ∷ codes "64" ∷ []) ≡ None
+    asked (codes "plan" ∷ day ∷ codes "--cert" ∷ codes "day.cert" ∷ []) ≡ None
 an_option_that_is_not_there_yet = refl
 
 a_word_too_many : asked (codes "plan" ∷ day ∷ day ∷ []) ≡ None

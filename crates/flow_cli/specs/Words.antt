@@ -1,8 +1,9 @@
 -- The words of the command line.
-use Rattle.std.specs.Prelude.{ℕ, ◌==◌, ◌<◌, Bool, false, ◌&&◌, not, List, [], ◌∷◌, length, Option, Some, None, IfSome, nat_le, option_map, unwrap_or, codes, if◌then◌else◌}
+use Rattle.std.specs.Prelude.{ℕ, ◌==◌, ◌<◌, ◌≤◌, Bool, false, ◌&&◌, not, List, [], ◌∷◌, length, Option, Some, None, IfSome, nat_le, option_map, unwrap_or, codes, if◌then◌else◌}
 use Rattle.std.specs.Option.{option_and_then}
 use Rattle.std.specs.Str.{bytes_eq}
 use Rattle.flow_types.specs.Words.{number_of}
+use Rattle.lagrange_bound.specs.Work.{most_rounds}
 use Rattle.tree_search.specs.declared.found.Budget.{Budget}
 use Rattle.flow_cli.specs.declared.words.Command.{Command}
 use Rattle.flow_cli.specs.declared.words.Command.TheVariants as command
@@ -25,28 +26,54 @@ number_within least most word =
 
 -- no option is given yet
 abbrev pub nothing_given : Given
-nothing_given = record { nodes = None; pivots = None; cells = None }
+nothing_given = record { nodes = None; pivots = None; cells = None; rounds = None }
 
 -- each option is given at most once
 abbrev pub once : Option ℕ → Option ℕ → Option ℕ
 once None number = number
 once (Some given) number = None
 
--- how many nodes a search may have, how many pivots each of its runs, and how many cells
+-- how many nodes a search may have, how many pivots each of its runs, and how many cells, and how
+-- many rounds of prices each of its boxes
 abbrev pub with_nodes : Given → List ℕ → Option Given
 with_nodes given word =
-    option_map (λ n. record { nodes = Some n; pivots = given.pivots; cells = given.cells })
+    option_map (λ n. record {
+      nodes = Some n;
+      pivots = given.pivots;
+      cells = given.cells;
+      rounds = given.rounds;
+    })
     (once given.nodes (number_within 1 200000 word))
 
 abbrev pub with_pivots : Given → List ℕ → Option Given
 with_pivots given word =
-    option_map (λ n. record { nodes = given.nodes; pivots = Some n; cells = given.cells })
+    option_map (λ n. record {
+      nodes = given.nodes;
+      pivots = Some n;
+      cells = given.cells;
+      rounds = given.rounds;
+    })
     (once given.pivots (number_within 0 1000000 word))
 
 abbrev pub with_cells : Given → List ℕ → Option Given
 with_cells given word =
-    option_map (λ n. record { nodes = given.nodes; pivots = given.pivots; cells = Some n })
+    option_map (λ n. record {
+      nodes = given.nodes;
+      pivots = given.pivots;
+      cells = Some n;
+      rounds = given.rounds;
+    })
     (once given.cells (number_within 1000 16000000 word))
+
+abbrev pub with_rounds : Given → List ℕ → Option Given
+with_rounds given word =
+    option_map (λ n. record {
+      nodes = given.nodes;
+      pivots = given.pivots;
+      cells = given.cells;
+      rounds = Some n;
+    })
+    (once given.rounds (number_within 0 1000 word))
 
 -- an option and the number behind it, beside those that are given already
 abbrev pub with_option : Given → List ℕ → List ℕ → Option Given
@@ -54,6 +81,7 @@ with_option given option word =
     if bytes_eq option (codes "--nodes") then with_nodes given word
     else if bytes_eq option (codes "--pivots") then with_pivots given word
     else if bytes_eq option (codes "--cells") then with_cells given word
+    else if bytes_eq option (codes "--rounds") then with_rounds given word
     else None
 
 -- options alone, each with its number behind it
@@ -63,8 +91,8 @@ with_options given (option ∷ []) = None
 with_options given (option ∷ word ∷ words) =
     option_and_then (λ more. with_options more words) (with_option given option word)
 
--- what a search may spend where no option says so is 2,001 nodes, and in each run 20,000 pivots
--- and 2,000,000 cells; no option says the rounds of prices, which are passed over
+-- what a search may spend where no option says so is 2,001 nodes, in each run 20,000 pivots and
+-- 2,000,000 cells, and on each box 64 rounds of prices
 abbrev pub budget_of : Given → Budget
 budget_of given = record {
   nodes = unwrap_or given.nodes 2001;
@@ -72,7 +100,7 @@ budget_of given = record {
     pivots = unwrap_or given.pivots 20000;
     cells = unwrap_or given.cells 2000000;
   };
-  rounds = 64;
+  rounds = unwrap_or given.rounds 64;
 }
 
 -- what is asked for: that the day of a name is planned, and what that may spend, or that a plan of
@@ -110,12 +138,13 @@ abbrev pub asked_by : Command → Asked
 asked_by (command.Plan name budget) = Planned name.now budget
 asked_by (command.Judge name plan) = Judged name.now plan.now
 
--- a search has a node at least
-abbrev pub HasNodes : Given → Type 0
-HasNodes given = IfSome given.nodes (λ n. 0 < n)
+-- a search has a node at least, and no more rounds than there may be
+pub record IsAllowed (given : Given) : Type 0 where
+  pub nodes : IfSome given.nodes (λ n. 0 < n)
+  pub rounds : IfSome given.rounds (λ n. n ≤ 1000)
 
 abbrev pub MaySearch : Command → Type 0
-MaySearch (command.Plan name budget) = 0 < budget.nodes
+MaySearch (command.Plan name budget) = (0 < budget.nodes) × (budget.rounds ≤ most_rounds)
 MaySearch (command.Judge name plan) = Unit {0}
 
 -- the commands, and the words that each one takes

@@ -1,6 +1,7 @@
 //! The words of the command line.
 ghost use Rattle.std.specs.Prelude.{◌≡◌, ◌≤◌, ◌<◌, IfSome, map, option_map, string_bytes};
-ghost use Rattle.flow_cli.specs.Words.{HasNodes, MaySearch, asked, asked_by, asked_plan, asked_verdict, budget_of, is_word_for_name, number_within, with_cells, with_nodes, with_option, with_options, with_pivots};
+ghost use Rattle.lagrange_bound.specs.Work.{most_rounds};
+ghost use Rattle.flow_cli.specs.Words.{IsAllowed, MaySearch, asked, asked_by, asked_plan, asked_verdict, budget_of, is_word_for_name, number_within, with_cells, with_nodes, with_option, with_options, with_pivots, with_rounds};
 
 use flow_types::parse_number;
 use relaxed_bound::Limits;
@@ -21,12 +22,14 @@ pub struct Given {
     pub nodes: Option<u64>,
     pub pivots: Option<u64>,
     pub cells: Option<u32>,
+    pub rounds: Option<u32>,
 }
 
 const NOTHING_GIVEN: Given = Given {
     nodes: None,
     pivots: None,
     cells: None,
+    rounds: None,
 };
 
 // How many digits the number of an option may have.
@@ -37,7 +40,7 @@ const MOST_DIGITS: usize = 8;
 /// of which is its number; each stands once at most, before the name or behind it.
 pub fn command_of(words: &[String]) -> Option<Command<'_>>
     ensures asked { option_map asked_by result ≡ asked (map string_bytes words.now) }
-    ensures nodes { IfSome result MaySearch }
+    ensures may { IfSome result MaySearch }
 {
     let (command, words) = words.split_first()?;
     if command.as_str() == "plan" {
@@ -51,9 +54,9 @@ pub fn command_of(words: &[String]) -> Option<Command<'_>>
 
 // The command in the words behind `plan`.
 fn asked_plan(given: Given, words: &[String]) -> Option<Command<'_>>
-    requires given { HasNodes given }
+    requires given { IsAllowed given }
     ensures asked { option_map asked_by result ≡ asked_plan given (map string_bytes words.now) }
-    ensures nodes { IfSome result MaySearch }
+    ensures may { IfSome result MaySearch }
 {
     let (word, words) = words.split_first()?;
     let name = word.as_str();
@@ -68,7 +71,7 @@ fn asked_plan(given: Given, words: &[String]) -> Option<Command<'_>>
 // The command in the words behind `judge`.
 fn asked_verdict(words: &[String]) -> Option<Command<'_>>
     ensures asked { option_map asked_by result ≡ asked_verdict (map string_bytes words.now) }
-    ensures nodes { IfSome result MaySearch }
+    ensures may { IfSome result MaySearch }
 {
     match words {
         [name, plan] => {
@@ -96,9 +99,9 @@ fn is_word_for_name(word: &str) -> bool
 
 // What is given with the options that the words are.
 fn with_options(given: Given, words: &[String]) -> Option<Given>
-    requires given { HasNodes given }
+    requires given { IsAllowed given }
     ensures with { result ≡ with_options given (map string_bytes words.now) }
-    ensures nodes { IfSome result HasNodes }
+    ensures allowed { IfSome result IsAllowed }
 {
     let Some((option, words)) = words.split_first() else {
         return Some(given);
@@ -112,9 +115,9 @@ fn with_options(given: Given, words: &[String]) -> Option<Given>
 
 // What is given with the option and the number behind it.
 fn with_option(given: Given, option: &str, number: &[u8]) -> Option<Given>
-    requires given { HasNodes given }
+    requires given { IsAllowed given }
     ensures with { result ≡ with_option given option.now number.now }
-    ensures nodes { IfSome result HasNodes }
+    ensures allowed { IfSome result IsAllowed }
 {
     if option == "--nodes" {
         return with_nodes(given, number);
@@ -125,13 +128,17 @@ fn with_option(given: Given, option: &str, number: &[u8]) -> Option<Given>
     if option == "--cells" {
         return with_cells(given, number);
     }
+    if option == "--rounds" {
+        return with_rounds(given, number);
+    }
     None
 }
 
 // What is given with the number of nodes that a search may have.
 fn with_nodes(given: Given, number: &[u8]) -> Option<Given>
+    requires given { IsAllowed given }
     ensures with { result ≡ with_nodes given number.now }
-    ensures nodes { IfSome result HasNodes }
+    ensures allowed { IfSome result IsAllowed }
 {
     if given.nodes.is_some() {
         return None;
@@ -145,9 +152,9 @@ fn with_nodes(given: Given, number: &[u8]) -> Option<Given>
 
 // What is given with the number of pivots that a run may make.
 fn with_pivots(given: Given, number: &[u8]) -> Option<Given>
-    requires given { HasNodes given }
+    requires given { IsAllowed given }
     ensures with { result ≡ with_pivots given number.now }
-    ensures nodes { IfSome result HasNodes }
+    ensures allowed { IfSome result IsAllowed }
 {
     if given.pivots.is_some() {
         return None;
@@ -161,9 +168,9 @@ fn with_pivots(given: Given, number: &[u8]) -> Option<Given>
 
 // What is given with the number of cells that a run may fill.
 fn with_cells(given: Given, number: &[u8]) -> Option<Given>
-    requires given { HasNodes given }
+    requires given { IsAllowed given }
     ensures with { result ≡ with_cells given number.now }
-    ensures nodes { IfSome result HasNodes }
+    ensures allowed { IfSome result IsAllowed }
 {
     if given.cells.is_some() {
         return None;
@@ -171,6 +178,22 @@ fn with_cells(given: Given, number: &[u8]) -> Option<Given>
     let cells = number_within(1_000, 16_000_000, number)?;
     Some(Given {
         cells: Some(cells as u32),
+        ..given
+    })
+}
+
+// What is given with the number of rounds of prices that a box may have.
+fn with_rounds(given: Given, number: &[u8]) -> Option<Given>
+    requires given { IsAllowed given }
+    ensures with { result ≡ with_rounds given number.now }
+    ensures allowed { IfSome result IsAllowed }
+{
+    if given.rounds.is_some() {
+        return None;
+    }
+    let rounds = number_within(0, 1_000, number)?;
+    Some(Given {
+        rounds: Some(rounds as u32),
         ..given
     })
 }
@@ -190,12 +213,13 @@ fn number_within(least: u64, most: u64, word: &[u8]) -> Option<u64>
     None
 }
 
-// What a search may spend: what is given, and else 2,001 nodes and runs of 20,000 pivots and
-// 2,000,000 cells. No option says the rounds of prices, which are passed over.
+// What a search may spend: what is given, and else 2,001 nodes, runs of 20,000 pivots and 2,000,000
+// cells, and 64 rounds of prices a box.
 fn budget_of(given: Given) -> Budget
-    requires given { HasNodes given }
+    requires given { IsAllowed given }
     ensures budget { result ≡ budget_of given }
     ensures nodes { 0 < result.nodes }
+    ensures rounds { result.rounds ≤ most_rounds }
 {
     Budget {
         nodes: given.nodes.unwrap_or(2_001),
@@ -203,6 +227,6 @@ fn budget_of(given: Given) -> Budget
             pivots: given.pivots.unwrap_or(20_000),
             cells: given.cells.unwrap_or(2_000_000),
         },
-        rounds: 64,
+        rounds: given.rounds.unwrap_or(64),
     }
 }

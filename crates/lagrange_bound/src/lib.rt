@@ -42,5 +42,6 @@ mod taking;
 mod values;
 
 pub use laws::{round_bounds_are_bounds, round_bounds_are_the_same};
+pub use moves::is_by;
 pub use rounds::{Rounds, is_above};
 pub use taking::COST_WEIGHT;

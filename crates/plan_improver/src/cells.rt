@@ -98,6 +98,20 @@ fn add_full(
     Ok(())
 }
 
+/// The periods from the first of these to the last; none where there are no capacities.
+pub fn span_of(cells: &[Cell]) -> Option<Times> {
+    let first = cells.first()?.period;
+    let mut span = Times {
+        leaves: first,
+        arrives: first,
+    };
+    for cell in cells {
+        span.leaves = span.leaves.min(cell.period);
+        span.arrives = span.arrives.max(cell.period);
+    }
+    Some(span)
+}
+
 /// Whether the trip of the flight counts for the capacity in its period.
 pub fn meets(flight: &Flight, stops: &[Stop], cell: Cell) -> bool {
     match cell.kind {

@@ -3,7 +3,7 @@ ghost use Rattle.std.specs.Prelude.{◌≡◌, ◌<◌, ◌^◌, length};
 ghost use Rattle.flow_types.specs.Scenario.{parts_of};
 ghost use Rattle.plan_rules.specs.Loads.{IsMadeFor};
 
-use crate::cells::{Cell, Times, add_full_cells, meets, times_of};
+use crate::cells::{Cell, Times, add_full_cells, meets, span_of, times_of};
 use crate::draft::Choice;
 use crate::generator::Generator;
 use flow_types::{Flight, OutOfMemory, Scenario, Stop};
@@ -82,7 +82,7 @@ impl Chosen {
         }
         let flight = self.delayed[self.generator.below(self.delayed.len())];
         self.list_cells(s, loads, choices, flight)?;
-        self.list_others(s, boxes, choices, flight)?;
+        self.list_others(s, boxes, loads, choices, flight)?;
         self.choose_one(flight)?;
         add_with_partners(&mut self.flights, boxes, &self.others)?;
         self.generator.mix(&mut self.flights);
@@ -120,10 +120,12 @@ impl Chosen {
         &mut self,
         s: &Scenario,
         boxes: &Boxes,
+        loads: &Loads,
         choices: &[Choice],
         flight: u32,
     ) -> Result<(), OutOfMemory>
-        requires { length choices.now ≡ length (parts_of s.now).flights }
+        requires loads { IsMadeFor (parts_of s.now) loads.now }
+        requires count { length choices.now ≡ length (parts_of s.now).flights }
     {
         self.others.clear();
         add_partners(
@@ -134,7 +136,7 @@ impl Chosen {
             &mut self.others,
             boxes.turns().of_flight(flight, End::Departure),
         )?;
-        add_meeting(&mut self.others, s, choices, &self.cells, flight)?;
+        add_meeting(&mut self.others, s, loads, choices, &self.cells, flight)?;
         self.generator.mix(&mut self.others);
         self.others.truncate(1 + self.generator.below(MOST_OTHERS));
         Ok(())
@@ -169,19 +171,38 @@ fn late_times(flight: &Flight, stops: &[Stop]) -> Times {
 fn add_meeting(
     flights: &mut Vec<u32>,
     s: &Scenario,
+    loads: &Loads,
     choices: &[Choice],
     cells: &[Cell],
     flight: u32,
 ) -> Result<(), OutOfMemory>
-    requires { length choices.now ≡ length (parts_of s.now).flights }
+    requires loads { IsMadeFor (parts_of s.now) loads.now }
+    requires count { length choices.now ≡ length (parts_of s.now).flights }
 {
+    let Some(span) = span_of(cells) else {
+        return Ok(());
+    };
     for number in 0..choices.len() {
         let other = number as u32;
-        if other != flight && meets_any(&s.flights()[number], choices[number].trip.items(), cells) {
+        if other != flight
+            && is_under_way(loads, other, span)
+            && meets_any(&s.flights()[number], choices[number].trip.items(), cells)
+        {
             add_once(flights, other)?;
         }
     }
     Ok(())
+}
+
+// Whether the flight is under way in one of these periods.
+fn is_under_way(loads: &Loads, flight: u32, span: Times) -> bool
+    requires leaves { flight < length loads.now.leaves }
+    requires arrives { flight < length loads.now.arrives }
+{
+    match (loads.departure(flight), loads.arrival(flight)) {
+        (Some(leaves), Some(arrives)) => leaves <= span.arrives && span.leaves <= arrives,
+        _ => false,
+    }
 }
 
 // Whether the trip of the flight counts for one of the capacities.

@@ -1,25 +1,32 @@
 //! The search for a plan that costs less.
-ghost use Rattle.std.specs.Prelude.{◌≡◌, ◌↔◌, IfSome, IsTrue, length};
+ghost use Rattle.std.specs.Prelude.{◌≡◌, ◌<◌, ◌^◌, ◌↔◌, IfSome, IsTrue, length};
 ghost use Rattle.flow_types.specs.Scenario.{parts_of};
+ghost use Rattle.flight_routes.specs.Prices.{ArePricesOf};
+ghost use Rattle.flight_routes.specs.Work.{IsWorkFor};
 ghost use Rattle.plan_rules.specs.Loads.{IsMadeFor as AreLoadsFor};
-ghost use Rattle.time_windows.specs.Held.{box_of};
+ghost use Rattle.time_windows.specs.Held.{IsMadeFor, box_of};
 ghost use Rattle.plan_improver.specs.Cheaper.{IsCheaper, IsLess};
 
 use crate::choosing::Chosen;
 use crate::draft::{Choice, add_trips, choices_of, extra_of, plan_of};
+use crate::fits::fits;
 use crate::inside::is_in_box;
-use flight_routes::Work;
-use flow_types::{Flight, OutOfMemory, Plan, Scenario, Trip};
+use flight_routes::{Prices, Work};
+use flow_types::{Bound, Flight, OutOfMemory, Plan, Scenario, Trip};
 use plan_rules::{Loads, Verdict, judge};
 use std::alloc::Global;
 use std::marker::Model;
 use time_windows::Boxes;
 
 // How many trials there are for each flight.
-const TRIALS_A_FLIGHT: usize = 10;
+const TRIALS_A_FLIGHT: usize = 40;
 
-// How many legs, times the periods of the day, the trials may look at, if each takes one flight out.
-const MOST_STEPS: usize = 4_000_000;
+// How many legs, times the periods of the day, the trials may look at, if each takes one flight
+// out.
+const MOST_STEPS: usize = 40_000_000;
+
+// By which part of itself the weight of costs beside prices is raised.
+const MORE: u64 = 32;
 
 // A trip that a flight is given in a trial, and how much more than the least it costs.
 #[derive(Debug, Drop)]
@@ -56,6 +63,7 @@ impl Model for Improver {
 impl Improver {
     ghost use Rattle.std.specs.Prelude.{◌≡◌, ◌<◌, ◌^◌, IfOk, IfSome, IsTrue, length};
     ghost use Rattle.flow_types.specs.Scenario.{parts_of};
+    ghost use Rattle.flight_routes.specs.Prices.{ArePricesOf};
     ghost use Rattle.time_windows.specs.Held.{IsMadeFor, box_of};
     ghost use Rattle.plan_improver.specs.Cheaper.{IsCheaper};
     ghost use Rattle.plan_improver.specs.Work.{IsFilledFor, IsSearchRoomFor};
@@ -78,10 +86,13 @@ impl Improver {
     /// flights alone: where it breaks a rule, the search begins with the greedy plan, as far as it
     /// goes.
     ///
-    /// The box is one of the scenario that the room was made for. The same box and start give the
-    /// same plan, whatever was searched before. It takes memory for the stops of three plans while
-    /// it runs, and for the plan; time for ten trials a flight, fewer on long days with many legs,
-    /// each as 24 least trips at the most and a look at each stop of a plan.
+    /// Flights are put back by prices too, where costs weigh so much: the better the prices, the better
+    /// the plan. It ends where a plan costs no more than a bound that is enough.
+    ///
+    /// The box and the prices are of the scenario that the room was made for. What it is given tells
+    /// the plan, whatever was searched before. It takes memory for the stops of three plans while it runs, and for the plan;
+    /// time for forty trials a flight, fewer on long days with many legs, each as 24 least trips at
+    /// the most and a look at each flight.
     ///
     /// Large neighbourhood search (Shaw, "Using constraint programming and local search methods to
     /// solve vehicle routing problems", 1998).
@@ -91,9 +102,14 @@ impl Improver {
         s: &Scenario,
         boxes: &Boxes,
         start: &Plan,
+        prices: &Prices,
+        weight: u64,
+        enough: Bound,
     ) -> Result<Option<Plan>, OutOfMemory>
         requires made { IsSearchRoomFor (parts_of s.now) self.old }
         requires boxes { IsMadeFor (parts_of s.now) boxes.now }
+        requires prices { ArePricesOf (parts_of s.now) prices.now }
+        requires weight { weight < 2 ^ 61 }
         ensures cheaper { IfOk result (λ found. IfSome found
             (IsCheaper (parts_of s.now) (box_of boxes.now) start.now)) }
         ensures made { IsSearchRoomFor (parts_of s.now) self.new }
@@ -104,7 +120,7 @@ impl Improver {
             return Ok(None);
         }
         self.place_all(alloc, s, boxes)?;
-        self.search(alloc, s, boxes)?;
+        self.search(alloc, s, boxes, prices, weight + weight / MORE, enough)?;
         let plan = plan_of(alloc, &self.choices)?;
         Ok(if_cheaper(&mut self.loads, s, boxes, start, plan))
     }
@@ -143,86 +159,125 @@ impl Improver {
         for flight in 0..self.choices.len() {
             if self.choices[flight].trip.items().is_empty() {
                 self.chosen.choose_one(flight as u32)?;
-                self.exchange(alloc, s, boxes)?;
+                self.exchange(alloc, s, boxes, None, 0)?;
             }
         }
         Ok(())
     }
 
-    // Makes trials, while a flight is delayed.
-    fn search(&mut self, alloc: Global, s: &Scenario, boxes: &Boxes) -> Result<(), OutOfMemory>
+    // Makes trials, while a flight is delayed and the plan costs more than what is enough: seven of
+    // eight by the prices.
+    fn search(
+        &mut self,
+        alloc: Global,
+        s: &Scenario,
+        boxes: &Boxes,
+        prices: &Prices,
+        weight: u64,
+        enough: Bound,
+    ) -> Result<(), OutOfMemory>
         requires filled { IsFilledFor (parts_of s.now) self.old }
         requires boxes { IsMadeFor (parts_of s.now) boxes.now }
+        requires prices { ArePricesOf (parts_of s.now) prices.now }
+        requires weight { weight < 2 ^ 62 }
         ensures filled { IsFilledFor (parts_of s.now) self.new }
     {
-        for _ in 0..trials_of(s) {
-            if !self.chosen.choose(s, boxes, &self.loads, &self.choices)? {
+        let mut cost = cost_of(&self.choices);
+        for trial in 0..trials_of(s) {
+            if is_enough(enough, cost)
+                || !self.chosen.choose(s, boxes, &self.loads, &self.choices)?
+            {
                 return Ok(());
             }
-            self.exchange(alloc, s, boxes)?;
+            let guide = if trial % 8 == 7 { None } else { Some(prices) };
+            cost = cost.saturating_sub(self.exchange(alloc, s, boxes, guide, weight)?);
         }
         Ok(())
     }
 
-    // Gives the chosen flights other trips, if these cost no more together.
-    fn exchange(&mut self, alloc: Global, s: &Scenario, boxes: &Boxes) -> Result<(), OutOfMemory>
+    // Gives the chosen flights other trips, if these cost no more together, and tells how much less.
+    fn exchange(
+        &mut self,
+        alloc: Global,
+        s: &Scenario,
+        boxes: &Boxes,
+        guide: Option<&Prices>,
+        weight: u64,
+    ) -> Result<i64, OutOfMemory>
         requires filled { IsFilledFor (parts_of s.now) self.old }
         requires boxes { IsMadeFor (parts_of s.now) boxes.now }
+        requires guide { IfSome guide (λ prices. ArePricesOf (parts_of s.now) prices.now) }
+        requires weight { weight < 2 ^ 62 }
         ensures filled { IsFilledFor (parts_of s.now) self.new }
     {
         let extra = take_out(&mut self.loads, s, &self.choices, self.chosen.flights());
         self.offers.clear();
-        if self.put_back(alloc, s, boxes, extra)? {
-            accept(&mut self.choices, &mut self.offers);
-        } else {
-            refuse(&mut self.loads, s, &self.offers);
-            put_in(&mut self.loads, s, &self.choices, self.chosen.flights());
+        match self.put_back(alloc, s, boxes, guide, weight, extra)? {
+            Some(gain) => {
+                accept(&mut self.choices, &mut self.offers);
+                Ok(gain)
+            }
+            None => {
+                refuse(&mut self.loads, s, &self.offers);
+                put_in(&mut self.loads, s, &self.choices, self.chosen.flights());
+                Ok(0)
+            }
         }
-        Ok(())
     }
 
-    // Offers each chosen flight the least trip that fits, in their order, and tells whether all have
-    // one and these cost no more than so much more than the least ones.
+    // Offers each chosen flight the least trip that fits, in their order. Tells how much is left of
+    // what they may cost more than their least ones; nothing where they cost more than that.
     fn put_back(
         &mut self,
         alloc: Global,
         s: &Scenario,
         boxes: &Boxes,
+        guide: Option<&Prices>,
+        weight: u64,
         most: i64,
-    ) -> Result<bool, OutOfMemory>
+    ) -> Result<Option<i64>, OutOfMemory>
         requires filled { IsFilledFor (parts_of s.now) self.old }
         requires boxes { IsMadeFor (parts_of s.now) boxes.now }
+        requires guide { IfSome guide (λ prices. ArePricesOf (parts_of s.now) prices.now) }
+        requires weight { weight < 2 ^ 62 }
         ensures filled { IsFilledFor (parts_of s.now) self.new }
     {
         let mut left = most;
         for at in 0..self.chosen.flights().len() {
             if let Some(flight) = self.chosen.flight_at(at) {
-                left = left.saturating_sub(self.offer(alloc, s, boxes, flight)?);
+                left = left.saturating_sub(self.offer(alloc, s, boxes, guide, weight, flight)?);
             }
             if left < 0 {
-                return Ok(false);
+                return Ok(None);
             }
         }
-        Ok(true)
+        Ok(Some(left))
     }
 
-    // Offers the flight the least trip that fits, and tells how much more than its least it costs.
+    // Offers the flight its least trip by the prices, if it fits, else the least that fits; and tells
+    // how much more than its least it costs.
     fn offer(
         &mut self,
         alloc: Global,
         s: &Scenario,
         boxes: &Boxes,
+        guide: Option<&Prices>,
+        weight: u64,
         flight: u32,
     ) -> Result<i64, OutOfMemory>
         requires filled { IsFilledFor (parts_of s.now) self.old }
         requires boxes { IsMadeFor (parts_of s.now) boxes.now }
+        requires guide { IfSome guide (λ prices. ArePricesOf (parts_of s.now) prices.now) }
+        requires weight { weight < 2 ^ 62 }
         ensures filled { IsFilledFor (parts_of s.now) self.new }
     {
         let Some(choice) = self.choices.get(flight as usize) else {
             return Ok(0);
         };
         let least = choice.least;
-        let _fit = self.work.least_fit(s, boxes, flight, &self.loads);
+        if !finds_priced(&mut self.work, s, &self.loads, boxes, guide, weight, flight) {
+            let _fit = self.work.least_fit(s, boxes, flight, &self.loads);
+        }
         let trip = Trip::from_stops(alloc, self.work.trip())?;
         let extra = extra_of(s, flight, trip.items(), least);
         self.loads.add(s, flight, trip.items());
@@ -232,6 +287,33 @@ impl Improver {
             extra,
         })?;
         Ok(extra)
+    }
+}
+
+// Finds the flight's least trip by the prices, if there are some, and tells whether it fits.
+fn finds_priced(
+    work: &mut Work,
+    s: &Scenario,
+    loads: &Loads,
+    boxes: &Boxes,
+    guide: Option<&Prices>,
+    weight: u64,
+    flight: u32,
+) -> bool
+    requires work { IsWorkFor (parts_of s.now) work.old }
+    requires loads { AreLoadsFor (parts_of s.now) loads.now }
+    requires boxes { IsMadeFor (parts_of s.now) boxes.now }
+    requires guide { IfSome guide (λ prices. ArePricesOf (parts_of s.now) prices.now) }
+    requires weight { weight < 2 ^ 62 }
+    requires flight { flight < length (parts_of s.now).flights }
+    ensures { IsWorkFor (parts_of s.now) work.new }
+{
+    match guide {
+        None => false,
+        Some(prices) => {
+            work.least_trip(s, boxes, flight, weight, prices).is_some()
+                && fits(s, loads, boxes, flight, work.trip())
+        }
     }
 }
 
@@ -262,6 +344,25 @@ fn trips_kept(verdict: Verdict, plan: &Plan) -> &[Trip] {
     match verdict {
         Verdict::Keeps { .. } => plan.items(),
         Verdict::Breaks(_) => &[],
+    }
+}
+
+// What the plan of the choices costs; flights that are left out count for what that costs.
+fn cost_of(choices: &[Choice]) -> i64 {
+    let mut cost = 0i64;
+    for choice in choices {
+        cost = cost
+            .saturating_add(choice.least)
+            .saturating_add(choice.extra);
+    }
+    cost
+}
+
+// Whether no plan can cost less.
+fn is_enough(enough: Bound, cost: i64) -> bool {
+    match enough {
+        Bound::AtLeast(least) => i128::from(cost) <= least,
+        Bound::NoPlan => true,
     }
 }
 

@@ -7,15 +7,16 @@
 //!         Greedy::Plan(plan) => plan,
 //!         Greedy::Stuck { kept, .. } => kept,
 //!     };
-//!     match improver.cheaper_plan(alloc, &s, &boxes, &start)? {
+//!     match improver.cheaper_plan(alloc, &s, &boxes, &start, &prices, weight, bound)? {
 //!         Some(plan) => println!("it costs {}", cost(&s, &plan)),
 //!         None => println!("none that costs less was found"),
 //!     }
 //!
 //! The search goes by trials. A trial takes out one flight that costs more than it would alone,
 //! some of the flights that fill the capacities in its way, and those that have connections with
-//! them, 24 at the most. It puts them back in an order that is drawn by lot: each takes the least
-//! trip that fits. If they cost no more together than before, they stay so; else the trips before
+//! them, 24 at the most. It puts them back in an order that is drawn by lot: each takes the trip that
+//! is least by the prices, if that fits, and else the least that fits; in one of eight trials the
+//! prices are passed over. If they cost no more together than before, they stay so; else the trips before
 //! are restored. A flight for which none fits is left out, at a great cost, so that where the greedy
 //! plan is stuck the same trials complete it (Shaw, "Using constraint programming and local search
 //! methods to solve vehicle routing problems", 1998).
@@ -27,14 +28,15 @@
 //! plan, and the number of trials depends on the number of flights alone.
 //!
 //! Memory: 0.9 MB, and twelve bytes a place and period, once; while a search runs, the stops of
-//! three plans. Time: twice a least trip for each flight; and ten trials a flight, fewer on long days
-//! with many legs, each with a least trip for each flight that it takes out and a look at each stop
-//! of the plan.
+//! three plans. Time: twice a least trip for each flight; and forty trials a flight, fewer on long
+//! days with many legs, each with a least trip for each flight that it takes out and a look at each
+//! flight. It ends before where the plan costs no more than a bound that is enough.
 #![tactic(auto)]
 
 mod cells;
 mod choosing;
 mod draft;
+mod fits;
 mod generator;
 mod improver;
 mod inside;

@@ -187,7 +187,15 @@ fn cheaper_cost(
 ) -> Result<Option<i64>, OutOfMemory> {
     let boxes = tight_root(rt, alloc, s)?;
     let mut improver = Improver::new(alloc, s)?;
-    match improver.cheaper_plan(alloc, s, &boxes, start)? {
+    match improver.cheaper_plan(
+        alloc,
+        s,
+        &boxes,
+        start,
+        &Prices::new(alloc, s)?,
+        1,
+        Bound::AtLeast(-1_000),
+    )? {
         None => Ok(None),
         Some(plan) => Ok(Some(cost(s, &plan))),
     }

@@ -35,10 +35,10 @@ module _ (parts : Parts) (budget : Budget) (held : Held) (old new : Draft)
       best = visited_best parts (box_of held) old new
           (first_best parts (box_of held) old new plans nodes counts bounds best) visited;
       whole = λ boxes pending.
-          subst (λ (bs : List Box). Completes parts budget.limits (box_of held) new
+          subst (λ (bs : List Box). Completes parts budget (box_of held) new
           (box_of held ∷ bs)) (sym pending)
           (first_complete parts (box_of held) old new plans nodes counts bounds best
-          budget.limits visited);
+          budget visited);
       room = omega (arith, some, none);
       unspent = λ left.
           first_reached parts (box_of held) old new plans nodes counts bounds best visited;

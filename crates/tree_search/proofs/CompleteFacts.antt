@@ -11,7 +11,7 @@ use Rattle.branch_tree.specs.declared.leaf.Leaf.{Leaf as LeafKind}
 use Rattle.branch_tree.specs.declared.tree.TreeNode.{TreeNode}
 use Rattle.branch_tree.specs.declared.tree.TreeNode.TheVariants.{Leaf, Split}
 use Rattle.branch_tree.specs.Forests.{AreSides, IsTreeOn, Leads}
-use Rattle.relaxed_bound.specs.declared.limits.Limits.{Limits}
+use Rattle.tree_search.specs.declared.found.Budget.{Budget}
 use Rattle.tree_search.specs.declared.draft.Draft.{Draft}
 use Rattle.tree_search.specs.Drafts.{Completes, IsNoted, IsSameTree}
 use Rattle.tree_search.specs.Nodes.{IsNodeAt, IsNodeWith, cost_of, cutoff_after}
@@ -33,9 +33,9 @@ module _ (parts : Parts) where
   cutoff_more plans more (suc k) within =
       ap (cost_of parts) (got_left plans more k (omega (arith, within)))
 
-module _ (parts : Parts) (limits : Limits) (top : Box) where
+module _ (parts : Parts) (budget : Budget) (top : Box) where
   abbrev IsAtIn : List Plan → List ℕ → List Bound → ℕ → Box → TreeNode → Type 0
-  IsAtIn plans counts bounds = IsNodeAt parts limits plans counts bounds
+  IsAtIn plans counts bounds = IsNodeAt parts budget plans counts bounds
 
   abbrev CompletesFrom : List Plan → List TreeNode → List ℕ → List Bound → List Box → Type 0
   CompletesFrom plans nodes counts bounds boxes =
@@ -68,7 +68,7 @@ module _ (parts : Parts) (limits : Limits) (top : Box) where
     node_completes : (plans : List Plan) (nodes : List TreeNode) (counts : List ℕ)
         (bounds : List Bound) (bound : Bound) → length counts ≡ length nodes
         → length bounds ≡ length nodes
-        → IsNodeWith parts limits (cutoff_after parts plans (length plans)) bound box node
+        → IsNodeWith parts budget (cutoff_after parts plans (length plans)) bound box node
         → CompletesFrom plans nodes counts bounds before
         → CompletesFrom plans (nodes ++ node ∷ []) (counts ++ length plans ∷ [])
         (bounds ++ bound ∷ []) after
@@ -115,14 +115,14 @@ module _ (parts : Parts) (limits : Limits) (top : Box) where
 
         here : IsAtIn (plans ++ more_plans) all_counts all_bounds (length nodes) box node
         here =
-            subst (λ c. IsNodeWith parts limits c
+            subst (λ c. IsNodeWith parts budget c
             (slice_index_or all_bounds (length nodes) NoPlan) box node) (sym cutoff_here)
-            (subst (λ b. IsNodeWith parts limits (cutoff_after parts plans (length plans)) b box
+            (subst (λ b. IsNodeWith parts budget (cutoff_after parts plans (length plans)) b box
             node) (sym bound_here) is)
 
   -- no node so far
   pub none_complete : (draft : Draft) → draft.nodes ≡ []
-      → Completes parts limits top draft (top ∷ [])
+      → Completes parts budget top draft (top ∷ [])
   none_complete draft none plans counts bounds nodes leads =
       subst (λ (ns : List TreeNode).
       Leads parts (IsAtIn (draft.plans ++ plans) (draft.counts ++ counts) (draft.bounds ++ bounds))
@@ -132,7 +132,7 @@ module _ (parts : Parts) (limits : Limits) (top : Box) where
       (ns ++ nodes)) (sym none) (λ is. is) leads
 
   -- no box is left
-  pub all_complete : (draft : Draft) → Completes parts limits top draft []
+  pub all_complete : (draft : Draft) → Completes parts budget top draft []
       → IsTreeOn parts (IsAtIn draft.plans draft.counts draft.bounds) top draft.nodes
   all_complete draft completes =
       subst (λ ps. IsTreeOn parts (IsAtIn ps draft.counts draft.bounds) top draft.nodes)
@@ -148,7 +148,7 @@ module _ (parts : Parts) (limits : Limits) (top : Box) where
   -- the same tree with more plans
   pub same_complete : (old new : Draft) (later : List Plan) (boxes : List Box)
       → new.plans ≡ old.plans ++ later → IsSameTree old new
-      → Completes parts limits top old boxes → Completes parts limits top new boxes
+      → Completes parts budget top old boxes → Completes parts budget top new boxes
   same_complete old new later boxes plans same completes =
       subst (λ ps. CompletesFrom ps new.nodes new.counts new.bounds boxes) (sym plans)
       (subst (λ ns. CompletesFrom (old.plans ++ later) ns new.counts new.bounds boxes)
@@ -165,9 +165,9 @@ module _ (parts : Parts) (limits : Limits) (top : Box) where
       → Leads parts IsAt number before (node ∷ more) [])
       → (old new : Draft) (bound : Bound) → length old.counts ≡ length old.nodes
       → length old.bounds ≡ length old.nodes
-      → IsNodeWith parts limits (cutoff_after parts old.plans (length old.plans)) bound box node
-      → IsNoted node bound old new → Completes parts limits top old before
-      → Completes parts limits top new after
+      → IsNodeWith parts budget (cutoff_after parts old.plans (length old.plans)) bound box node
+      → IsNoted node bound old new → Completes parts budget top old before
+      → Completes parts budget top new after
   noted_complete box node before after join old new bound counted bounded is noted completes =
       subst (λ ps. CompletesFrom ps new.nodes new.counts new.bounds after) (sym noted.plans)
       (subst (λ ns. CompletesFrom old.plans ns new.counts new.bounds after) (sym noted.nodes)
@@ -182,10 +182,10 @@ module _ (parts : Parts) (limits : Limits) (top : Box) where
   pub leaf_complete : (box : Box) (leaf : LeafKind) (boxes : List Box) (old new : Draft)
       (bound : Bound) → length old.counts ≡ length old.nodes
       → length old.bounds ≡ length old.nodes
-      → IsNodeWith parts limits (cutoff_after parts old.plans (length old.plans)) bound box
+      → IsNodeWith parts budget (cutoff_after parts old.plans (length old.plans)) bound box
       (Leaf leaf)
-      → IsNoted (Leaf leaf) bound old new → Completes parts limits top old (box ∷ boxes)
-      → Completes parts limits top new boxes
+      → IsNoted (Leaf leaf) bound old new → Completes parts budget top old (box ∷ boxes)
+      → Completes parts budget top new boxes
   leaf_complete box leaf boxes =
       noted_complete box (Leaf leaf) (box ∷ boxes) boxes
       (λ IsAt number more here rest. (here, rest))
@@ -195,11 +195,11 @@ module _ (parts : Parts) (limits : Limits) (top : Box) where
       (boxes : List Box) (old new : Draft) (bound : Bound)
       → AreSides parts flight node time box early late → length old.counts ≡ length old.nodes
       → length old.bounds ≡ length old.nodes
-      → IsNodeWith parts limits (cutoff_after parts old.plans (length old.plans)) bound box
+      → IsNodeWith parts budget (cutoff_after parts old.plans (length old.plans)) bound box
       (Split flight node time named)
       → IsNoted (Split flight node time named) bound old new
-      → Completes parts limits top old (box ∷ boxes)
-      → Completes parts limits top new (early ∷ late ∷ boxes)
+      → Completes parts budget top old (box ∷ boxes)
+      → Completes parts budget top new (early ∷ late ∷ boxes)
   split_complete box early late flight node time named boxes old new bound sides =
       noted_complete box (Split flight node time named) (box ∷ boxes) (early ∷ late ∷ boxes)
       (λ IsAt number more here rest. (here, (early, late, sides, rest))) old new bound

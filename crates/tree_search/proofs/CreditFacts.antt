@@ -18,8 +18,8 @@ use Rattle.branch_tree.specs.declared.tree.TreeNode.{TreeNode}
 use Rattle.branch_tree.specs.declared.tree.TreeNode.TheVariants.{Leaf, Split}
 use Rattle.branch_tree.specs.Forests.{AreSides, Leads}
 use Rattle.dual_leaf.specs.Leaf.{IsLive}
-use Rattle.relaxed_bound.specs.declared.limits.Limits.{Limits}
 use Rattle.relaxed_bound.specs.Reached.{is_reached}
+use Rattle.tree_search.specs.declared.found.Budget.{Budget}
 use Rattle.tree_search.specs.Nodes.{HasChoice, IsLeafNode, IsNodeAt, cutoff_after}
 use Rattle.tree_search.proofs.OptionFacts.{branching_there, choice_there, each_some, node_there}
 use Rattle.tree_search.proofs.SplitFacts.{early_options, late_options, options_less, options_several, options_shared, options_to}
@@ -34,15 +34,16 @@ reached_none : (cutoff : Option ℤ) (bound : Bound) → bound ≡ NoPlan
 reached_none cutoff bound none = subst (λ b. is_reached cutoff b ≡ true) (sym none) refl
 
 -- a leaf's bound reaches its cutoff, or its box has a choice left
-settled : (parts : Parts) (limits : Limits) (cutoff : Option ℤ) (bound : Bound) (box : Box)
-    (leaf : LeafKind) → IsLeafNode parts limits cutoff bound box leaf
+settled : (parts : Parts) (budget : Budget) (cutoff : Option ℤ) (bound : Bound) (box : Box)
+    (leaf : LeafKind) → IsLeafNode parts budget cutoff bound box leaf
     → (is_reached cutoff bound ≡ true) ⊎ IsUnsettled box
-settled parts limits cutoff bound box Empty node =
+settled parts budget cutoff bound box Empty node =
     inl (reached_none cutoff bound node.bound_is.0)
-settled parts limits cutoff bound box UnitLeaf node = inl node.kind
-settled parts limits cutoff bound box (Dual weight rows) node =
-    inr (record { live = node.kind.live; choice = node.kind.choice })
-settled parts limits cutoff bound box (Lag weight rows) node = absurd node.kind
+settled parts budget cutoff bound box UnitLeaf node = inl node.kind
+settled parts budget cutoff bound box (Dual weight rows) node =
+    inr (record { live = node.kind.box_is.live; choice = node.kind.box_is.choice })
+settled parts budget cutoff bound box (Lag weight rows) node =
+    inr (record { live = node.kind.box_is.live; choice = node.kind.box_is.choice })
 
 abbrev AreTight : Parts → List Box → Type 0
 AreTight parts [] = Unit {0}
@@ -121,10 +122,10 @@ module _ (parts : Parts) (valid : IsScenario parts) (nodes : ℕ) (most : most_n
       by a b early late whole shared one two first second =
           omega (arith, shared, one, two, first, second)
 
-  module _ (limits : Limits) (plans : List (List (List Stop))) (counts : List ℕ)
+  module _ (budget : Budget) (plans : List (List (List Stop))) (counts : List ℕ)
       (bounds : List Bound) where
     abbrev IsAt : ℕ → Box → TreeNode → Type 0
-    IsAt = IsNodeAt parts limits plans counts bounds
+    IsAt = IsNodeAt parts budget plans counts bounds
 
     abbrev cutoffs : ℕ → Option ℤ
     cutoffs number = cutoff_after parts plans (slice_index counts number)
@@ -158,7 +159,7 @@ module _ (parts : Parts) (valid : IsScenario parts) (nodes : ℕ) (most : most_n
         inl (λ k from to. absurd (omega (arith, from, to)))
     reached_or_few number [] (node ∷ tree) tight leads = absurd leads
     reached_or_few number (box ∷ boxes) (Leaf leaf ∷ tree) tight leads =
-        by (settled parts limits (cutoffs number)
+        by (settled parts budget (cutoffs number)
         (get_or bounds number NoPlan) box leaf leads.0)
         (reached_or_few (number + 1) boxes tree tight.1 leads.1)
       where

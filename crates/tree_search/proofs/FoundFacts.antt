@@ -31,7 +31,7 @@ use Rattle.tree_search.proofs.SoundFacts.{tree_bounds}
 pub searched_tree : (parts : Parts) (budget : Budget) (top : Box) (draft : Draft)
     → IsSearched parts budget top draft → is_tree draft.nodes ≡ true
 searched_tree parts budget top draft searched =
-    tree_on parts (IsNodeAt parts budget.limits draft.plans draft.counts draft.bounds) top
+    tree_on parts (IsNodeAt parts budget draft.plans draft.counts draft.bounds) top
     draft.nodes searched.tree
 
 abbrev made_of : List (List (List Stop)) → List TreeNode → List ℕ → List Bound → List CutName
@@ -58,7 +58,7 @@ module _ (parts : Parts) (root top : Box) (budget : Budget) (draft : Draft)
 
   sound : IsBoundOn parts root (least_of draft.bounds)
   sound =
-      tree_bounds parts root top budget.limits draft.plans draft.counts draft.bounds draft.nodes
+      tree_bounds parts root top budget draft.plans draft.counts draft.bounds draft.nodes
       valid tight searched.tree
 
   closed : AreReached draft

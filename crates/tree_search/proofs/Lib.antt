@@ -6,8 +6,10 @@ pub mod DraftFacts
 pub mod EnoughFacts
 pub mod FoundFacts
 pub mod GreedyFacts
+pub mod ImproveFacts
 pub mod OptionFacts
 pub mod PartFacts
+pub mod PriceFacts
 pub mod ProductFacts
 pub mod ReachFacts
 pub mod SearchFacts

@@ -39,17 +39,17 @@ module _ (parts : Parts) (budget : Budget) (way : Way) (old new : Draft)
 
   module _ (more : Bool) (room : planned_in old way + 2 ≤ budget.nodes → more ≡ true) where
     module _ (leaf : LeafKind) (bound : Bound)
-        (seen : IsLeafSeen parts budget.limits old.best more (box_of way.present) leaf bound)
+        (seen : IsLeafSeen parts budget old.best more (box_of way.present) leaf bound)
         (noted : IsNoted (Leaf leaf) bound old new) where
-      is_node : IsNodeWith parts budget.limits old.best bound (box_of way.present) (Leaf leaf)
+      is_node : IsNodeWith parts budget old.best bound (box_of way.present) (Leaf leaf)
       is_node = seen.node
 
       leaf_whole : (boxes : List Box) → ArePending parts way.above way.steps boxes
-          → Completes parts budget.limits (top_box way) new boxes
+          → Completes parts budget (top_box way) new boxes
       leaf_whole boxes pending =
-          leaf_complete parts budget.limits (top_box way) (box_of way.present) leaf boxes old new
+          leaf_complete parts budget (top_box way) (box_of way.present) leaf boxes old new
           bound arrived.draft_is.counted arrived.draft_is.bounded
-          (subst (λ cutoff. IsNodeWith parts budget.limits cutoff bound (box_of way.present)
+          (subst (λ cutoff. IsNodeWith parts budget cutoff bound (box_of way.present)
           (Leaf leaf)) arrived.best is_node) noted (arrived.whole boxes pending)
 
       pub leaf_next : (next : Way) → IsNext parts way next
@@ -66,7 +66,7 @@ module _ (parts : Parts) (budget : Budget) (way : Way) (old new : Draft)
               arrived.draft_is noted);
           best = noted_best parts (top_box way) old new (Leaf leaf) bound arrived.best noted;
           whole = λ boxes pending. subst
-              (λ top. Completes parts budget.limits top new (box_of next.present ∷ boxes)) (sym same)
+              (λ top. Completes parts budget top new (box_of next.present ∷ boxes)) (sym same)
               (leaf_whole (box_of next.present ∷ boxes) (on.pending boxes pending));
           room = omega (arith, arrived.room, on.fewer, one_longer (Leaf leaf) bound noted);
           unspent = λ left.
@@ -91,7 +91,7 @@ module _ (parts : Parts) (budget : Budget) (way : Way) (old new : Draft)
             noted_draft parts (top_box way) old new (Leaf leaf) bound seen.near
             arrived.draft_is noted;
         best = noted_best parts (top_box way) old new (Leaf leaf) bound arrived.best noted;
-        tree = all_complete parts budget.limits (top_box way) new (leaf_whole [] over.none);
+        tree = all_complete parts budget (top_box way) new (leaf_whole [] over.none);
         room = omega (arith, arrived.room, over.fewer, one_longer (Leaf leaf) bound noted);
         unspent = λ left.
             let enough : planned_in old way + 2 ≤ budget.nodes =
@@ -103,7 +103,7 @@ module _ (parts : Parts) (budget : Budget) (way : Way) (old new : Draft)
   -- after a split
   module _ (more : Bool) (room : more ≡ true → planned_in old way + 2 ≤ budget.nodes)
       (branch : Branch)
-      (seen : IsSplitSeen parts budget.limits old.best more (box_of way.present) branch)
+      (seen : IsSplitSeen parts budget old.best more (box_of way.present) branch)
       (noted : IsNoted (Split branch.flight branch.node branch.time old.best) NoPlan old new)
       (after : Held)
       (tight : IsTightened parts (early_branch branch.flight branch.node branch.time
@@ -120,10 +120,10 @@ module _ (parts : Parts) (budget : Budget) (way : Way) (old new : Draft)
     }
 
     split_whole : (boxes : List Box) → ArePending parts down.above down.steps boxes
-        → Completes parts budget.limits (top_box way) new (box_of after ∷ boxes)
+        → Completes parts budget (top_box way) new (box_of after ∷ boxes)
     split_whole [] pending = absurd pending
     split_whole (late ∷ boxes) (late_is, pending) =
-        split_complete parts budget.limits (top_box way) (box_of way.present) (box_of after) late
+        split_complete parts budget (top_box way) (box_of way.present) (box_of after) late
         branch.flight branch.node branch.time old.best boxes old new NoPlan
         (record {
           there = seen.branch_is.there;
@@ -132,7 +132,7 @@ module _ (parts : Parts) (budget : Budget) (way : Way) (old new : Draft)
           late_is = late_is;
         })
         arrived.draft_is.counted arrived.draft_is.bounded
-        (subst (λ cutoff. IsNodeWith parts budget.limits cutoff NoPlan (box_of way.present)
+        (subst (λ cutoff. IsNodeWith parts budget cutoff NoPlan (box_of way.present)
         (Split branch.flight branch.node branch.time old.best)) arrived.best seen.node) noted
         (arrived.whole boxes pending)
 
@@ -212,7 +212,7 @@ visited_on parts budget way before old new top valid next visited =
             arrived.draft_is arrived.best visited;
         best = visited_best parts (box_of way.present) old new arrived.best visited;
         whole = λ boxes pending.
-            visited_complete parts (box_of way.present) old new budget.limits (top_box way)
+            visited_complete parts (box_of way.present) old new budget (top_box way)
             (box_of way.present ∷ boxes) visited (arrived.whole boxes pending);
         room = omega (arith, same, arrived.room);
         unspent = λ left.
@@ -225,7 +225,7 @@ visited_on parts budget way before old new top valid next visited =
 pub left_leaf : (parts : Parts) (budget : Budget) (way next : Way) (old new : Draft) (more on : Bool)
     (leaf : LeafKind) (bound : Bound) → IsArrived parts budget way old
     → (planned_in old way + 2 ≤ budget.nodes → more ≡ true)
-    → IsLeafSeen parts budget.limits old.best more (box_of way.present) leaf bound
+    → IsLeafSeen parts budget old.best more (box_of way.present) leaf bound
     → IsNoted (Leaf leaf) bound old new → IsNextOr parts way next on
     → IsLeft parts budget way old next new on
 left_leaf parts budget way next old new more true leaf bound arrived room seen noted is =

@@ -1,21 +1,29 @@
 -- What is seen of a box: a Unit leaf has a bound, and the run's leaf is kept where it may.
-use Rattle.std.proofs.Common.{◌≡◌, ℕ, ◌+◌, ◌<◌, ◌≤◌, Bool, true, false, IsTrue, Option, Some, Result, Ok, Err, if◌then◌else◌, ℤ, inl, inr, refl, sym, ◌∙◌, subst, arith}
+use Rattle.std.proofs.Common.{◌≡◌, ℕ, ◌+◌, ◌<◌, ◌≤◌, ◌⊎◌, Bool, true, false, not, ◌&&◌, IsTrue, Option, None, Some, Result, Ok, Err, if◌then◌else◌, ℤ, inl, inr, refl, sym, ◌∙◌, subst, arith}
+use Rattle.std.proofs.lemmas.Int.{ints}
+use Rattle.std.specs.Prelude.{int_lt}
 use Rattle.std.specs.Result.{IsOk}
 use Rattle.flow_types.specs.declared.bound.Bound.{Bound}
+use Rattle.flow_types.specs.declared.bound.Bound.TheVariants.{AtLeast, NoPlan}
 use Rattle.flow_types.specs.declared.parts.Parts.{Parts}
 use Rattle.time_windows.specs.declared.access.Access.{Access}
 use Rattle.time_windows.specs.Boxes.{Box, IsBoxOf, options_of, width_of}
 use Rattle.time_windows.specs.Splits.{IsBranching}
 use Rattle.time_windows.specs.Tight.{IsTight}
+use Rattle.flight_routes.specs.Prices.{PriceTable}
+use Rattle.lagrange_bound.specs.Best.{IsAtMost, IsMostOfRounds, IsNear}
+use Rattle.lagrange_bound.proofs.BestFacts.{at_most_itself, at_most_through}
 use Rattle.branch_tree.specs.declared.leaf.Leaf.{Leaf}
+use Rattle.priced_leaf.specs.Leaf.{IsLagOf}
 use Rattle.dual_leaf.specs.declared.fault.LeafFault.{LeafFault}
 use Rattle.dual_leaf.specs.Leaf.{IsLeafBound, IsLive, IsNearBound, IsUnitBound, IsUnitBox}
-use Rattle.relaxed_bound.specs.declared.limits.Limits.{Limits}
+use Rattle.relaxed_bound.specs.Licence.{IsLicensed}
 use Rattle.relaxed_bound.specs.Reached.{is_reached}
 use Rattle.relaxed_bound.specs.Relaxed.{relaxed_leaf}
+use Rattle.tree_search.specs.declared.found.Budget.{Budget}
 use Rattle.tree_search.specs.declared.walk.Branch.{Branch}
-use Rattle.tree_search.specs.Nodes.{HasChoice, IsLeafKind}
-use Rattle.tree_search.specs.Seen.{IsBranchOf, IsLeafSeen}
+use Rattle.tree_search.specs.Nodes.{HasChoice, IsLeafKind, IsOpenLeaf}
+use Rattle.tree_search.specs.Seen.{IsBranchOf, IsLeafSeen, IsSplitSeen, may_split}
 use Rattle.tree_search.proofs.OptionFacts.{each_some}
 
 -- a Unit leaf on a unit box that is live has a bound
@@ -50,27 +58,140 @@ branch_choice parts box branch is = record {
   several = branching_several (box branch.flight branch.node) branch.time is.branching;
 }
 
--- the run's leaf
-pub run_seen : (parts : Parts) (limits : Limits) (cutoff : Option ℤ) (more : Bool) (box : Box)
-    (branch : Branch) (leaf : Leaf) (bound : Bound) → IsBoxOf parts box → IsLive box
-    → IsBranchOf parts box branch → leaf ≡ relaxed_leaf parts box limits cutoff
-    → IsLeafBound parts box leaf (Ok bound)
-    → (more ≡ true → is_reached cutoff bound ≡ true) → IsNearBound bound
-    → IsLeafSeen parts limits cutoff more box leaf bound
-run_seen parts limits cutoff more box branch leaf bound made live branch_is is bound_is reached near =
-    record {
-      node = record {
-        inside = made;
-        bound_is = bound_is;
-        kind = subst (IsLeafKind parts limits cutoff bound box) (sym is) (record {
+-- bounds that are no greater reach no more
+pub reached_down : (cutoff : Option ℤ) (a b : Bound) → IsAtMost a b
+    → is_reached cutoff b ≡ false → is_reached cutoff a ≡ false
+reached_down cutoff a NoPlan le below = absurd (let e : true ≡ false = below in cc)
+reached_down cutoff NoPlan (AtLeast y) le below = absurd le
+reached_down None (AtLeast x) (AtLeast y) le below = refl
+reached_down (Some c) (AtLeast x) (AtLeast y) le below = by (int_lt y c) refl (int_lt x c) refl below
+  where
+    by : (b : Bool) → int_lt y c ≡ b → (d : Bool) → int_lt x c ≡ d → not b ≡ false
+        → not d ≡ false
+    by true below true is more = refl
+    by true below false is more = absurd (omega (arith, ints, le, below, is))
+    by false below d is more = absurd (let e : true ≡ false = more in cc)
+
+reached_up : (cutoff : Option ℤ) (a b : Bound) → IsAtMost a b → is_reached cutoff a ≡ true
+    → is_reached cutoff b ≡ true
+reached_up cutoff a b le reached = by (is_reached cutoff b) refl where
+  by : (d : Bool) → is_reached cutoff b ≡ d → d ≡ true
+  by true is = refl
+  by false is =
+      absurd (let e : true ≡ false = sym reached ∙ reached_down cutoff a b le is in cc)
+
+-- a split, and none
+pub split_open : (more one two : Bool) → (more && (not one && not two)) ≡ true
+    → (more ≡ true) × (one ≡ false) × (two ≡ false)
+split_open true false false is = (refl, refl, refl)
+split_open true false true is = absurd (let e : false ≡ true = is in cc)
+split_open true true two is = absurd (let e : false ≡ true = is in cc)
+split_open false one two is = absurd (let e : false ≡ true = is in cc)
+
+not_split : (more one two : Bool) → (more && (not one && not two)) ≡ false → more ≡ true
+    → (one ≡ true) ⊎ (two ≡ true)
+not_split more true two is room = inl refl
+not_split more false true is room = inr refl
+not_split true false false is room = absurd (let e : true ≡ false = is in cc)
+not_split false false false is room = absurd (let e : false ≡ true = room in cc)
+
+near_too : (bound : Bound) → IsNear bound → IsNearBound bound
+near_too NoPlan near = tt
+near_too (AtLeast least) near = near
+
+-- what is known of a box that is seen, which has a plan and a choice
+module _ (parts : Parts) (budget : Budget) (cutoff : Option ℤ) (more : Bool) (box : Box)
+    (branch : Branch) (made : IsBoxOf parts box) (live : IsLive box)
+    (branch_is : IsBranchOf parts box branch) (run priced : Bound)
+    (rounds : IsMostOfRounds parts box budget.rounds priced) where
+  open_is : (bound : Bound) → IsAtMost priced bound → IsOpenLeaf parts budget bound box
+  open_is bound le = record {
+    live = live;
+    choice = branch_choice parts box branch branch_is;
+    rounds = λ round told few is.
+        at_most_through told priced bound (rounds round told few is) le;
+  }
+
+  -- the greater bound reaches the cutoff, or there is no room
+  reached_by : (a b : Bound) → IsAtMost a b
+      → (more ≡ true → (is_reached cutoff a ≡ true) ⊎ (is_reached cutoff b ≡ true))
+      → more ≡ true → is_reached cutoff b ≡ true
+  reached_by a b le one room = by (one room) where
+    by : (is_reached cutoff a ≡ true) ⊎ (is_reached cutoff b ≡ true)
+        → is_reached cutoff b ≡ true
+    by (inl lower) = reached_up cutoff a b le lower
+    by (inr upper) = upper
+
+  either : may_split more cutoff run priced ≡ false → more ≡ true
+      → (is_reached cutoff run ≡ true) ⊎ (is_reached cutoff priced ≡ true)
+  either none = not_split more (is_reached cutoff run) (is_reached cutoff priced) none
+
+  turned : {A B : Type 0} → A ⊎ B → B ⊎ A
+  turned (inl a) = inr a
+  turned (inr b) = inl b
+
+  pub split_seen : (leaf : Leaf) → may_split more cutoff run priced ≡ true
+      → IsLeafBound parts box leaf (Ok run)
+      → ((bound : Bound) → IsLeafBound parts box leaf (Ok bound)
+      → is_reached cutoff bound ≡ false → IsLicensed parts box budget.limits cutoff)
+      → (other : Branch) → IsBranchOf parts box other
+      → IsSplitSeen parts budget cutoff more box other
+  split_seen leaf may bound_is licence other other_is =
+      let below = split_open more (is_reached cutoff run) (is_reached cutoff priced) may in
+      record {
+        node = record {
+          inside = made;
           live = live;
           choice = branch_choice parts box branch branch_is;
-          is = refl;
-        });
-      };
-      reached = reached;
-      near = near;
-    }
+          cutoff_is = refl;
+          rounds = λ round told few is.
+              reached_down cutoff told priced (rounds round told few is) below.2;
+          licence = licence run bound_is below.1;
+          bound_is = refl;
+        };
+        branch_is = other_is;
+        room = below.0;
+      }
+
+  -- the run's leaf
+  pub run_seen : (leaf : Leaf) → leaf ≡ relaxed_leaf parts box budget.limits cutoff
+      → IsLeafBound parts box leaf (Ok run) → IsAtMost priced run
+      → may_split more cutoff run priced ≡ false → IsNearBound run
+      → IsLeafSeen parts budget cutoff more box leaf run
+  run_seen leaf is bound_is le none near = record {
+    node = record {
+      inside = made;
+      bound_is = bound_is;
+      kind = subst (IsLeafKind parts budget cutoff run box) (sym is) (record {
+        box_is = open_is run le;
+        is = refl;
+      });
+    };
+    reached = reached_by priced run le (λ room. turned (either none room));
+    near = near;
+  }
+
+  -- the leaf of prices
+  pub priced_seen : (leaf told : Leaf) (weight : ℕ) (table : PriceTable)
+      → IsLagOf parts weight table told → IsLeafBound parts box told (Ok priced)
+      → leaf ≡ relaxed_leaf parts box budget.limits cutoff → IsLeafBound parts box leaf (Ok run)
+      → IsAtMost run priced → (IsAtMost priced run → ⊥)
+      → may_split more cutoff run priced ≡ false → IsNear priced
+      → IsLeafSeen parts budget cutoff more box told priced
+  priced_seen leaf told weight table lag bound_is is run_is le above none near = record {
+    node = record {
+      inside = made;
+      bound_is = bound_is;
+      kind = subst (IsLeafKind parts budget cutoff priced box) (sym lag.is) (record {
+        box_is = open_is priced (at_most_itself priced);
+        run = run;
+        run_is = subst (λ z. IsLeafBound parts box z (Ok run)) is run_is;
+        above = above;
+      });
+    };
+    reached = reached_by run priced le (either none);
+    near = near_too priced near;
+  }
 
 pub apart : (b : Bool) → b ≡ true → b ≡ false → ⊥
 apart b is isnt = let e : true ≡ false = sym is ∙ isnt in cc

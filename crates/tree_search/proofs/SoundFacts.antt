@@ -16,7 +16,6 @@ use Rattle.branch_tree.specs.Forests.{IsTreeOn}
 use Rattle.branch_tree.proofs.ForestFacts.{in_tree_leaf}
 use Rattle.dual_leaf.specs.Leaf.{IsBoundOn}
 use Rattle.dual_leaf.proofs.LeafFacts.{leaf_bounds}
-use Rattle.relaxed_bound.specs.declared.limits.Limits.{Limits}
 use Rattle.tree_search.specs.declared.found.Budget.{Budget}
 use Rattle.tree_search.specs.declared.found.Found.{Found}
 use Rattle.tree_search.specs.Bounds.{least_of}
@@ -38,17 +37,17 @@ bound_from : (parts : Parts) (box : Box) (bound : Bound)
 bound_from parts box NoPlan allows = allows
 bound_from parts box (AtLeast least) allows = allows
 
-module _ (parts : Parts) (root tight : Box) (limits : Limits) (plans : List (List (List Stop)))
+module _ (parts : Parts) (root tight : Box) (budget : Budget) (plans : List (List (List Stop)))
     (counts : List ℕ) (bounds : List Bound) (tree : List TreeNode) (valid : IsScenario parts)
     (tight_is : IsTightened parts root tight)
-    (tree_is : IsTreeOn parts (IsNodeAt parts limits plans counts bounds) tight tree) where
+    (tree_is : IsTreeOn parts (IsNodeAt parts budget plans counts bounds) tight tree) where
   plan_allowed : (plan : List (List Stop)) → IsFeasible parts plan → IsInBox root plan
       → Allows (plan_cost parts.tables parts.flights plan) (least_of bounds)
   plan_allowed plan feasible inside =
       let kept : IsInBox tight plan =
       plan_kept parts valid plan root feasible.trips feasible.turns tight tight_is inside in
       let leaf =
-      in_tree_leaf parts (IsNodeAt parts limits plans counts bounds) valid plan feasible.trips
+      in_tree_leaf parts (IsNodeAt parts budget plans counts bounds) valid plan feasible.trips
       feasible.turns tight tree tree_is kept in
       allows_least (plan_cost parts.tables parts.flights plan) bounds leaf.number
       (bound_allows parts leaf.box (get_or bounds leaf.number NoPlan) plan
@@ -64,5 +63,5 @@ pub record_bounds : (parts : Parts) (root : Box) (budget : Budget) (found : Foun
     → IsBoundOn parts root found.bound
 record_bounds parts root budget found valid searched =
     subst (IsBoundOn parts root) (sym searched.bound_is)
-    (tree_bounds parts root searched.tight budget.limits found.plans found.counts found.bounds
+    (tree_bounds parts root searched.tight budget found.plans found.counts found.bounds
     found.tree valid searched.tight_is searched.tree)

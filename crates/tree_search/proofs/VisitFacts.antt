@@ -12,8 +12,8 @@ use Rattle.greedy_plan.specs.Greedy.{IsGreedy}
 use Rattle.dual_leaf.specs.Leaf.{IsNearBound}
 use Rattle.dual_leaf.proofs.LeafFacts.{same_plan}
 use Rattle.dual_leaf.proofs.UnitSumFacts.{stuck}
-use Rattle.relaxed_bound.specs.declared.limits.Limits.{Limits}
 use Rattle.relaxed_bound.specs.Reached.{is_reached}
+use Rattle.tree_search.specs.declared.found.Budget.{Budget}
 use Rattle.tree_search.specs.declared.draft.Draft.{Draft}
 use Rattle.tree_search.specs.Drafts.{AreReached, Completes, IsBest, IsDraft, IsOffered, IsSameTree, IsTried}
 use Rattle.tree_search.specs.Nodes.{cutoff_after}
@@ -61,7 +61,7 @@ module _ (parts : Parts) (box : Box) (old new : Draft) where
       absurd (stuck parts valid box unit left.kept left.flight left.stuck.count left.stuck.within
       left.stuck.chosen left.stuck.none plan feasible inside)
 
-  offered_tree : (plan : Plan) → IsOffered parts plan old new
+  pub offered_tree : (plan : Plan) → IsOffered parts plan old new
       → (later : List Plan) × (new.plans ≡ old.plans ++ later) × IsSameTree old new
   offered_tree plan (inl kept) = (plan ∷ [], kept.plans, kept.tree)
   offered_tree plan (inr left) = (
@@ -90,12 +90,12 @@ module _ (parts : Parts) (box : Box) (old new : Draft) where
   pub visited_same : IsVisited parts box old new → IsSameTree old new
   visited_same visited = (visited_tree visited).2
 
-  pub visited_complete : (limits : Limits) (top : Box) (boxes : List Box)
-      → IsVisited parts box old new → Completes parts limits top old boxes
-      → Completes parts limits top new boxes
-  visited_complete limits top boxes visited =
+  pub visited_complete : (budget : Budget) (top : Box) (boxes : List Box)
+      → IsVisited parts box old new → Completes parts budget top old boxes
+      → Completes parts budget top new boxes
+  visited_complete budget top boxes visited =
       let tree = visited_tree visited in
-      same_complete parts limits top old new tree.0 boxes tree.1 tree.2
+      same_complete parts budget top old new tree.0 boxes tree.1 tree.2
 
 -- the first box, before any node
 module _ (parts : Parts) (box : Box) (old new : Draft) (plans : old.plans ≡ [])
@@ -160,7 +160,7 @@ module _ (parts : Parts) (box : Box) (old new : Draft) (plans : old.plans ≡ []
       (sym ((visited_same parts box old new visited).bounds ∙ bounds))
       (All-nil (λ bound. is_reached new.best bound ≡ true))
 
-  pub first_complete : (limits : Limits) → IsVisited parts box old new
-      → Completes parts limits box new (box ∷ [])
-  first_complete limits visited =
-      none_complete parts limits box new ((visited_same parts box old new visited).nodes ∙ nodes)
+  pub first_complete : (budget : Budget) → IsVisited parts box old new
+      → Completes parts budget box new (box ∷ [])
+  first_complete budget visited =
+      none_complete parts budget box new ((visited_same parts box old new visited).nodes ∙ nodes)

@@ -10,7 +10,7 @@ use Rattle.flow_types.specs.declared.plan.Stop.{Stop}
 use Rattle.time_windows.specs.declared.access.Access.{Access}
 use Rattle.time_windows.specs.Boxes.{Box, closed}
 use Rattle.worked_days.specs.Days.{plan_with, trip_at, two_flights}
-use Rattle.relaxed_bound.specs.declared.limits.Limits.{Limits}
+use Rattle.tree_search.specs.declared.found.Budget.{Budget}
 use Rattle.tree_search.specs.declared.found.Found.{Found}
 use Rattle.tree_search.specs.Bounds.{least_of}
 use Rattle.tree_search.specs.Budgets.{options_in}
@@ -104,6 +104,6 @@ six_options : options_in two choices ≡ 6
 six_options = refl
 
 -- a split names what the last plan before it costs, and nothing else
-other_cutoff_isnt : (limits : Limits) (box : Box)
-    → IsSplitNode two limits (cutoff_after two (late ∷ []) 1) NoPlan box (Some (pos 1)) → ⊥
-other_cutoff_isnt limits box split = let same = split.cutoff_is in let e : ⊥ = cc in e
+other_cutoff_isnt : (budget : Budget) (box : Box)
+    → IsSplitNode two budget (cutoff_after two (late ∷ []) 1) NoPlan box (Some (pos 1)) → ⊥
+other_cutoff_isnt budget box split = let same = split.cutoff_is in let e : ⊥ = cc in e

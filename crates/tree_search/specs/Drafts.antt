@@ -1,6 +1,6 @@
 -- What a search has written down so far: plans, each cheaper than the one before, and the first
 -- nodes of its tree. No public clause cites these.
-use Rattle.std.specs.Prelude.{◌≡◌, ◌⊎◌, ℕ, ◌≤◌, false, true, List, [], ◌∷◌, ◌++◌, length, All, AllPairs, Some}
+use Rattle.std.specs.Prelude.{◌≡◌, ◌⊎◌, ℕ, ◌≤◌, false, true, List, [], ◌∷◌, ◌++◌, length, All, AllPairs, None, Some}
 use Rattle.flow_types.specs.declared.bound.Bound.{Bound}
 use Rattle.flow_types.specs.declared.bound.Bound.TheVariants.{AtLeast}
 use Rattle.flow_types.specs.declared.parts.Parts.{Parts}
@@ -11,11 +11,19 @@ use Rattle.greedy_plan.specs.Greedy.{IsGreedy}
 use Rattle.branch_tree.specs.declared.tree.TreeNode.{TreeNode}
 use Rattle.branch_tree.specs.Forests.{IsTreeOn, Leads}
 use Rattle.dual_leaf.specs.Leaf.{IsCostIn, IsNearBound, IsUnitBox}
-use Rattle.relaxed_bound.specs.declared.limits.Limits.{Limits}
 use Rattle.relaxed_bound.specs.Reached.{is_reached}
+use Rattle.tree_search.specs.declared.found.Budget.{Budget}
 use Rattle.tree_search.specs.declared.draft.Draft.{Draft}
 use Rattle.tree_search.specs.Nodes.{IsNodeAt, cutoff_after}
 use Rattle.tree_search.specs.Records.{IsCheaper, IsFirst, IsPlanIn}
+
+-- nothing is written down
+pub record IsBlank (draft : Draft) : Type 0 where
+  pub plans : draft.plans ≡ []
+  pub nodes : draft.nodes ≡ []
+  pub counts : draft.counts ≡ []
+  pub bounds : draft.bounds ≡ []
+  pub best : draft.best ≡ None
 
 pub record IsDraft (parts : Parts) (top : Box) (draft : Draft) : Type 0 where
   pub plans : All (IsPlanIn parts top) draft.plans
@@ -62,13 +70,13 @@ pub record IsNoted (node : TreeNode) (bound : Bound) (old new : Draft) : Type 0 
   pub bounds : new.bounds ≡ old.bounds ++ bound ∷ []
 
 -- Whatever is written down after it, if it leads on from these boxes, the whole is a tree.
-abbrev pub Completes : Parts → Limits → Box → Draft → List Box → Type 0
-Completes parts limits top draft boxes =
+abbrev pub Completes : Parts → Budget → Box → Draft → List Box → Type 0
+Completes parts budget top draft boxes =
     (plans : List (List (List Stop))) (counts : List ℕ) (bounds : List Bound)
     (nodes : List TreeNode)
-    → Leads parts (IsNodeAt parts limits (draft.plans ++ plans) (draft.counts ++ counts)
+    → Leads parts (IsNodeAt parts budget (draft.plans ++ plans) (draft.counts ++ counts)
     (draft.bounds ++ bounds)) (length draft.nodes) boxes nodes []
-    → IsTreeOn parts (IsNodeAt parts limits (draft.plans ++ plans) (draft.counts ++ counts)
+    → IsTreeOn parts (IsNodeAt parts budget (draft.plans ++ plans) (draft.counts ++ counts)
     (draft.bounds ++ bounds)) top (draft.nodes ++ nodes)
 
 -- in a unit box, the plan that may be there costs no less than the best

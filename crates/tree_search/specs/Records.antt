@@ -54,7 +54,7 @@ pub record IsSearchRecord (parts : Parts) (root : Box) (budget : Budget) (found 
   pub counts_to : All (λ count. count ≤ length found.plans) found.counts
   pub rising : AllPairs (λ before after. before ≤ after) found.counts
   pub tree : IsTreeOn parts
-      (IsNodeAt parts budget.limits found.plans found.counts found.bounds) tight found.tree
+      (IsNodeAt parts budget found.plans found.counts found.bounds) tight found.tree
   pub bounded : length found.bounds ≡ length found.tree
   pub bound_is : found.bound ≡ least_of found.bounds
   pub near : IsNearBound found.bound

@@ -28,7 +28,7 @@ pub record IsArrived (parts : Parts) (budget : Budget) (way : Way) (draft : Draf
   pub draft_is : IsDraft parts (top_box way) draft
   pub best : IsBest parts draft
   pub whole : (boxes : List Box) → ArePending parts way.above way.steps boxes
-      → Completes parts budget.limits (top_box way) draft (box_of way.present ∷ boxes)
+      → Completes parts budget (top_box way) draft (box_of way.present ∷ boxes)
   pub room : planned_in draft way ≤ budget.nodes
   pub unspent : planned_in draft way + 2 ≤ budget.nodes → AreReached draft
 
@@ -44,7 +44,7 @@ pub record IsSearched (parts : Parts) (budget : Budget) (top : Box) (draft : Dra
   pub draft_is : IsDraft parts top draft
   pub best : IsBest parts draft
   pub tree : IsTreeOn parts
-      (IsNodeAt parts budget.limits draft.plans draft.counts draft.bounds) top draft.nodes
+      (IsNodeAt parts budget draft.plans draft.counts draft.bounds) top draft.nodes
   pub room : length draft.nodes ≤ budget.nodes
   pub unspent : length draft.nodes + 2 ≤ budget.nodes → AreReached draft
 

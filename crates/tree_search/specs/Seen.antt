@@ -1,5 +1,5 @@
 -- What is seen of a box: a leaf, or where it is split. No public clause cites these.
-use Rattle.std.specs.Prelude.{◌≡◌, ℕ, ◌<◌, ◌≤◌, Bool, true, length, Option, None, Some, ℤ}
+use Rattle.std.specs.Prelude.{◌≡◌, ℕ, ◌<◌, ◌≤◌, Bool, true, not, ◌&&◌, length, Option, None, Some, ℤ}
 use Rattle.flow_types.specs.declared.bound.Bound.{Bound}
 use Rattle.flow_types.specs.declared.bound.Bound.TheVariants.{NoPlan}
 use Rattle.flow_types.specs.declared.parts.Parts.{Parts}
@@ -7,8 +7,8 @@ use Rattle.time_windows.specs.Boxes.{Box, options_of}
 use Rattle.time_windows.specs.Splits.{IsBranching}
 use Rattle.branch_tree.specs.declared.leaf.Leaf.{Leaf as LeafKind}
 use Rattle.dual_leaf.specs.Leaf.{IsNearBound}
-use Rattle.relaxed_bound.specs.declared.limits.Limits.{Limits}
 use Rattle.relaxed_bound.specs.Reached.{is_reached}
+use Rattle.tree_search.specs.declared.found.Budget.{Budget}
 use Rattle.tree_search.specs.declared.seeing.Seen.{Seen}
 use Rattle.tree_search.specs.declared.seeing.Seen.TheVariants.{Leaf, Split}
 use Rattle.tree_search.specs.declared.walk.Branch.{Branch}
@@ -24,22 +24,27 @@ abbrev pub IsChoiceIn : Parts → Box → Option Branch → Type 0
 IsChoiceIn parts box None = (f n : ℕ) → options_of (box f n) ≤ 1
 IsChoiceIn parts box (Some branch) = IsBranchOf parts box branch
 
+-- there is room to split a box with these bounds, and neither reaches the cutoff
+abbrev pub may_split : Bool → Option ℤ → Bound → Bound → Bool
+may_split more cutoff run priced =
+    more && (not (is_reached cutoff run) && not (is_reached cutoff priced))
+
 -- a leaf; where there is room for two nodes more, its bound reaches the cutoff
-pub record IsLeafSeen (parts : Parts) (limits : Limits) (cutoff : Option ℤ) (more : Bool)
+pub record IsLeafSeen (parts : Parts) (budget : Budget) (cutoff : Option ℤ) (more : Bool)
     (box : Box) (leaf : LeafKind) (bound : Bound) : Type 0 where
-  pub node : IsLeafNode parts limits cutoff bound box leaf
+  pub node : IsLeafNode parts budget cutoff bound box leaf
   pub reached : more ≡ true → is_reached cutoff bound ≡ true
   pub near : IsNearBound bound
 
 -- a split, for which there is room
-pub record IsSplitSeen (parts : Parts) (limits : Limits) (cutoff : Option ℤ) (more : Bool)
+pub record IsSplitSeen (parts : Parts) (budget : Budget) (cutoff : Option ℤ) (more : Bool)
     (box : Box) (branch : Branch) : Type 0 where
-  pub node : IsSplitNode parts limits cutoff NoPlan box cutoff
+  pub node : IsSplitNode parts budget cutoff NoPlan box cutoff
   pub branch_is : IsBranchOf parts box branch
   pub room : more ≡ true
 
-abbrev pub IsSeen : Parts → Limits → Option ℤ → Bool → Box → Seen → Type 0
-IsSeen parts limits cutoff more box (Leaf leaf bound) =
-    IsLeafSeen parts limits cutoff more box leaf bound
-IsSeen parts limits cutoff more box (Split branch) =
-    IsSplitSeen parts limits cutoff more box branch
+abbrev pub IsSeen : Parts → Budget → Option ℤ → Bool → Box → Seen → Type 0
+IsSeen parts budget cutoff more box (Leaf leaf bound) =
+    IsLeafSeen parts budget cutoff more box leaf bound
+IsSeen parts budget cutoff more box (Split branch) =
+    IsSplitSeen parts budget cutoff more box branch

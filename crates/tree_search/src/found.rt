@@ -12,7 +12,7 @@ pub struct Budget {
     pub nodes: u64,
     /// How far the run of each box's relaxation may go.
     pub limits: Limits,
-    /// How many rounds of prices a box may have. Leaves aren't priced yet: it is passed over.
+    /// How many rounds of prices each box has.
     pub rounds: u32,
 }
 

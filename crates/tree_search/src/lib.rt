@@ -14,27 +14,29 @@
 //!
 //! It goes depth first, the early side of a split before the late one. For each box the greedy plan
 //! is made, and kept where it is cheaper than the last. An empty box is done with, and so is one in
-//! which there is no choice. Else the run of the box's relaxation gives a leaf: where its bound
-//! reaches what the best plan costs, or where there is no room for two nodes more, the box is done
-//! with; and else it is split.
+//! which there is no choice. Else the run of the box's relaxation gives a leaf, and rounds of prices
+//! another one: where the bound of one reaches what the best plan costs, or where there is no room
+//! for two nodes more, the box is done with, by the one that tells more; and else it is split.
 //!
 //! The definitions stand in `specs/`: `Records` (what is handed back), `Nodes` (what is known of
 //! each node), `Bounds` (the least of bounds) and `Budgets` (a number of nodes that is enough).
-//! `Ways`, `Drafts`, `Visits`, `Seen` and `Searching` serve the proofs.
+//! `Ways`, `Drafts`, `Visits`, `Seen`, `Rooms` and `Searching` serve the proofs.
 //!
 //! Proved: `search` hands back a record (`record`), and no plan in the box that keeps every rule
 //! costs less than its bound (`sound`). Whoever made it, the bound of a record is one
 //! (`search_records_are_bounds`), and one with enough nodes is closed (`enough_nodes_close`).
 //!
 //! Memory: one box and the log of what changed on the way, some 110 bytes for each node of the tree
-//! and 24 for each row of a Dual leaf, the plans, and what one run and one leaf take. Time: for
-//! each node a greedy plan and a run.
+//! and 24 for each row of a Dual leaf and each price of a Lag leaf, the plans, and what one run, one
+//! leaf and rounds of prices take. Time: for each node a greedy plan, a run and the rounds.
 #![tactic(auto)]
 
 mod branching;
 mod draft;
 mod found;
 mod laws;
+mod pricing;
+mod rooms;
 mod searching;
 mod seeing;
 mod walk;

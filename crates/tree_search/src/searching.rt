@@ -1,31 +1,35 @@
 //! The search.
-ghost use Rattle.std.specs.Prelude.{◌≡◌, [], ◌∷◌, ◌+◌, ◌<◌, ◌≤◌, ◌↔◌, IsTrue, IfOk, OnOk, true};
+ghost use Rattle.std.specs.Prelude.{◌≡◌, [], ◌∷◌, ◌+◌, ◌<◌, ◌≤◌, ◌↔◌, IfSome, IsTrue, IfOk, MatchOption, OnOk, true};
 ghost use Rattle.branch_tree.specs.declared.tree.TreeNode.TheVariants.{Leaf as LeafNode, Split as SplitNode};
 ghost use Rattle.branch_tree.specs.Trees.{is_tree};
 ghost use Rattle.dual_leaf.specs.Leaf.{IsBoundOn};
-ghost use Rattle.dual_leaf.specs.Work.{IsRoomFor};
+ghost use Rattle.flow_types.specs.Feasible.{IsFeasible};
 ghost use Rattle.flow_types.specs.Scenario.{parts_of};
 ghost use Rattle.flow_types.specs.declared.bound.Bound.TheVariants.{NoPlan};
-ghost use Rattle.greedy_plan.specs.Work.{IsPlanRoomFor};
+ghost use Rattle.lagrange_bound.specs.Work.{most_rounds};
 ghost use Rattle.time_windows.specs.Held.{IsMadeFor, box_of};
 ghost use Rattle.time_windows.specs.Splits.{early_branch};
-ghost use Rattle.time_windows.specs.Tight.{IsTightened};
+ghost use Rattle.time_windows.specs.Tight.{IsTight, IsTightened};
+ghost use Rattle.tree_search.specs.declared.found.Budget.{Budget};
 ghost use Rattle.tree_search.specs.declared.walk.Step.TheVariants.{Early};
 ghost use Rattle.tree_search.specs.Bounds.{least_of, lesser};
-ghost use Rattle.tree_search.specs.Drafts.{IsNoted};
-ghost use Rattle.tree_search.specs.Records.{IsSearchRecord};
+ghost use Rattle.tree_search.specs.Drafts.{IsBlank, IsNoted, IsOffered};
+ghost use Rattle.tree_search.specs.Records.{IsPlanIn, IsSearchRecord};
+ghost use Rattle.tree_search.specs.Rooms.{AreRoomsFor};
 ghost use Rattle.tree_search.specs.Searching.{IsLeft, IsSearched, IsSearching, IsStepped, planned_in};
 ghost use Rattle.tree_search.specs.Visits.{IsVisited};
 ghost use Rattle.tree_search.specs.Ways.{AreSteps, IsFork, IsNextOr, top_box};
 
 use crate::draft::{Draft, no_draft, note, offer};
 use crate::found::{Budget, Found};
+use crate::pricing::begin_climb;
+use crate::rooms::{Rooms, rooms_for};
 use crate::seeing::{Seen, see};
 use crate::walk::{Branch, Walk};
 use branch_tree::{Leaf, Tree, TreeNode};
-use dual_leaf::LeafWork;
-use flow_types::{Bound, OutOfMemory, Scenario};
-use greedy_plan::{Greedy, PlanWork};
+use flow_types::{Bound, OutOfMemory, Plan, Scenario};
+use greedy_plan::Greedy;
+use price_ascent::WEIGHT;
 use std::alloc::Global;
 use time_windows::Boxes;
 use valid_cuts::Pool;
@@ -35,18 +39,81 @@ fn visit(
     alloc: Global,
     s: &Scenario,
     boxes: &Boxes,
-    plans: &mut PlanWork,
+    rooms: &mut Rooms,
     draft: &mut Draft,
 ) -> Result<(), OutOfMemory>
     requires boxes { IsMadeFor (parts_of s.now) boxes.now }
-    requires plans { IsPlanRoomFor (parts_of s.now) plans.old }
+    requires rooms { AreRoomsFor (parts_of s.now) rooms.old }
     ensures visited { OnOk result
         (IsVisited (parts_of s.now) (box_of boxes.now) draft.old draft.new) }
-    ensures plans { IsPlanRoomFor (parts_of s.now) plans.new }
+    ensures rooms { AreRoomsFor (parts_of s.now) rooms.new }
 {
-    match plans.first_plan(alloc, s, boxes)? {
+    match rooms.plans.greedy.first_plan(alloc, s, boxes)? {
         Greedy::Plan(plan) => offer(draft, s, plan),
         Greedy::Stuck { .. } => Ok(()),
+    }
+}
+
+// A plan in the box that costs less than its greedy plan, if one is found; one that costs the bound is
+// enough.
+#[tactic(auto, using(crate::proofs::ImproveFacts::found_in_box))]
+fn find_cheaper(
+    alloc: Global,
+    s: &Scenario,
+    boxes: &Boxes,
+    rooms: &mut Rooms,
+    bound: Bound,
+) -> Result<Option<Plan>, OutOfMemory>
+    requires boxes { IsMadeFor (parts_of s.now) boxes.now }
+    requires rooms { AreRoomsFor (parts_of s.now) rooms.old }
+    ensures found { IfOk result
+        (λ found. IfSome found (IsPlanIn (parts_of s.now) (box_of boxes.now))) }
+    ensures rooms { AreRoomsFor (parts_of s.now) rooms.new }
+{
+    let start = match rooms.plans.greedy.first_plan(alloc, s, boxes)? {
+        Greedy::Plan(plan) => plan,
+        Greedy::Stuck { kept, .. } => kept,
+    };
+    rooms.plans.improver.cheaper_plan(
+        alloc,
+        s,
+        boxes,
+        &start,
+        rooms.prices.ascent.prices(),
+        WEIGHT,
+        bound,
+    )
+}
+
+// Looks for such a plan in the present box, and offers it.
+fn improve(
+    alloc: Global,
+    s: &Scenario,
+    walk: &Walk,
+    rooms: &mut Rooms,
+    draft: &mut Draft,
+    bound: Bound,
+) -> Result<(), OutOfMemory>
+    requires boxes { IsMadeFor (parts_of s.now) walk.now.present }
+    requires rooms { AreRoomsFor (parts_of s.now) rooms.old }
+    ensures improved { (budget : Budget) → IsSearching (parts_of s.now) budget walk.now draft.old
+        → OnOk result (IsSearching (parts_of s.now) budget walk.now draft.new) }
+    ensures rooms { AreRoomsFor (parts_of s.now) rooms.new }
+{
+    let found = find_cheaper(alloc, s, walk.boxes(), rooms, bound)?;
+    offer_found(draft, s, found)?;
+    Ok(())
+}
+
+// Offers the plan, if one is found.
+fn offer_found(draft: &mut Draft, s: &Scenario, found: Option<Plan>) -> Result<(), OutOfMemory>
+    requires { IfSome found (IsFeasible (parts_of s.now)) }
+    ensures { OnOk result (MatchOption found (draft.new ≡ draft.old)
+        (λ plan. IsOffered (parts_of s.now) plan draft.old draft.new)) }
+{
+    match found {
+        None => Ok(()),
+        Some(plan) => offer(draft, s, plan),
     }
 }
 
@@ -113,19 +180,20 @@ fn go_on(
     alloc: Global,
     s: &Scenario,
     budget: Budget,
-    leaves: &mut LeafWork,
+    rooms: &mut Rooms,
     walk: &mut Walk,
     draft: &mut Draft,
 ) -> Result<bool, OutOfMemory>
     requires searching { IsSearching (parts_of s.now) budget walk.old draft.old }
-    requires leaves { IsRoomFor (parts_of s.now) leaves.old }
+    requires few { budget.rounds ≤ most_rounds }
+    requires rooms { AreRoomsFor (parts_of s.now) rooms.old }
     ensures left { IfOk result
         (IsLeft (parts_of s.now) budget walk.old draft.old walk.new draft.new) }
-    ensures leaves { IsRoomFor (parts_of s.now) leaves.new }
+    ensures rooms { AreRoomsFor (parts_of s.now) rooms.new }
 {
     let more = has_room(budget, walk, draft);
     let cutoff = draft.best;
-    let seen = see(alloc, s, walk.boxes(), leaves, budget.limits, cutoff, more)?;
+    let seen = see(alloc, s, walk.boxes(), rooms, budget, cutoff, more)?;
     match seen {
         Seen::Leaf { leaf, bound } => {
             let next = leave(s, walk, draft, leaf, bound)?;
@@ -143,23 +211,21 @@ fn step(
     alloc: Global,
     s: &Scenario,
     budget: Budget,
-    plans: &mut PlanWork,
-    leaves: &mut LeafWork,
+    rooms: &mut Rooms,
     walk: &mut Walk,
     draft: &mut Draft,
 ) -> Result<bool, OutOfMemory>
     requires searching { IsSearching (parts_of s.now) budget walk.old draft.old }
-    requires plans { IsPlanRoomFor (parts_of s.now) plans.old }
-    requires leaves { IsRoomFor (parts_of s.now) leaves.old }
+    requires few { budget.rounds ≤ most_rounds }
+    requires rooms { AreRoomsFor (parts_of s.now) rooms.old }
     ensures stepped { IfOk result
         (IsStepped (parts_of s.now) budget walk.old draft.old walk.new draft.new) }
-    ensures plans { IsPlanRoomFor (parts_of s.now) plans.new }
-    ensures leaves { IsRoomFor (parts_of s.now) leaves.new }
+    ensures rooms { AreRoomsFor (parts_of s.now) rooms.new }
 {
-    if !go_on(alloc, s, budget, leaves, walk, draft)? {
+    if !go_on(alloc, s, budget, rooms, walk, draft)? {
         return Ok(false);
     }
-    visit(alloc, s, walk.boxes(), plans, draft)?;
+    visit(alloc, s, walk.boxes(), rooms, draft)?;
     Ok(true)
 }
 
@@ -168,16 +234,16 @@ fn run(
     alloc: Global,
     s: &Scenario,
     budget: Budget,
-    plans: &mut PlanWork,
+    rooms: &mut Rooms,
     walk: &mut Walk,
     draft: &mut Draft,
 ) -> Result<(), OutOfMemory>
     requires searching { IsSearching (parts_of s.now) budget walk.old draft.old }
-    requires plans { IsPlanRoomFor (parts_of s.now) plans.old }
+    requires few { budget.rounds ≤ most_rounds }
+    requires rooms { AreRoomsFor (parts_of s.now) rooms.old }
     ensures { OnOk result (IsSearched (parts_of s.now) budget (top_box walk.old) draft.new) }
 {
-    let mut leaves = LeafWork::new(alloc, s)?;
-    while step(alloc, s, budget, plans, &mut leaves, walk, draft)? {}
+    while step(alloc, s, budget, rooms, walk, draft)? {}
     Ok(())
 }
 
@@ -235,16 +301,101 @@ fn found_in(alloc: Global, draft: Draft) -> Found
     }
 }
 
+// Searches from the tight box on, which is the way's first one, for plans and for prices; and then
+// until no box waits.
+fn search_from(
+    alloc: Global,
+    s: &Scenario,
+    budget: Budget,
+    rooms: &mut Rooms,
+    walk: &mut Walk,
+    draft: &mut Draft,
+) -> Result<(), OutOfMemory>
+    requires searching { IsSearching (parts_of s.now) budget walk.old draft.old }
+    requires few { budget.rounds ≤ most_rounds }
+    requires rooms { AreRoomsFor (parts_of s.now) rooms.old }
+    ensures { OnOk result (IsSearched (parts_of s.now) budget (top_box walk.old) draft.new) }
+{
+    let bound = begin_climb(
+        s,
+        walk.boxes(),
+        &mut rooms.prices,
+        budget.rounds,
+        draft.best,
+    );
+    improve(alloc, s, walk, rooms, draft, bound)?;
+    run(alloc, s, budget, rooms, walk, draft)
+}
+
+// Searches the tight box, of which nothing is written down yet.
+fn search_in(
+    alloc: Global,
+    s: &Scenario,
+    boxes: Boxes,
+    budget: Budget,
+    rooms: &mut Rooms,
+    draft: &mut Draft,
+) -> Result<(), OutOfMemory>
+    requires nodes { 0 < budget.nodes }
+    requires few { budget.rounds ≤ most_rounds }
+    requires made { IsMadeFor (parts_of s.now) boxes }
+    requires tight { IsTight (parts_of s.now) (box_of boxes) }
+    requires rooms { AreRoomsFor (parts_of s.now) rooms.old }
+    requires blank { IsBlank draft.old }
+    ensures { OnOk result (IsSearched (parts_of s.now) budget (box_of boxes) draft.new) }
+{
+    visit(alloc, s, &boxes, rooms, draft)?;
+    let mut walk = Walk::new(alloc, boxes)?;
+    search_from(alloc, s, budget, rooms, &mut walk, draft)
+}
+
+// The same, with all that is written down.
+fn draft_of(
+    alloc: Global,
+    s: &Scenario,
+    boxes: Boxes,
+    budget: Budget,
+    rooms: &mut Rooms,
+) -> Result<Draft, OutOfMemory>
+    requires nodes { 0 < budget.nodes }
+    requires few { budget.rounds ≤ most_rounds }
+    requires made { IsMadeFor (parts_of s.now) boxes }
+    requires tight { IsTight (parts_of s.now) (box_of boxes) }
+    requires rooms { AreRoomsFor (parts_of s.now) rooms.old }
+    ensures { IfOk result (IsSearched (parts_of s.now) budget (box_of boxes)) }
+{
+    let mut draft = no_draft(alloc);
+    search_in(alloc, s, boxes, budget, rooms, &mut draft)?;
+    Ok(draft)
+}
+
+// The same, in new rooms.
+fn search_tight(
+    alloc: Global,
+    s: &Scenario,
+    boxes: Boxes,
+    budget: Budget,
+) -> Result<Draft, OutOfMemory>
+    requires nodes { 0 < budget.nodes }
+    requires few { budget.rounds ≤ most_rounds }
+    requires made { IsMadeFor (parts_of s.now) boxes }
+    requires tight { IsTight (parts_of s.now) (box_of boxes) }
+    ensures { IfOk result (IsSearched (parts_of s.now) budget (box_of boxes)) }
+{
+    let mut rooms = rooms_for(alloc, s)?;
+    draft_of(alloc, s, boxes, budget, &mut rooms)
+}
+
 /// Searches the box, which is one of the scenario, for a plan that costs the least, and spends no
-/// more than the budget, which has a node or more. It hands back the plans that it found, each
-/// cheaper than the one before, and the tree that proves a bound: no plan in the box that keeps
-/// every rule costs less, and with `NoPlan` there is none. The last plan costs the bound, or there
-/// is neither a plan nor a bound, or fewer than two nodes of the budget were left (branch and
-/// bound, after Land and Doig 1960).
+/// more than the budget, which has a node or more, and 2^18 rounds at the most. It hands back the
+/// plans that it found, each cheaper than the one before, and the tree that proves a bound: no plan
+/// in the box that keeps every rule costs less, and with `NoPlan` there is none. The last plan costs
+/// the bound, or there is neither a plan nor a bound, or fewer than two nodes of the budget were
+/// left (branch and bound, after Land and Doig 1960).
 ///
-/// It takes a copy of the box, what `PlanWork` and `LeafWork` take, for each node some 110 bytes
-/// and what its leaf takes, 24 bytes a row, and for one box at a time what its run takes. The box
-/// stays as it was.
+/// It takes a copy of the box, what `PlanWork`, `LeafWork`, `Rounds` and `Improver` take, for each
+/// node some 110 bytes and what its leaf takes, 24 bytes a row, and for one box at a time what its
+/// run takes. The box stays as it was.
 pub fn search(
     alloc: Global,
     s: &Scenario,
@@ -252,6 +403,7 @@ pub fn search(
     budget: Budget,
 ) -> Result<Found, OutOfMemory>
     requires nodes { 0 < budget.nodes }
+    requires few { budget.rounds ≤ most_rounds }
     requires made { IsMadeFor (parts_of s.now) root.now }
     ensures record { IfOk result (IsSearchRecord (parts_of s.now) (box_of root.now) budget) }
     ensures sound { IfOk result (λ found. IsBoundOn (parts_of s.now) (box_of root.now)
@@ -259,10 +411,6 @@ pub fn search(
 {
     let mut boxes = root.copy(alloc)?;
     boxes.tighten(s);
-    let mut draft = no_draft(alloc);
-    let mut plans = PlanWork::new(alloc, s)?;
-    visit(alloc, s, &boxes, &mut plans, &mut draft)?;
-    let mut walk = Walk::new(alloc, boxes)?;
-    run(alloc, s, budget, &mut plans, &mut walk, &mut draft)?;
+    let draft = search_tight(alloc, s, boxes, budget)?;
     Ok(found_in(alloc, draft))
 }

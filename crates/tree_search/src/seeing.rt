@@ -1,23 +1,29 @@
 //! What is seen of a box: a leaf, or where it is split.
-ghost use Rattle.std.specs.Prelude.{◌≡◌, IfOk, Ok, Result, true};
+ghost use Rattle.std.specs.Prelude.{◌≡◌, ◌≤◌, IfOk, Ok, Result, true};
 ghost use Rattle.std.specs.Result.{IsOk};
 ghost use Rattle.branch_tree.specs.Leaves.{IsInRange};
 ghost use Rattle.dual_leaf.specs.declared.fault.LeafFault.{LeafFault};
 ghost use Rattle.dual_leaf.specs.Leaf.{IsCostIn, IsLeafBound, IsLive, IsNearBound, IsUnitBox};
 ghost use Rattle.dual_leaf.specs.Work.{IsRoomFor};
+ghost use Rattle.lagrange_bound.specs.Work.{most_rounds};
+ghost use Rattle.tree_search.specs.Rooms.{AreRoomsFor};
 ghost use Rattle.flow_types.specs.Scenario.{parts_of};
 ghost use Rattle.flow_types.specs.declared.bound.Bound.{Bound};
 ghost use Rattle.relaxed_bound.specs.Reached.{is_reached};
 ghost use Rattle.time_windows.specs.Held.{IsMadeFor, box_of};
 ghost use Rattle.time_windows.specs.Tight.{IsTight};
-ghost use Rattle.tree_search.specs.Seen.{IsBranchOf, IsSeen};
+ghost use Rattle.tree_search.specs.Seen.{IsBranchOf, IsSeen, may_split};
 
 use crate::branching::{first_choice, nearest_half};
+use crate::found::Budget;
+use crate::pricing::{price, price_leaf};
+use crate::rooms::Rooms;
 use crate::walk::Branch;
 use branch_tree::Leaf;
 use dual_leaf::LeafWork;
 use flow_types::{Bound, OutOfMemory, Scenario};
-use relaxed_bound::{Limits, Point, Relaxed, is_reached, relax};
+use lagrange_bound::is_above;
+use relaxed_bound::{Point, Relaxed, is_reached, relax};
 use std::alloc::Global;
 use time_windows::Boxes;
 use valid_cuts::Pool;
@@ -32,25 +38,27 @@ pub enum Seen {
 }
 
 /// What is seen of the box. Where no plan is in it the leaf is Empty, and where it has no choice
-/// the leaf is Unit. Else the leaf is that of the relaxation's run; or, where its bound doesn't
-/// reach the cutoff and there is room for two nodes more, the box is split.
+/// the leaf is Unit. Else the leaf is that of the relaxation's run or of prices, whichever tells
+/// more; or, where neither reaches the cutoff and there is room for two nodes more, the box is
+/// split.
 pub fn see(
     alloc: Global,
     s: &Scenario,
     boxes: &Boxes,
-    work: &mut LeafWork,
-    limits: Limits,
+    rooms: &mut Rooms,
+    budget: Budget,
     cutoff: Option<i64>,
     more: bool,
 ) -> Result<Seen, OutOfMemory>
     requires made { IsMadeFor (parts_of s.now) boxes.now }
     requires tight { IsTight (parts_of s.now) (box_of boxes.now) }
-    requires work { IsRoomFor (parts_of s.now) work.old }
+    requires rooms { AreRoomsFor (parts_of s.now) rooms.old }
+    requires few { budget.rounds ≤ most_rounds }
     requires tried { IsUnitBox (box_of boxes.now) → (bound : Bound)
         → IsCostIn (parts_of s.now) (box_of boxes.now) bound
         → is_reached cutoff bound ≡ true }
-    ensures seen { IfOk result (IsSeen (parts_of s.now) limits cutoff more (box_of boxes.now)) }
-    ensures work { IsRoomFor (parts_of s.now) work.new }
+    ensures seen { IfOk result (IsSeen (parts_of s.now) budget cutoff more (box_of boxes.now)) }
+    ensures rooms { AreRoomsFor (parts_of s.now) rooms.new }
 {
     if boxes.is_empty() {
         return Ok(Seen::Leaf {
@@ -60,14 +68,14 @@ pub fn see(
     }
     match first_choice(s, boxes) {
         None => {
-            let bound = bound_of(alloc, s, boxes, work, &Leaf::Unit);
+            let bound = bound_of(alloc, s, boxes, &mut rooms.leaves, &Leaf::Unit);
             Ok(Seen::Leaf {
                 leaf: Leaf::Unit,
                 bound,
             })
         }
         Some(branch) => {
-            let seen = see_open(alloc, s, boxes, work, limits, cutoff, more, branch)?;
+            let seen = see_open(alloc, s, boxes, rooms, budget, cutoff, more, branch)?;
             Ok(seen)
         }
     }
@@ -78,32 +86,47 @@ fn see_open(
     alloc: Global,
     s: &Scenario,
     boxes: &Boxes,
-    work: &mut LeafWork,
-    limits: Limits,
+    rooms: &mut Rooms,
+    budget: Budget,
     cutoff: Option<i64>,
     more: bool,
     branch: Branch,
 ) -> Result<Seen, OutOfMemory>
     requires made { IsMadeFor (parts_of s.now) boxes.now }
     requires tight { IsTight (parts_of s.now) (box_of boxes.now) }
-    requires work { IsRoomFor (parts_of s.now) work.old }
+    requires rooms { AreRoomsFor (parts_of s.now) rooms.old }
+    requires few { budget.rounds ≤ most_rounds }
     requires live { IsLive (box_of boxes.now) }
     requires branch { IsBranchOf (parts_of s.now) (box_of boxes.now) branch }
-    ensures seen { IfOk result (IsSeen (parts_of s.now) limits cutoff more (box_of boxes.now)) }
-    ensures work { IsRoomFor (parts_of s.now) work.new }
+    ensures seen { IfOk result (IsSeen (parts_of s.now) budget cutoff more (box_of boxes.now)) }
+    ensures rooms { AreRoomsFor (parts_of s.now) rooms.new }
 {
     let Relaxed {
         leaf,
         end: _,
         point,
-    } = relax(alloc, s, boxes, limits, cutoff)?;
-    let bound = bound_of(alloc, s, boxes, work, &leaf);
-    if more && !is_reached(cutoff, bound) {
+    } = relax(alloc, s, boxes, budget.limits, cutoff)?;
+    let run = bound_of(alloc, s, boxes, &mut rooms.leaves, &leaf);
+    let priced = price(s, boxes, &mut rooms.prices, budget.rounds, cutoff, run);
+    if may_split(more, cutoff, run, priced.bound) {
         let branch = choose(s, boxes, &point, branch);
         Ok(Seen::Split(branch))
+    } else if is_above(priced.bound, run) {
+        let leaf = price_leaf(alloc, s, &rooms.prices, priced.source)?;
+        Ok(Seen::Leaf {
+            leaf,
+            bound: priced.bound,
+        })
     } else {
-        Ok(Seen::Leaf { leaf, bound })
+        Ok(Seen::Leaf { leaf, bound: run })
     }
+}
+
+// Whether there is room to split a box with these bounds, and neither reaches the cutoff.
+fn may_split(more: bool, cutoff: Option<i64>, run: Bound, priced: Bound) -> bool
+    ensures { result ≡ may_split more cutoff run priced }
+{
+    more && !is_reached(cutoff, run) && !is_reached(cutoff, priced)
 }
 
 // Where to split the box, which has this branch.

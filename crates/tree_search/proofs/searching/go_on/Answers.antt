@@ -10,9 +10,9 @@ returns-in_ok-next-in-Leaf-clause-left c =
     left_leaf (parts_of c.args.s.now) c.args.budget c.args.walk.now c.leave.new.walk
     c.args.draft.now c.leave.new.draft c.has_room-more.result c.in_ok-next-in-Leaf.next
     c.in-Leaf.leaf c.in-Leaf.bound c.requires.searching.arrived (c.has_room-more.ensures).1
-    (subst (IsSeen (parts_of c.args.s.now) c.args.budget.limits c.args.draft.now.best
+    (subst (IsSeen (parts_of c.args.s.now) c.args.budget c.args.draft.now.best
     c.has_room-more.result (box_of c.args.walk.now.present)) c.in-Leaf.is
-    (subst (λ (h : Held). IsSeen (parts_of c.args.s.now) c.args.budget.limits
+    (subst (λ (h : Held). IsSeen (parts_of c.args.s.now) c.args.budget
     c.args.draft.now.best c.has_room-more.result (box_of h) c.in_ok-seen.seen) c.boxes.ensures
     c.in_ok-seen.ensures.seen))
     c.in_ok-next-in-Leaf.ensures.noted c.in_ok-next-in-Leaf.ensures.next
@@ -22,9 +22,9 @@ returns-in_ok-split-in-Split-clause-left c =
     split_on (parts_of c.args.s.now) c.args.budget c.args.walk.now c.args.draft.now
     c.split.new.draft c.requires.searching.arrived c.has_room-more.result
     (c.has_room-more.ensures).0 c.in-Split.branch
-    (subst (IsSeen (parts_of c.args.s.now) c.args.budget.limits c.args.draft.now.best
+    (subst (IsSeen (parts_of c.args.s.now) c.args.budget c.args.draft.now.best
     c.has_room-more.result (box_of c.args.walk.now.present)) c.in-Split.is
-    (subst (λ (h : Held). IsSeen (parts_of c.args.s.now) c.args.budget.limits
+    (subst (λ (h : Held). IsSeen (parts_of c.args.s.now) c.args.budget
     c.args.draft.now.best c.has_room-more.result (box_of h) c.in_ok-seen.seen) c.boxes.ensures
     c.in_ok-seen.ensures.seen))
     c.in_ok-split-in-Split.ensures.noted c.split.new.walk.present

@@ -1,22 +1,37 @@
-use Rattle.std.proofs.Common.{◌≡◌, true, sym, ◌∙◌}
+use Rattle.std.proofs.Common.{sym, ◌∙◌}
 use Rattle.flow_types.specs.Scenario.{parts_of}
 use Rattle.time_windows.specs.Held.{box_of}
-use Rattle.relaxed_bound.specs.Reached.{is_reached}
-use Rattle.tree_search.proofs.SeenFacts.{apart, run_seen}
+use Rattle.tree_search.specs.Rooms.{prices_from, weight_from}
+use Rattle.tree_search.proofs.SeenFacts.{priced_seen, run_seen, split_seen}
 use Rattle.tree_search.proofs.seeing.see_open.Goals as goal
-use Rattle.tree_search.proofs.seeing.see_open.Goals.{else-more-via-else-more, else-more-via-then-more+else-not-is_reached}
 
-pub returns-else-more-clause-seen : goal.returns-else-more-clause-seen
-returns-else-more-clause-seen c =
-    run_seen (parts_of c.args.s.now) c.args.limits c.args.cutoff c.args.more
-    (box_of c.args.boxes.now) c.args.branch c.in_ok-leaf.field-0.leaf c.bound_of-bound.result
-    c.requires.made.inside c.requires.live c.requires.branch c.in_ok-leaf.ensures.leaf
-    c.bound_of-bound.ensures.bound reached c.bound_of-bound.ensures.near
-  where
-    reached : c.args.more ≡ true → is_reached c.args.cutoff c.bound_of-bound.result ≡ true
-    reached room = elim c.else-more.branch
-        as (λ _. is_reached c.args.cutoff c.bound_of-bound.result ≡ true) [
-          | else-more-via-then-more+else-not-is_reached w ↦
-              sym w.is_reached.ensures ∙ w.if-not-is_reached.false
-          | else-more-via-else-more w ↦ absurd (apart c.args.more room w.if-more.false)
-        ]
+pub returns-then-may_split-clause-seen : goal.returns-then-may_split-clause-seen
+returns-then-may_split-clause-seen c =
+    split_seen (parts_of c.args.s.now) c.args.budget c.args.cutoff c.args.more
+    (box_of c.args.boxes.now) c.args.branch c.requires.made.inside c.requires.live
+    c.requires.branch c.bound_of-run.result c.price-priced.result.bound c.price-priced.ensures.most
+    c.in_ok-leaf.field-0.leaf (sym c.may_split.ensures ∙ c.if-may_split.true)
+    c.bound_of-run.ensures.bound c.in_ok-leaf.ensures.licensed c.choose-branch.result
+    c.choose-branch.ensures
+
+pub returns-in_ok-leaf-2-clause-seen : goal.returns-in_ok-leaf-2-clause-seen
+returns-in_ok-leaf-2-clause-seen c =
+    priced_seen (parts_of c.args.s.now) c.args.budget c.args.cutoff c.args.more
+    (box_of c.args.boxes.now) c.args.branch c.requires.made.inside c.requires.live
+    c.requires.branch c.bound_of-run.result c.price-priced.result.bound c.price-priced.ensures.most
+    c.in_ok-leaf.field-0.leaf c.in_ok-leaf-2.leaf (weight_from c.price-priced.result.source)
+    (prices_from c.price-priced.new.rooms c.price-priced.result.source) c.in_ok-leaf-2.ensures.prices
+    (c.in_ok-leaf-2.ensures.bound (box_of c.args.boxes.now) c.price-priced.result.bound
+    c.requires.live c.price-priced.ensures.told.bound)
+    c.in_ok-leaf.ensures.leaf c.bound_of-run.ensures.bound
+    (c.is_above.ensures.above c.if-is_above.true) (c.is_above.ensures.strictly c.if-is_above.true)
+    (sym c.may_split.ensures ∙ c.if-may_split.false) c.price-priced.ensures.near
+
+pub returns-else-is_above-clause-seen : goal.returns-else-is_above-clause-seen
+returns-else-is_above-clause-seen c =
+    run_seen (parts_of c.args.s.now) c.args.budget c.args.cutoff c.args.more
+    (box_of c.args.boxes.now) c.args.branch c.requires.made.inside c.requires.live
+    c.requires.branch c.bound_of-run.result c.price-priced.result.bound c.price-priced.ensures.most
+    c.in_ok-leaf.field-0.leaf c.in_ok-leaf.ensures.leaf c.bound_of-run.ensures.bound
+    (c.is_above.ensures.not c.if-is_above.false) (sym c.may_split.ensures ∙ c.if-may_split.false)
+    c.bound_of-run.ensures.near

@@ -1,0 +1,35 @@
+-- Prices stay good where one that may rise is set, and slopes stay on such prices.
+use Rattle.std.proofs.Common.{◌≡◌, ◌≢◌, ◌<◌, ◌^◌, ◌++◌, ◌∷◌, [], ℕ, true, false, All, List, sym, ◌∙◌, ap, subst}
+use Rattle.flow_types.specs.declared.bound.PriceKey.{PriceKey}
+use Rattle.flow_types.specs.declared.parts.Parts.{Parts}
+use Rattle.flight_routes.specs.Prices.{AreFree, ArePricesOf, IsKeyOf, PriceTable, price_at}
+use Rattle.priced_plans.specs.Keys.{IsKeyFor, has_limit}
+use Rattle.priced_plans.proofs.KeyFacts.{key_of}
+use Rattle.priced_plans.proofs.SmallFacts.{free-small, set-small}
+use Rattle.price_ascent.specs.Slopes.{IsGood, IsSlopeKey}
+
+pub good_free : (parts : Parts) (table : PriceTable) → ArePricesOf parts table → AreFree table
+    → IsGood parts table
+good_free parts table size free = record {
+  size = size;
+  placed = λ key there none. free key;
+  small = free-small table free;
+}
+
+pub good_set : (parts : Parts) (old new : PriceTable) (key : PriceKey) (value : ℕ)
+    → IsGood parts old → IsSlopeKey parts key → ArePricesOf parts new → value < 2 ^ 62
+    → price_at new key ≡ value
+    → ((other : PriceKey) → IsKeyOf old other → other ≢ key
+    → price_at new other ≡ price_at old other)
+    → IsGood parts new
+good_set parts old new key value good slope size few here others = record {
+  size = size;
+  placed = λ other there none.
+      others other (key_of parts old other good.size there)
+      (λ same. apart other none same) ∙ good.placed other there none;
+  small = set-small parts old new key value good.size size good.small few here others;
+}
+  where
+    apart : (other : PriceKey) → has_limit parts other ≡ false → other ≡ key → ⊥
+    apart other none same =
+        let e : true ≡ false = sym slope.limit ∙ sym (ap (has_limit parts) same) ∙ none in cc

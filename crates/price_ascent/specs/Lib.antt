@@ -1,0 +1,2 @@
+pub mod Slopes
+pub mod Work

@@ -1,0 +1,133 @@
+//! How far a climb moves prices in a step, and when it ends.
+//!
+//! The goal is a value above the best one. Where a step comes near it the lead over the best value is
+//! doubled, and where nothing is gained for ten steps it is halved (a level method without a bound
+//! from above, after Brännlund, "A generalized subgradient method with relaxation step", 1995). So no
+//! cost needs to be known.
+
+use crate::ascent::WEIGHT;
+
+// After how many steps without a gain the lead is halved.
+const MOST_IDLE: u32 = 10;
+
+// The climb ends where the lead is below a thousandth of a cost of 1.
+const LEAST_LEAD: i128 = 1 << 10;
+
+// A lead that is given by a cost is no shorter than a 64th of a cost of 1.
+const SHORTEST_LEAD: i128 = 1 << 14;
+
+// The lead is doubled no further.
+const MOST_LEAD: i128 = 1 << 56;
+
+// A step goes half the way, in 1,024ths.
+const STEP: i128 = 512;
+
+// How many fifths of the way before are kept.
+const FIFTHS_KEPT: i64 = 4;
+
+/// The best value that a climb has found, and the pace that follows from it.
+#[derive(Clone, Copy, Debug, PartialEq, Eq)]
+pub struct Pace {
+    enough: Option<i128>,
+    first: Option<u32>,
+    best: Option<i128>,
+    lead: i128,
+    goal: i128,
+    idle: u32,
+    moved: bool,
+}
+
+impl Pace {
+    /// At the begin of a climb which ends where the bound is this cost or more, if one is known, and
+    /// which leads by so much at first; where that isn't told, up to the cost.
+    pub fn new(cost: Option<i64>, lead: Option<u32>) -> Pace {
+        Pace {
+            enough: cost.map(|cost| weighted(cost.saturating_sub(1))),
+            best: None,
+            first: lead,
+            lead: LEAST_LEAD,
+            goal: 0,
+            idle: 0,
+            moved: false,
+        }
+    }
+
+    /// Notes the value of the present prices, and tells whether it is the best so far.
+    pub fn note(&mut self, value: i128) -> bool {
+        let Some(best) = self.best else {
+            self.best = Some(value);
+            self.lead = self.first_lead(value);
+            self.goal = value.saturating_add(self.lead);
+            return true;
+        };
+        if value > best {
+            self.gain(value);
+            true
+        } else {
+            self.stay(best);
+            false
+        }
+    }
+
+    // By how much the climb leads where the first prices have this value.
+    fn first_lead(&self, value: i128) -> i128 {
+        match (self.first, self.enough) {
+            (Some(lead), _) => weighted(i64::from(lead)),
+            (None, Some(enough)) => enough.saturating_sub(value).max(SHORTEST_LEAD),
+            (None, None) => weighted(1),
+        }
+    }
+
+    // A better value.
+    fn gain(&mut self, value: i128) {
+        self.best = Some(value);
+        self.idle = 0;
+        if value >= self.goal.saturating_sub(self.lead / 2) {
+            self.lead = self.lead.saturating_mul(2).min(MOST_LEAD);
+            self.goal = value.saturating_add(self.lead);
+        }
+    }
+
+    // No better one.
+    fn stay(&mut self, best: i128) {
+        self.idle = self.idle.saturating_add(1);
+        if self.idle >= MOST_IDLE {
+            self.idle = 0;
+            self.lead = self.lead / 2;
+            self.goal = best.saturating_add(self.lead);
+        }
+    }
+
+    /// Whether the climb is at its end: the bound is enough, or the lead is used up.
+    pub fn is_over(&self) -> bool {
+        let is_enough = match (self.enough, self.best) {
+            (Some(enough), Some(best)) => best > enough,
+            _ => false,
+        };
+        is_enough || self.lead < LEAST_LEAD
+    }
+
+    /// How many fifths of the way before are kept in the next step: four, but none in the first one.
+    pub fn fifths_kept(&mut self) -> i64 {
+        let fifths = if self.moved { FIFTHS_KEPT } else { 0 };
+        self.moved = true;
+        fifths
+    }
+
+    /// How far a price moves for each flight by which its limit is exceeded, where the squares of
+    /// this add up so and the present prices have this value; in 1,024ths.
+    pub fn stride(&self, value: i128, squares: i64) -> i64 {
+        let far = self.goal.saturating_sub(value).saturating_mul(STEP);
+        clamped(far.checked_div(i128::from(squares)).unwrap_or(0))
+    }
+}
+
+// A cost, weighted.
+fn weighted(cost: i64) -> i128 {
+    i128::from(cost).saturating_mul(i128::from(WEIGHT))
+}
+
+// The nearest number of 64 bits.
+fn clamped(number: i128) -> i64 {
+    number.clamp(i128::from(i64::MIN), i128::from(i64::MAX)) as i64
+}

@@ -1,0 +1,231 @@
+//! Prices that may rise, and which way they move.
+ghost use Rattle.std.specs.Prelude.{◌≡◌, ◌<◌, ◌^◌, IfOk, IsTrue, OnOk, length, slice_get};
+ghost use Rattle.flow_types.specs.Capacities.{has_kind};
+ghost use Rattle.flow_types.specs.Scenario.{parts_of};
+ghost use Rattle.plan_rules.specs.Loads.{IsMadeFor};
+ghost use Rattle.flight_routes.specs.Prices.{ArePricesOf};
+ghost use Rattle.priced_plans.specs.Keys.{IsKeyFor, has_limit, rows_of};
+ghost use Rattle.price_ascent.specs.Slopes.{AreSlopesFor, IsGood, IsSlopeKey};
+
+use flight_routes::Prices;
+use flow_types::{CapKind, OutOfMemory, PriceKey, Scenario, has_kind};
+use lagrange_bound::is_by;
+use plan_rules::Loads;
+use priced_plans::{PriceKind, key_in, price_at, rows_of};
+use std::alloc::Global;
+
+/// A price that may rise.
+#[derive(Clone, Copy, Debug, PartialEq, Eq)]
+pub struct Slope {
+    pub key: PriceKey,
+    /// How it moved last, for each unit of the stride, in 1,024ths.
+    pub way: i64,
+}
+
+// How finely ways are counted.
+const WAY_UNIT: i64 = 1024;
+
+/// The highest that a price gets.
+pub const MOST_PRICE: i64 = 1 << 60;
+
+/// All prices that may rise, none of which has moved.
+pub fn all_slopes(alloc: Global, s: &Scenario) -> Result<Vec<Slope>, OutOfMemory>
+    ensures { IfOk result (λ slopes. AreSlopesFor (parts_of s.now) slopes.items) }
+{
+    let mut slopes = Vec::new(alloc);
+    add_kind(s, PriceKind::Departure, &mut slopes)?;
+    add_kind(s, PriceKind::Arrival, &mut slopes)?;
+    add_kind(s, PriceKind::Stay, &mut slopes)?;
+    add_kind(s, PriceKind::Turn, &mut slopes)?;
+    Ok(slopes)
+}
+
+// Adds those of a kind.
+fn add_kind(s: &Scenario, kind: PriceKind, slopes: &mut Vec<Slope>) -> Result<(), OutOfMemory>
+    requires { AreSlopesFor (parts_of s.now) slopes.old.items }
+    ensures { OnOk result (AreSlopesFor (parts_of s.now) slopes.new.items) }
+{
+    for row in 0..rows_of(s, kind) {
+        add_row(s, kind, row as u32, slopes)?;
+    }
+    Ok(())
+}
+
+// Adds those of a row.
+fn add_row(
+    s: &Scenario,
+    kind: PriceKind,
+    row: u32,
+    slopes: &mut Vec<Slope>,
+) -> Result<(), OutOfMemory>
+    requires row { row < rows_of (parts_of s.now) kind }
+    requires slopes { AreSlopesFor (parts_of s.now) slopes.old.items }
+    ensures { OnOk result (AreSlopesFor (parts_of s.now) slopes.new.items) }
+{
+    for period in 0..s.day().periods {
+        add(s, key_in(kind, row, period), slopes)?;
+    }
+    Ok(())
+}
+
+// Adds one, if it may rise.
+fn add(s: &Scenario, key: PriceKey, slopes: &mut Vec<Slope>) -> Result<(), OutOfMemory>
+    requires key { IsKeyFor (parts_of s.now) key }
+    requires slopes { AreSlopesFor (parts_of s.now) slopes.old.items }
+    ensures { OnOk result (AreSlopesFor (parts_of s.now) slopes.new.items) }
+{
+    if has_limit(s, key) && may_pass(s, key) {
+        slopes.push(Slope { key, way: 0 })?;
+    }
+    Ok(())
+}
+
+// Whether a price may be put on it: on a capacity that is there, or a connection.
+fn has_limit(s: &Scenario, key: PriceKey) -> bool
+    requires { IsKeyFor (parts_of s.now) key }
+    ensures { result ≡ has_limit (parts_of s.now) key }
+{
+    match key {
+        PriceKey::Dep { place, .. } => has_kind(CapKind::Dep, s.places(), place),
+        PriceKey::Arr { place, .. } => has_kind(CapKind::Arr, s.places(), place),
+        PriceKey::Sector { place, .. } => has_kind(CapKind::Sector, s.places(), place),
+        PriceKey::Connect { .. } => true,
+    }
+}
+
+// Whether trips may pass the limit at all: those of a connection, only where the second flight may
+// have left before the first is ready.
+fn may_pass(s: &Scenario, key: PriceKey) -> bool
+    requires { IsKeyFor (parts_of s.now) key }
+{
+    let PriceKey::Connect { connection, period } = key else {
+        return true;
+    };
+    let turn = &s.connections()[connection as usize];
+    match (
+        s.flights().get(turn.first as usize),
+        s.flights().get(turn.second as usize),
+    ) {
+        (Some(first), Some(second)) => {
+            let ready = u32::from(first.sa) + u32::from(first.md) + u32::from(turn.turnaround);
+            second.sd <= period && u32::from(period) < ready
+        }
+        _ => true,
+    }
+}
+
+/// Turns each slope by how far the loads exceed the limit, where so many fifths of the way before
+/// are kept, and answers the sum of the squares of this, over the prices that may follow.
+pub fn turn_slopes(
+    slopes: &mut [Slope],
+    s: &Scenario,
+    loads: &Loads,
+    prices: &Prices,
+    fifths: i64,
+) -> i64
+    requires slopes { AreSlopesFor (parts_of s.now) slopes.old }
+    requires loads { IsMadeFor (parts_of s.now) loads.now }
+    requires prices { IsGood (parts_of s.now) prices.now }
+    ensures { AreSlopesFor (parts_of s.now) slopes.new }
+{
+    let mut squares = 0i64;
+    for at in 0..slopes.len() {
+        let Slope { key, way } = slopes[at];
+        let excess = excess_of(s, loads, key);
+        slopes[at] = Slope {
+            key,
+            way: turned(way, fifths, excess),
+        };
+        if excess > 0 || price_at(prices, key) > 0 {
+            squares = squares.saturating_add(excess.saturating_mul(excess));
+        }
+    }
+    squares
+}
+
+// The way that a price moves now: as far as the limit is exceeded, and so many fifths of the way
+// before.
+fn turned(way: i64, fifths: i64, excess: i64) -> i64 {
+    excess
+        .saturating_mul(WAY_UNIT)
+        .saturating_add((way / 5).saturating_mul(fifths))
+}
+
+// By how many flights the loads exceed the limit.
+fn excess_of(s: &Scenario, loads: &Loads, key: PriceKey) -> i64
+    requires key { IsSlopeKey (parts_of s.now) key }
+    requires loads { IsMadeFor (parts_of s.now) loads.now }
+{
+    match key {
+        PriceKey::Dep { place, period } => over_capacity(s, loads, CapKind::Dep, place, period),
+        PriceKey::Arr { place, period } => over_capacity(s, loads, CapKind::Arr, place, period),
+        PriceKey::Sector { place, period } => {
+            over_capacity(s, loads, CapKind::Sector, place, period)
+        }
+        PriceKey::Connect { connection, period } => {
+            let turn = &s.connections()[connection as usize];
+            let left = is_by(loads.departure(turn.second), 0, period);
+            let ready = is_by(loads.arrival(turn.first), turn.turnaround, period);
+            i64::from(left) - i64::from(ready)
+        }
+    }
+}
+
+// By how many they exceed a capacity.
+fn over_capacity(s: &Scenario, loads: &Loads, kind: CapKind, place: u32, period: u16) -> i64
+    requires loads { IsMadeFor (parts_of s.now) loads.now }
+    requires place { place < length (parts_of s.now).places }
+    requires has { IsTrue (has_kind kind (slice_get (parts_of s.now).places place)) }
+    requires period { period < (parts_of s.now).day.periods }
+{
+    i64::from(loads.load(kind, place, period)) - i64::from(s.capacity(kind, place, period))
+}
+
+/// Moves each price along its slope, by so many 1,024ths for a flight; no price falls below 0.
+pub fn move_prices(slopes: &[Slope], s: &Scenario, stride: i64, prices: &mut Prices)
+    requires slopes { AreSlopesFor (parts_of s.now) slopes.now }
+    requires prices { IsGood (parts_of s.now) prices.old }
+    ensures { IsGood (parts_of s.now) prices.new }
+{
+    for slope in slopes {
+        let price = price_at(prices, slope.key);
+        set_price(s, slope.key, moved(price, slope.way, stride), prices);
+    }
+}
+
+// The price, so many 1,024ths along the way.
+fn moved(price: u64, way: i64, stride: i64) -> i64
+    requires { price < 2 ^ 62 }
+{
+    (price as i64).saturating_add(way.saturating_mul(stride) / (WAY_UNIT * WAY_UNIT))
+}
+
+// Sets a price that may rise; the number is brought into the range of prices.
+fn set_price(s: &Scenario, key: PriceKey, price: i64, prices: &mut Prices)
+    requires key { IsSlopeKey (parts_of s.now) key }
+    requires prices { IsGood (parts_of s.now) prices.old }
+    ensures { IsGood (parts_of s.now) prices.new }
+{
+    let value = in_range(price);
+    prices.set(key, value);
+}
+
+// The nearest number that a price may be.
+fn in_range(price: i64) -> u64
+    ensures { result < 2 ^ 62 }
+{
+    price.clamp(0, MOST_PRICE) as u64
+}
+
+/// Sets the prices that may rise to so many times the others, which are of the scenario.
+pub fn take_prices(slopes: &[Slope], s: &Scenario, others: &Prices, times: i64, prices: &mut Prices)
+    requires slopes { AreSlopesFor (parts_of s.now) slopes.now }
+    requires others { ArePricesOf (parts_of s.now) others.now }
+    requires prices { IsGood (parts_of s.now) prices.old }
+    ensures { IsGood (parts_of s.now) prices.new }
+{
+    for slope in slopes {
+        let price = price_at(others, slope.key) as i64;
+        set_price(s, slope.key, price.saturating_mul(times), prices);
+    }
+}

@@ -1,0 +1,84 @@
+-- A plan that is offered while a search stands at a box leaves it where it is.
+use Rattle.std.proofs.Common.{◌≡◌, ◌<◌, ◌≤◌, ◌+◌, true, List, ◌∷◌, length, Option, None, Some, IfSome, MatchOption, inl, inr, sym, ◌∙◌, ap, subst, arith}
+use Rattle.flow_types.specs.declared.bound.Bound.{Bound}
+use Rattle.flow_types.specs.declared.parts.Parts.{Parts}
+use Rattle.flow_types.specs.declared.plan.Stop.{Stop}
+use Rattle.flow_types.specs.Costs.{plan_cost}
+use Rattle.flow_types.specs.Feasible.{IsFeasible}
+use Rattle.time_windows.specs.Boxes.{Box, IsInBox}
+use Rattle.time_windows.specs.Held.{box_of}
+use Rattle.plan_improver.specs.Cheaper.{IsCheaper}
+use Rattle.relaxed_bound.specs.Reached.{is_reached}
+use Rattle.tree_search.specs.declared.draft.Draft.{Draft}
+use Rattle.tree_search.specs.declared.found.Budget.{Budget}
+use Rattle.tree_search.specs.Drafts.{IsOffered, IsTried}
+use Rattle.tree_search.specs.Records.{IsPlanIn}
+use Rattle.tree_search.specs.Searching.{IsSearching}
+use Rattle.tree_search.specs.Ways.{Way, top_box}
+use Rattle.tree_search.proofs.CompleteFacts.{same_complete}
+use Rattle.tree_search.proofs.DraftFacts.{offered_best, offered_draft, offered_still, reached_below}
+use Rattle.tree_search.proofs.VisitFacts.{offered_tree}
+
+-- what was reached before is reached
+tried_still : (parts : Parts) (box : Box) (old new : Draft) (plan : List (List Stop))
+    → IsOffered parts plan old new → IsTried parts box old → IsTried parts box new
+tried_still parts box old new plan (inl kept) tried = λ unit bound cost.
+    subst (λ o. is_reached o bound ≡ true) (sym kept.best)
+    (reached_below old.best (plan_cost parts.tables parts.flights plan) bound kept.cheaper
+    (tried unit bound cost))
+tried_still parts box old new plan (inr left) tried =
+    subst (IsTried parts box) (sym left.same) tried
+
+pub improved_on : (parts : Parts) (budget : Budget) (way : Way) (old new : Draft)
+    (plan : List (List Stop)) → IsSearching parts budget way old
+    → IsPlanIn parts (box_of way.present) plan → IsOffered parts plan old new
+    → IsSearching parts budget way new
+improved_on parts budget way old new plan searching found offered =
+    let arrived = searching.arrived in
+    let tree = offered_tree parts (box_of way.present) old new plan offered in
+    let same = ap length tree.2.nodes in
+    let inside : IsPlanIn parts (top_box way) plan =
+    record { feasible = found.feasible; inside = arrived.part plan found.inside } in
+    record {
+      arrived = record {
+        made = arrived.made;
+        tight = arrived.tight;
+        part = arrived.part;
+        steps = arrived.steps;
+        parts_of = arrived.parts_of;
+        draft_is = offered_draft parts (top_box way) old new plan arrived.draft_is arrived.best
+            inside offered;
+        best = offered_best parts (top_box way) old new plan arrived.best offered;
+        whole = λ boxes pending.
+            same_complete parts budget (top_box way) old new tree.0 (box_of way.present ∷ boxes)
+            tree.1 tree.2 (arrived.whole boxes pending);
+        room = omega (arith, same, arrived.room);
+        unspent = λ left.
+            offered_still parts (top_box way) old new plan offered
+            (arrived.unspent (omega (arith, same, left)));
+      };
+      tried =
+          tried_still parts (box_of way.present) old new plan offered searching.tried;
+    }
+
+-- a cheaper plan is one of the box that keeps every rule
+pub found_in_box : (parts : Parts) (box : Box) (start : List (List Stop))
+    (found : Option (List (List Stop))) → IfSome found (IsCheaper parts box start)
+    → IfSome found (IsPlanIn parts box)
+found_in_box parts box start None cheaper = tt
+found_in_box parts box start (Some plan) cheaper =
+    record { feasible = cheaper.feasible; inside = cheaper.inside }
+
+pub found_feasible : (parts : Parts) (box : Box) (found : Option (List (List Stop)))
+    → IfSome found (IsPlanIn parts box) → IfSome found (IsFeasible parts)
+found_feasible parts box None is = tt
+found_feasible parts box (Some plan) is = is.feasible
+
+pub improved_by : (parts : Parts) (budget : Budget) (way : Way) (old new : Draft)
+    (found : Option (List (List Stop))) → IfSome found (IsPlanIn parts (box_of way.present))
+    → MatchOption found (new ≡ old) (λ plan. IsOffered parts plan old new)
+    → IsSearching parts budget way old → IsSearching parts budget way new
+improved_by parts budget way old new None is same searching =
+    subst (IsSearching parts budget way) (sym same) searching
+improved_by parts budget way old new (Some plan) is offered searching =
+    improved_on parts budget way old new plan searching is offered

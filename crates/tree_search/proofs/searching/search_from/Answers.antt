@@ -1,0 +1,6 @@
+use Rattle.flow_types.specs.Scenario.{parts_of}
+use Rattle.tree_search.proofs.searching.search_from.Goals as goal
+
+pub run-requires-clause-searching : goal.run-requires-clause-searching
+run-requires-clause-searching c =
+    c.in_ok-improve.ensures.improved c.args.budget c.requires.searching

@@ -1,0 +1,12 @@
+use Rattle.flow_types.specs.Scenario.{parts_of}
+use Rattle.tree_search.proofs.BeginFacts.{begun_at}
+use Rattle.tree_search.proofs.searching.search_in.Goals as goal
+
+pub search_from-requires-clause-searching : goal.search_from-requires-clause-searching
+search_from-requires-clause-searching c =
+    let blank = c.requires.blank in
+    begun_at (parts_of c.args.s.now) c.args.budget c.args.boxes c.args.draft.now
+    c.visit.new.draft c.args.s.now.valid c.requires.nodes c.requires.made c.requires.tight
+    blank.plans blank.nodes blank.counts blank.bounds blank.best
+    c.in_ok-visit.ensures.visited c.in_ok-walk.walk c.in_ok-walk.ensures.present
+    c.in_ok-walk.ensures.above c.in_ok-walk.ensures.steps

@@ -1,0 +1,118 @@
+//! What prices tell of a box.
+ghost use Rattle.std.specs.Prelude.{◌≤◌, IfOk};
+ghost use Rattle.flow_types.specs.Scenario.{parts_of};
+ghost use Rattle.lagrange_bound.specs.Best.{IsMostOfRounds, IsNear};
+ghost use Rattle.lagrange_bound.specs.Work.{most_rounds};
+ghost use Rattle.priced_leaf.specs.Leaf.{IsLagOf, TellsAs};
+ghost use Rattle.priced_plans.specs.Keys.{ArePlaced};
+ghost use Rattle.time_windows.specs.Held.{IsMadeFor, box_of};
+ghost use Rattle.tree_search.specs.Rooms.{ArePriceRoomsFor, IsToldBy, prices_from, weight_from};
+
+use crate::rooms::PriceRooms;
+use branch_tree::Leaf;
+use flow_types::{Bound, OutOfMemory, Scenario};
+use lagrange_bound::{COST_WEIGHT, is_above};
+use price_ascent::WEIGHT;
+use priced_leaf::lag_leaf;
+use relaxed_bound::is_reached;
+use std::alloc::Global;
+use time_windows::Boxes;
+
+// How often the weight of rounds goes into that of climbs.
+const TIMES: i64 = 1024;
+
+// How many steps the first climb may take for each round, and by how much it leads at first.
+const FIRST_STEPS: u32 = 16;
+
+const FIRST_LEAD: u32 = 16;
+
+/// Where prices come from.
+#[derive(Clone, Copy, Debug, PartialEq, Eq)]
+pub enum Source {
+    Rounds,
+    Ascent,
+}
+
+/// A bound that prices tell.
+#[derive(Clone, Copy, Debug, PartialEq, Eq)]
+pub struct Priced {
+    pub bound: Bound,
+    pub source: Source,
+}
+
+/// Where a search begins: climbs from the prices of rounds, and answers what the prices tell to which
+/// that leads.
+pub fn begin_climb(
+    s: &Scenario,
+    boxes: &Boxes,
+    rooms: &mut PriceRooms,
+    rounds: u32,
+    cutoff: Option<i64>,
+) -> Bound
+    requires made { IsMadeFor (parts_of s.now) boxes.now }
+    requires few { rounds ≤ most_rounds }
+    requires rooms { ArePriceRoomsFor (parts_of s.now) rooms.old }
+    ensures { ArePriceRoomsFor (parts_of s.now) rooms.new }
+{
+    let _played = rooms.rounds.play(s, boxes, rounds);
+    rooms.ascent.start_from(s, rooms.rounds.prices(), TIMES);
+    let steps = rounds.saturating_mul(FIRST_STEPS);
+    rooms
+        .ascent
+        .climb(s, boxes, cutoff, Some(FIRST_LEAD), steps)
+}
+
+/// The greatest bound that rounds of prices tell; or, where neither that nor the bound of the run
+/// reaches the cutoff, what the prices tell to which as many steps lead from those of the climb
+/// before, if that is more.
+pub fn price(
+    s: &Scenario,
+    boxes: &Boxes,
+    rooms: &mut PriceRooms,
+    rounds: u32,
+    cutoff: Option<i64>,
+    run: Bound,
+) -> Priced
+    requires made { IsMadeFor (parts_of s.now) boxes.now }
+    requires few { rounds ≤ most_rounds }
+    requires rooms { ArePriceRoomsFor (parts_of s.now) rooms.old }
+    ensures told { IsToldBy (parts_of s.now) (box_of boxes.now) rooms.new result }
+    ensures most { IsMostOfRounds (parts_of s.now) (box_of boxes.now) rounds result.bound }
+    ensures near { IsNear result.bound }
+    ensures rooms { ArePriceRoomsFor (parts_of s.now) rooms.new }
+{
+    let played = rooms.rounds.play(s, boxes, rounds);
+    if rounds > 0 && !is_reached(cutoff, run) && !is_reached(cutoff, played) {
+        let climbed = rooms.ascent.climb(s, boxes, cutoff, None, rounds);
+        if is_above(climbed, played) {
+            return Priced {
+                bound: climbed,
+                source: Source::Ascent,
+            };
+        }
+    }
+    Priced {
+        bound: played,
+        source: Source::Rounds,
+    }
+}
+
+/// The leaf of the prices that the source keeps.
+pub fn price_leaf(
+    alloc: Global,
+    s: &Scenario,
+    rooms: &PriceRooms,
+    source: Source,
+) -> Result<Leaf, OutOfMemory>
+    requires rooms { ArePriceRoomsFor (parts_of s.now) rooms.now }
+    requires placed { ArePlaced (parts_of s.now) (prices_from rooms.now source) }
+    ensures prices { IfOk result
+        (IsLagOf (parts_of s.now) (weight_from source) (prices_from rooms.now source)) }
+    ensures bound { IfOk result
+        (TellsAs (parts_of s.now) (weight_from source) (prices_from rooms.now source)) }
+{
+    match source {
+        Source::Rounds => lag_leaf(alloc, s, COST_WEIGHT, rooms.rounds.prices()),
+        Source::Ascent => lag_leaf(alloc, s, WEIGHT, rooms.ascent.prices()),
+    }
+}

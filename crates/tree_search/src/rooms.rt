@@ -1,0 +1,65 @@
+//! The rooms in which boxes are looked at.
+ghost use Rattle.std.specs.Prelude.{IfOk};
+ghost use Rattle.flow_types.specs.Scenario.{parts_of};
+ghost use Rattle.tree_search.specs.Rooms.{ArePlanRoomsFor, ArePriceRoomsFor, AreRoomsFor};
+
+use dual_leaf::LeafWork;
+use flow_types::{OutOfMemory, Scenario};
+use greedy_plan::PlanWork;
+use lagrange_bound::Rounds;
+use plan_improver::Improver;
+use price_ascent::Ascent;
+use std::alloc::Global;
+
+/// Rooms for the boxes of a scenario, made once.
+#[derive(Drop)]
+pub struct Rooms {
+    pub plans: PlanRooms,
+    pub leaves: LeafWork,
+    pub prices: PriceRooms,
+}
+
+/// For greedy plans, and for cheaper ones.
+#[derive(Drop)]
+pub struct PlanRooms {
+    pub greedy: PlanWork,
+    pub improver: Improver,
+}
+
+/// For rounds of prices, and climbs from them.
+#[derive(Drop)]
+pub struct PriceRooms {
+    pub rounds: Rounds,
+    pub ascent: Ascent,
+}
+
+/// The rooms for the scenario.
+pub fn rooms_for(alloc: Global, s: &Scenario) -> Result<Rooms, OutOfMemory>
+    ensures { IfOk result (AreRoomsFor (parts_of s.now)) }
+{
+    Ok(Rooms {
+        plans: plan_rooms(alloc, s)?,
+        leaves: LeafWork::new(alloc, s)?,
+        prices: price_rooms(alloc, s)?,
+    })
+}
+
+// Those for plans.
+fn plan_rooms(alloc: Global, s: &Scenario) -> Result<PlanRooms, OutOfMemory>
+    ensures { IfOk result (ArePlanRoomsFor (parts_of s.now)) }
+{
+    Ok(PlanRooms {
+        greedy: PlanWork::new(alloc, s)?,
+        improver: Improver::new(alloc, s)?,
+    })
+}
+
+// Those for prices.
+fn price_rooms(alloc: Global, s: &Scenario) -> Result<PriceRooms, OutOfMemory>
+    ensures { IfOk result (ArePriceRoomsFor (parts_of s.now)) }
+{
+    Ok(PriceRooms {
+        rounds: Rounds::new(alloc, s)?,
+        ascent: Ascent::new(alloc, s)?,
+    })
+}
