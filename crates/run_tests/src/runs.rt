@@ -14,10 +14,11 @@ trip,F1,ORIG,0,S,0,DEST,2
 trip,F2,ORIG,1,S,1,DEST,3
 ";
 
-// The same plan where the run of the relaxation may make no pivot, and no box may be split.
+// The same plan where the run of the relaxation may make no pivot, there is no round of prices, and no
+// box may be split.
 const OPEN: &str = "status,open
 cost,1
-bound,-8
+bound,0
 nodes,1
 trip,F1,ORIG,0,S,0,DEST,2
 trip,F2,ORIG,1,S,1,DEST,3
@@ -51,7 +52,7 @@ fn a_call_that_fails_is_answered(rt: HostRuntime) -> Result<(), Fail> {
         ("plan day.csv", 0, 1, "", Status::WriteFault),
         ("plan day.csv", 0, 3, &REPORT[..32], Status::WriteFault),
         (
-            "plan --nodes 1 day.csv --pivots 0",
+            "plan --nodes 1 day.csv --pivots 0 --rounds 0",
             0,
             0,
             OPEN,
