@@ -9,6 +9,11 @@ use Rattle.plan_rules.specs.declared.judging.Verdict.{Verdict}
 use Rattle.plan_rules.specs.declared.judging.Verdict.TheVariants.{Breaks, Keeps}
 use Rattle.time_windows.specs.Boxes.{Box, IsInBox}
 
+-- a plan that keeps every rule and is in the box
+pub record IsKept (parts : Parts) (box : Box) (plan : List (List Stop)) : Type 0 where
+  pub feasible : IsFeasible parts plan
+  pub inside : IsInBox box plan
+
 -- It keeps every rule and is in the box; and where the other one keeps every rule too, it costs
 -- less.
 pub record IsCheaper (parts : Parts) (box : Box) (start plan : List (List Stop)) : Type 0 where
@@ -17,7 +22,8 @@ pub record IsCheaper (parts : Parts) (box : Box) (start plan : List (List Stop))
   pub cheaper : IsFeasible parts start
       → plan_cost parts.tables parts.flights plan <ℤ plan_cost parts.tables parts.flights start
 
--- the second verdict is of a plan that keeps every rule, and where the first is too, of a cheaper one
+-- the second verdict is of a plan that keeps every rule, and where the first is too, of a cheaper
+-- one
 abbrev pub IsLess : Verdict → Verdict → Type 0
 IsLess before (Breaks broken) = ⊥
 IsLess (Breaks broken) (Keeps now) = Unit {0}

@@ -5,7 +5,7 @@ ghost use Rattle.flight_routes.specs.Prices.{ArePricesOf};
 ghost use Rattle.flight_routes.specs.Work.{IsWorkFor};
 ghost use Rattle.plan_rules.specs.Loads.{IsMadeFor as AreLoadsFor};
 ghost use Rattle.time_windows.specs.Held.{IsMadeFor, box_of};
-ghost use Rattle.plan_improver.specs.Cheaper.{IsCheaper, IsLess};
+ghost use Rattle.plan_improver.specs.Cheaper.{IsCheaper, IsKept, IsLess};
 
 use crate::choosing::Chosen;
 use crate::draft::{Choice, add_trips, choices_of, extra_of, plan_of};
@@ -65,7 +65,7 @@ impl Improver {
     ghost use Rattle.flow_types.specs.Scenario.{parts_of};
     ghost use Rattle.flight_routes.specs.Prices.{ArePricesOf};
     ghost use Rattle.time_windows.specs.Held.{IsMadeFor, box_of};
-    ghost use Rattle.plan_improver.specs.Cheaper.{IsCheaper};
+    ghost use Rattle.plan_improver.specs.Cheaper.{IsCheaper, IsKept};
     ghost use Rattle.plan_improver.specs.Work.{IsFilledFor, IsSearchRoomFor};
 
     /// Room for the plans of the scenario.
@@ -82,17 +82,17 @@ impl Improver {
     }
 
     /// A plan in the box that keeps every rule, and costs less than the start if that keeps them
-    /// too; nothing where the search finds none. The start may be any list of trips, as of the first
-    /// flights alone: where it breaks a rule, the search begins with the greedy plan, as far as it
-    /// goes.
+    /// too; nothing where the search finds none. The start may be any list of trips, as of the
+    /// first flights alone: where it breaks a rule, the search begins with the greedy plan, as far
+    /// as it goes.
     ///
-    /// Flights are put back by prices too, where costs weigh so much: the better the prices, the better
-    /// the plan. It ends where a plan costs no more than a bound that is enough.
+    /// Flights are put back by prices too, where costs weigh so much: the better the prices, the
+    /// better the plan. It ends where a plan costs no more than a bound that is enough.
     ///
-    /// The box and the prices are of the scenario that the room was made for. What it is given tells
-    /// the plan, whatever was searched before. It takes memory for the stops of three plans while it runs, and for the plan;
-    /// time for forty trials a flight, fewer on long days with many legs, each as 24 least trips at
-    /// the most and a look at each flight.
+    /// The box and the prices are of the scenario that the room was made for. What it is given
+    /// tells the plan, whatever was searched before. It takes memory for the stops of three plans
+    /// while it runs, and for the plan; time for forty trials a flight, fewer on long days with
+    /// many legs, each as 24 least trips at the most and a look at each flight.
     ///
     /// Large neighbourhood search (Shaw, "Using constraint programming and local search methods to
     /// solve vehicle routing problems", 1998).
@@ -125,6 +125,17 @@ impl Improver {
         Ok(if_cheaper(&mut self.loads, s, boxes, start, plan))
     }
 
+    /// The plan, if it keeps every rule and is in the box, which is of the scenario that the room
+    /// was made for.
+    pub fn if_kept(&mut self, s: &Scenario, boxes: &Boxes, plan: Plan) -> Option<Plan>
+        requires made { IsSearchRoomFor (parts_of s.now) self.old }
+        ensures kept { IfSome result (IsKept (parts_of s.now) (box_of boxes.now)) }
+        ensures same { IfSome result (λ kept. kept ≡ plan) }
+        ensures made { IsSearchRoomFor (parts_of s.now) self.new }
+    {
+        if_kept(&mut self.loads, s, boxes, plan)
+    }
+
     // Takes the start for the present plan, and tells whether each flight has a trip at all.
     fn fill(
         &mut self,
@@ -135,7 +146,8 @@ impl Improver {
     ) -> Result<bool, OutOfMemory>
         requires made { IsSearchRoomFor (parts_of s.now) self.old }
         requires boxes { IsMadeFor (parts_of s.now) boxes.now }
-        ensures filled { IfOk result (λ filled. IsTrue filled → IsFilledFor (parts_of s.now) self.new) }
+        ensures filled { IfOk result
+            (λ filled. IsTrue filled → IsFilledFor (parts_of s.now) self.new) }
         ensures made { IsSearchRoomFor (parts_of s.now) self.new }
     {
         self.loads.clear();
@@ -195,7 +207,8 @@ impl Improver {
         Ok(())
     }
 
-    // Gives the chosen flights other trips, if these cost no more together, and tells how much less.
+    // Gives the chosen flights other trips, if these cost no more together, and tells how much
+    // less.
     fn exchange(
         &mut self,
         alloc: Global,
@@ -254,8 +267,8 @@ impl Improver {
         Ok(Some(left))
     }
 
-    // Offers the flight its least trip by the prices, if it fits, else the least that fits; and tells
-    // how much more than its least it costs.
+    // Offers the flight its least trip by the prices, if it fits, else the least that fits; and
+    // tells how much more than its least it costs.
     fn offer(
         &mut self,
         alloc: Global,
@@ -336,6 +349,25 @@ fn if_cheaper(
         Some(plan)
     } else {
         None
+    }
+}
+
+// The plan, if it keeps every rule and is in the box.
+fn if_kept(loads: &mut Loads, s: &Scenario, boxes: &Boxes, plan: Plan) -> Option<Plan>
+    requires { AreLoadsFor (parts_of s.now) loads.old }
+    ensures kept { IfSome result (IsKept (parts_of s.now) (box_of boxes.now)) }
+    ensures same { IfSome result (λ kept. kept ≡ plan) }
+    ensures made { AreLoadsFor (parts_of s.now) loads.new }
+{
+    match judge(loads, s, &plan) {
+        Verdict::Breaks(_) => None,
+        Verdict::Keeps { .. } => {
+            if is_in_box(boxes, &plan) {
+                Some(plan)
+            } else {
+                None
+            }
+        }
     }
 }
 

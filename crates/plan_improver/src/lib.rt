@@ -14,23 +14,24 @@
 //!
 //! The search goes by trials. A trial takes out one flight that costs more than it would alone,
 //! some of the flights that fill the capacities in its way, and those that have connections with
-//! them, 24 at the most. It puts them back in an order that is drawn by lot: each takes the trip that
-//! is least by the prices, if that fits, and else the least that fits; in one of eight trials the
-//! prices are passed over. If they cost no more together than before, they stay so; else the trips before
-//! are restored. A flight for which none fits is left out, at a great cost, so that where the greedy
-//! plan is stuck the same trials complete it (Shaw, "Using constraint programming and local search
-//! methods to solve vehicle routing problems", 1998).
+//! them, 24 at the most. It puts them back in an order that is drawn by lot: each takes the trip
+//! that is least by the prices, if that fits, and else the least that fits; in one of eight trials
+//! the prices are passed over. If they cost no more together than before, they stay so; else the
+//! trips before are restored. A flight for which none fits is left out, at a great cost, so that
+//! where the greedy plan is stuck the same trials complete it (Shaw, "Using constraint programming
+//! and local search methods to solve vehicle routing problems", 1998).
 //!
 //! Proved: what is handed on keeps every rule and is in the box; and where the start keeps every
 //! rule too, it costs less (`cheaper`). The search itself is free to do what it likes, since the
 //! plan in which it ends is judged. That it finds one, and how much less it costs, no clause says.
-//! The lots come from one generator with a fixed seed, so the same day, box and start give the same
-//! plan, and the number of trials depends on the number of flights alone.
+//! The lots come from one generator with a fixed seed, so the same day, box, start, prices and bound
+//! give the same plan, and the number of trials is bounded by the flights, their legs and the day.
 //!
 //! Memory: 0.9 MB, and twelve bytes a place and period, once; while a search runs, the stops of
-//! three plans. Time: twice a least trip for each flight; and forty trials a flight, fewer on long
-//! days with many legs, each with a least trip for each flight that it takes out and a look at each
-//! flight. It ends before where the plan costs no more than a bound that is enough.
+//! three plans, of which two stay. Time: twice a least trip for each flight; and forty trials a
+//! flight, fewer on long days with many legs, each with a least trip or two for each flight that it
+//! takes out and a look at each flight. It ends before where the plan costs no more than a bound that
+//! is enough.
 #![tactic(auto)]
 
 mod cells;

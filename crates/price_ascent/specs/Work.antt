@@ -1,10 +1,12 @@
 -- What the room of climbs is seen as.
-use Rattle.std.specs.Prelude.{ℕ, ◌^◌, List}
+use Rattle.std.specs.Prelude.{ℕ, ◌^◌, List, ℤ, pos, ◌≤ℤ◌}
 use Rattle.flow_types.specs.declared.parts.Parts.{Parts}
 use Rattle.flight_routes.specs.Prices.{PriceTable}
 use Rattle.flight_routes.specs.Work.{IsWorkFor, Worked}
 use Rattle.plan_rules.specs.Cells.{Tally}
 use Rattle.plan_rules.specs.Loads.{IsMadeFor}
+use Rattle.priced_plans.specs.Values.{IsPricedValue}
+use Rattle.time_windows.specs.Boxes.{Box}
 use Rattle.price_ascent.specs.declared.slopes.Slope.{Slope}
 use Rattle.price_ascent.specs.Slopes.{AreSlopesFor, IsGood}
 
@@ -12,11 +14,12 @@ use Rattle.price_ascent.specs.Slopes.{AreSlopesFor, IsGood}
 abbrev pub climb_weight : ℕ
 climb_weight = 2 ^ 20
 
--- the prices of the last step and those that are kept, the room for trips and their counts, and the
--- prices that may rise
+-- the prices of the last step, those that are kept and those of a plan, the room for trips and
+-- their counts, and the prices that may rise
 pub record AscentRoom : Type 0 where
   pub prices : PriceTable
   pub best : PriceTable
+  pub planned : PriceTable
   pub work : Worked
   pub loads : Tally
   pub slopes : List Slope
@@ -25,6 +28,13 @@ pub record AscentRoom : Type 0 where
 pub record IsAscentRoomFor (parts : Parts) (room : AscentRoom) : Type 0 where
   pub prices : IsGood parts room.prices
   pub best : IsGood parts room.best
+  pub planned : IsGood parts room.planned
   pub work : IsWorkFor parts room.work
   pub loads : IsMadeFor parts room.loads
   pub slopes : AreSlopesFor parts room.slopes
+
+-- the value of the prices at weight 0 is above 0, so that no plan is in the box
+pub record HasNone (parts : Parts) (box : Box) (table : PriceTable) : Type 0 where
+  pub value : ℤ
+  pub priced : IsPricedValue parts box 0 table value
+  pub above : pos 1 ≤ℤ value

@@ -1,7 +1,8 @@
 //! The climb.
 ghost use Rattle.std.specs.Prelude.{◌≡◌, IfOk};
+ghost use Rattle.flow_types.specs.declared.parts.Parts.{Parts};
 ghost use Rattle.flow_types.specs.Scenario.{parts_of};
-ghost use Rattle.flight_routes.specs.Prices.{ArePricesOf};
+ghost use Rattle.flight_routes.specs.Prices.{AreAlike, ArePricesOf};
 ghost use Rattle.flight_routes.specs.Work.{IsWorkFor};
 ghost use Rattle.plan_rules.specs.Loads.{IsMadeFor as AreLoadsFor};
 ghost use Rattle.time_windows.specs.Held.{IsMadeFor, box_of};
@@ -10,10 +11,11 @@ ghost use Rattle.lagrange_bound.specs.Best.{IsNear};
 ghost use Rattle.price_ascent.specs.Slopes.{IsGood};
 ghost use Rattle.price_ascent.specs.Work.{climb_weight};
 
-use crate::pace::Pace;
-use crate::slopes::{Slope, all_slopes, move_prices, take_prices, turn_slopes};
+use crate::pace::{Pace, weighted};
+use crate::slopes::{Slope, all_slopes, move_prices, turn_slopes};
+use crate::spread::Spread;
 use flight_routes::{Prices, Work};
-use flow_types::{Bound, OutOfMemory, Scenario};
+use flow_types::{Bound, MOST_NODES, OutOfMemory, Plan, Scenario, Stop, Trip};
 use plan_rules::Loads;
 use priced_plans::{limit_price, priced_bounds_are_bounds, priced_value, rounded_up};
 use std::alloc::Global;
@@ -23,15 +25,33 @@ use time_windows::Boxes;
 /// How much costs weigh beside prices.
 pub const WEIGHT: u64 = 1 << 20;
 
-/// Room to climb in, made once for a scenario, and the best prices of the last climb. Contracts see
-/// it as an `AscentRoom`.
+/// Room to climb in, made once for a scenario, and what the last climb has led to: the best prices;
+/// those under which the least trips pass no limit and cost the least; and how much the times of
+/// trips differed. Contracts see it as an `AscentRoom`.
 #[derive(Debug, Drop)]
 pub struct Ascent {
-    prices: Prices,
+    tables: Tables,
+    trips: Trips,
+    slopes: Vec<Slope>,
+    // What the least trips under the planned prices cost, weighted, if they pass no limit.
+    plan_cost: Option<i128>,
+}
+
+// The prices of the last step, those that are kept, and those of a plan.
+#[derive(Debug, Drop)]
+struct Tables {
+    present: Prices,
     best: Prices,
+    planned: Prices,
+}
+
+// Room for trips, with their counts, and the spreads of their times: for each of the nodes that a
+// flight may have.
+#[derive(Debug, Drop)]
+struct Trips {
     work: Work,
     loads: Loads,
-    slopes: Vec<Slope>,
+    spreads: Vec<Spread>,
 }
 
 impl Model for Ascent {
@@ -40,66 +60,52 @@ impl Model for Ascent {
     ghost Value = { AscentRoom };
 
     ghost view = { λ a. record {
-      prices = a.prices;
-      best = a.best;
-      work = a.work;
-      loads = a.loads;
+      prices = a.tables.present;
+      best = a.tables.best;
+      planned = a.tables.planned;
+      work = a.trips.work;
+      loads = a.trips.loads;
       slopes = a.slopes.items;
     } };
 }
 
 impl Ascent {
-    ghost use Rattle.std.specs.Prelude.{◌≡◌, IfOk};
+    ghost use Rattle.std.specs.Prelude.{◌≡◌, IfOk, IsTrue};
     ghost use Rattle.flow_types.specs.Scenario.{parts_of};
     ghost use Rattle.flight_routes.specs.Prices.{ArePricesOf};
     ghost use Rattle.time_windows.specs.Held.{IsMadeFor, box_of};
     ghost use Rattle.priced_plans.specs.Keys.{ArePlaced};
     ghost use Rattle.priced_plans.specs.PricedBound.{BoundsFeasible, IsPricedBound};
     ghost use Rattle.lagrange_bound.specs.Best.{IsNear};
-    ghost use Rattle.price_ascent.specs.Work.{IsAscentRoomFor, climb_weight};
+    ghost use Rattle.price_ascent.specs.Work.{HasNone, IsAscentRoomFor, climb_weight};
 
     /// Room for the climbs of the scenario.
-    #[tactic(auto, using(crate::proofs::SlopeFacts::good_free))]
     pub fn new(alloc: Global, s: &Scenario) -> Result<Ascent, OutOfMemory>
         ensures made { IfOk result (IsAscentRoomFor (parts_of s.now)) }
     {
         Ok(Ascent {
-            prices: Prices::new(alloc, s)?,
-            best: Prices::new(alloc, s)?,
-            work: Work::new(alloc, s)?,
-            loads: Loads::new(alloc, s)?,
+            tables: no_prices(alloc, s)?,
+            trips: no_trips(alloc, s)?,
             slopes: all_slopes(alloc, s)?,
+            plan_cost: None,
         })
     }
 
-    /// Keeps so many times the given prices, which are of the scenario, as those to climb on from.
-    #[tactic(auto, using(crate::proofs::SlopeFacts::good_free))]
-    pub fn start_from(&mut self, s: &Scenario, prices: &Prices, times: i64)
-        requires made { IsAscentRoomFor (parts_of s.now) self.old }
-        requires prices { ArePricesOf (parts_of s.now) prices.now }
-        ensures made { IsAscentRoomFor (parts_of s.now) self.new }
-    {
-        self.best.clear();
-        take_prices(&self.slopes, s, prices, times, &mut self.best);
-    }
-
     /// Climbs in the box, in so many steps at the most, from the kept prices, which at first are 0,
-    /// and keeps the best prices. Answers what they tell at the weight of 2^20: no feasible plan in
-    /// the box costs less, or there is none, since a flight has no trip in the box. The bound is
-    /// nearer to 0 than 2^124.
+    /// and keeps the best prices. Answers what they tell (`tell`).
     ///
-    /// The first steps aim at a bound that is above that of the first prices by the lead, or, where
-    /// none is given, at the cost. It ends where the bound is the cost or more, if one is given, and
-    /// where no step gains any more.
+    /// The first steps aim at such a part of what is missing to the cost, if one is known of a
+    /// plan, from 1 on. It ends where the bound is the cost or more, and where no step gains any
+    /// more.
     ///
-    /// The room and the box are of the scenario. It takes no memory, and for each step the time of a
-    /// least trip for each flight and of a look at each price.
+    /// The room and the box are of the scenario. It takes no memory, and for each step the time of
+    /// a least trip for each flight and of a look at each price.
     pub fn climb(
         &mut self,
         s: &Scenario,
         boxes: &Boxes,
         cost: Option<i64>,
-        lead: Option<u32>,
+        part: u32,
         steps: u32,
     ) -> Bound
         requires made { IsAscentRoomFor (parts_of s.now) self.old }
@@ -111,22 +117,93 @@ impl Ascent {
         ensures placed { ArePlaced (parts_of s.now) self.new.best }
         ensures made { IsAscentRoomFor (parts_of s.now) self.new }
     {
-        priced_bounds_are_bounds();
-        self.prices.copy_from(&self.best);
-        let mut pace = Pace::new(cost, lead);
+        self.tables.present.copy_from(&self.tables.best);
+        self.plan_cost = None;
+        forget(&mut self.trips.spreads);
+        let mut pace = Pace::new(cost, part);
         for _ in 0..steps {
             if !self.step(s, boxes, &mut pace) {
                 break;
             }
         }
-        tell(&mut self.work, s, boxes, &self.best)
+        self.tell(s, boxes)
+    }
+
+    /// What the kept prices tell in the box, at the weight of 2^20: no feasible plan in it costs
+    /// less, or there is none, since a flight has no trip in the box. The bound is nearer to 0 than
+    /// 2^124.
+    ///
+    /// The room and the box are of the scenario. It takes no memory, and the time of a least trip
+    /// for each flight and of a look at each price.
+    pub fn tell(&mut self, s: &Scenario, boxes: &Boxes) -> Bound
+        requires made { IsAscentRoomFor (parts_of s.now) self.old }
+        requires boxes { IsMadeFor (parts_of s.now) boxes.now }
+        ensures told { IsPricedBound (parts_of s.now) (box_of boxes.now) climb_weight
+            self.new.best result }
+        ensures sound { BoundsFeasible (parts_of s.now) (box_of boxes.now) result }
+        ensures near { IsNear result }
+        ensures placed { ArePlaced (parts_of s.now) self.new.best }
+        ensures made { IsAscentRoomFor (parts_of s.now) self.new }
+    {
+        priced_bounds_are_bounds();
+        bound_of(&mut self.trips.work, s, boxes, &self.tables.best)
+    }
+
+    /// Whether the kept prices prove that no plan is in the box: a plan that keeps every rule pays no
+    /// more than all capacities would, and here even the least trips pay more.
+    ///
+    /// The room and the box are of the scenario. It takes no memory, and time as `tell`.
+    pub fn has_none(&mut self, s: &Scenario, boxes: &Boxes) -> bool
+        requires made { IsAscentRoomFor (parts_of s.now) self.old }
+        requires boxes { IsMadeFor (parts_of s.now) boxes.now }
+        ensures none { IsTrue result
+            → HasNone (parts_of s.now) (box_of boxes.now) self.new.best }
+        ensures placed { ArePlaced (parts_of s.now) self.new.best }
+        ensures made { IsAscentRoomFor (parts_of s.now) self.new }
+    {
+        match priced_value(&mut self.trips.work, s, boxes, 0, &self.tables.best) {
+            None => false,
+            Some(value) => value > 0,
+        }
     }
 
     /// The prices that are kept.
     pub fn prices(&self) -> &Prices
         ensures { result.now ≡ self.now.best }
     {
-        &self.best
+        &self.tables.best
+    }
+
+    /// How much the periods differ in which the flight entered the node in the steps of the last
+    /// climb.
+    pub fn spread(&self, flight: u32, node: u16) -> Spread {
+        match self.trips.spreads.get(spread_at(flight, node)) {
+            None => Spread::none(),
+            Some(spread) => *spread,
+        }
+    }
+
+    /// The trips of the last climb in the box that pass no limit, if a step has led to such ones
+    /// that cost less than this, if something is given; of several those that cost the least. That
+    /// they are a plan that keeps every rule no clause says.
+    ///
+    /// It takes memory for the plan, and the time of a least trip for each flight.
+    pub fn plan(
+        &mut self,
+        alloc: Global,
+        s: &Scenario,
+        boxes: &Boxes,
+        below: Option<i64>,
+    ) -> Result<Option<Plan>, OutOfMemory>
+        requires made { IsAscentRoomFor (parts_of s.now) self.old }
+        requires boxes { IsMadeFor (parts_of s.now) boxes.now }
+        ensures made { IsAscentRoomFor (parts_of s.now) self.new }
+    {
+        if !is_below(self.plan_cost, below.map(weighted)) {
+            return Ok(None);
+        }
+        let plan = least_trips(alloc, &mut self.trips.work, s, boxes, &self.tables.planned)?;
+        Ok(Some(plan))
     }
 
     // One step, and whether the climb goes on.
@@ -135,32 +212,121 @@ impl Ascent {
         requires boxes { IsMadeFor (parts_of s.now) boxes.now }
         ensures made { IsAscentRoomFor (parts_of s.now) self.new }
     {
-        let Some(value) = value_of(&mut self.work, &mut self.loads, s, boxes, &self.prices) else {
+        let Some(value) = value_of(
+            &mut self.trips.work,
+            &mut self.trips.loads,
+            &mut self.trips.spreads,
+            s,
+            boxes,
+            &self.tables.present,
+        ) else {
             return false;
         };
-        if pace.note(value) {
-            self.best.copy_from(&self.prices);
-        }
+        let is_best = pace.note(value);
+        keep_if(is_best, &mut self.tables.best, &self.tables.present);
         if pace.is_over() {
             return false;
         }
         let fifths = pace.fifths_kept();
-        let squares = turn_slopes(&mut self.slopes, s, &self.loads, &self.prices, fifths);
-        move_prices(
-            &self.slopes,
+        let turned = turn_slopes(
+            &mut self.slopes,
             s,
-            pace.stride(value, squares),
-            &mut self.prices,
+            &self.trips.loads,
+            &self.tables.present,
+            fifths,
         );
-        squares > 0
+        let cost = turned.plan_cost(value);
+        let is_cheaper = is_below(cost, self.plan_cost);
+        keep_if(is_cheaper, &mut self.tables.planned, &self.tables.present);
+        if is_cheaper {
+            self.plan_cost = cost;
+        }
+        let stride = pace.stride(value, turned.squares);
+        move_prices(&self.slopes, s, stride, &mut self.tables.present);
+        turned.squares > 0
+    }
+}
+
+// Prices of 0.
+#[tactic(auto, using(crate::proofs::SlopeFacts::good_free))]
+fn no_prices(alloc: Global, s: &Scenario) -> Result<Tables, OutOfMemory>
+    ensures present { IfOk result (λ tables. IsGood (parts_of s.now) tables.present) }
+    ensures best { IfOk result (λ tables. IsGood (parts_of s.now) tables.best) }
+    ensures planned { IfOk result (λ tables. IsGood (parts_of s.now) tables.planned) }
+{
+    Ok(Tables {
+        present: Prices::new(alloc, s)?,
+        best: Prices::new(alloc, s)?,
+        planned: Prices::new(alloc, s)?,
+    })
+}
+
+// Room for trips, and spreads of no steps.
+fn no_trips(alloc: Global, s: &Scenario) -> Result<Trips, OutOfMemory>
+    ensures work { IfOk result (λ trips. IsWorkFor (parts_of s.now) trips.work) }
+    ensures loads { IfOk result (λ trips. AreLoadsFor (parts_of s.now) trips.loads) }
+{
+    Ok(Trips {
+        work: Work::new(alloc, s)?,
+        loads: Loads::new(alloc, s)?,
+        spreads: no_spreads(alloc, s.flights().len())?,
+    })
+}
+
+// Keeps the prices, if they are better.
+fn keep_if(better: bool, kept: &mut Prices, prices: &Prices)
+    requires { AreAlike kept.old prices.now }
+    ensures { (parts : Parts) → IsGood parts kept.old → IsGood parts prices.now
+        → IsGood parts kept.new }
+{
+    if better {
+        kept.copy_from(prices);
+    }
+}
+
+// Whether the first cost is below the second; none is above all.
+fn is_below(cost: Option<i128>, kept: Option<i128>) -> bool {
+    match (cost, kept) {
+        (None, _) => false,
+        (Some(_), None) => true,
+        (Some(cost), Some(kept)) => cost < kept,
+    }
+}
+
+// Where the spread of a node stands.
+fn spread_at(flight: u32, node: u16) -> usize {
+    (flight as usize)
+        .saturating_mul(MOST_NODES)
+        .saturating_add(usize::from(node))
+}
+
+// A spread of no steps for each node that one of so many flights may have.
+fn no_spreads(alloc: Global, flights: usize) -> Result<Vec<Spread>, OutOfMemory> {
+    Ok(vec![in alloc; Spread::none(); flights.saturating_mul(MOST_NODES)]?)
+}
+
+// Sets all spreads to those of no steps.
+fn forget(spreads: &mut [Spread]) {
+    for spread in spreads.iter_mut() {
+        *spread = Spread::none();
+    }
+}
+
+// Adds the times of a trip to the spreads.
+fn add_times(spreads: &mut [Spread], flight: u32, stops: &[Stop]) {
+    for stop in stops {
+        if let Some(spread) = spreads.get_mut(spread_at(flight, stop.node)) {
+            spread.add(stop.time);
+        }
     }
 }
 
 // The value of the prices, nothing where a flight has no trip; the loads then count the least trips
-// under them.
+// under them, and their times are added to the spreads.
 fn value_of(
     work: &mut Work,
     loads: &mut Loads,
+    spreads: &mut [Spread],
     s: &Scenario,
     boxes: &Boxes,
     prices: &Prices,
@@ -178,13 +344,35 @@ fn value_of(
         let flight = number as u32;
         let least = work.least_trip(s, boxes, flight, WEIGHT, prices)?;
         loads.add(s, flight, work.trip());
+        add_times(spreads, flight, work.trip());
         sum = sum.saturating_add(least);
     }
     Some(sum.saturating_sub(limit_price(s, prices) as i128))
 }
 
+// The least trips under the prices; no stops where a flight has none.
+fn least_trips(
+    alloc: Global,
+    work: &mut Work,
+    s: &Scenario,
+    boxes: &Boxes,
+    prices: &Prices,
+) -> Result<Plan, OutOfMemory>
+    requires work { IsWorkFor (parts_of s.now) work.old }
+    requires boxes { IsMadeFor (parts_of s.now) boxes.now }
+    requires prices { IsGood (parts_of s.now) prices.now }
+    ensures { IsWorkFor (parts_of s.now) work.new }
+{
+    let mut plan = Plan::empty(alloc);
+    for number in 0..s.flights().len() {
+        let _least = work.least_trip(s, boxes, number as u32, WEIGHT, prices);
+        plan.add(Trip::from_stops(alloc, work.trip())?)?;
+    }
+    Ok(plan)
+}
+
 // What the prices tell.
-fn tell(work: &mut Work, s: &Scenario, boxes: &Boxes, prices: &Prices) -> Bound
+fn bound_of(work: &mut Work, s: &Scenario, boxes: &Boxes, prices: &Prices) -> Bound
     requires work { IsWorkFor (parts_of s.now) work.old }
     requires boxes { IsMadeFor (parts_of s.now) boxes.now }
     requires prices { IsGood (parts_of s.now) prices.now }

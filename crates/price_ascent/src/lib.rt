@@ -1,12 +1,12 @@
 //! Better prices: a climb towards those whose bound is the greatest.
 //!
-//! Rounds (`lagrange_bound`) move prices by fixed steps. A climb goes on from them by steps that are
-//! as long as there seems to be to gain, in the direction in which the least trips exceed the limits,
-//! with a share of the direction before:
+//! Rounds (`lagrange_bound`) move prices by fixed steps. A climb moves them by steps that are as
+//! long as there seems to be to gain, in the direction in which the least trips exceed the limits,
+//! with a share of the direction before. It leads to better prices from 0 than from those of
+//! rounds:
 //!
 //!     let mut ascent = Ascent::new(alloc, &s)?;
-//!     ascent.start_from(&s, rounds.prices(), 1024);
-//!     let bound = ascent.climb(&s, &boxes, Some(cost), Some(16), 600);
+//!     let bound = ascent.climb(&s, &boxes, Some(cost), 32, 600);
 //!     let leaf = lag_leaf(alloc, &s, WEIGHT, ascent.prices())?;
 //!
 //! It is the subgradient method for Lagrangian relaxations (Held and Karp, "The traveling-salesman
@@ -17,15 +17,18 @@
 //!
 //! Proved: the bound is exactly what the kept prices tell (`told`), no plan in the box that keeps
 //! every rule costs less (`sound`), and a price stands only where there is such a capacity
-//! (`placed`). How great the bound is, no clause says.
+//! (`placed`). Where `has_none` says so, no plan is in the box that keeps every rule: the value of
+//! the prices alone is above 0 (`none`). How great the bound is, no clause says.
 //!
-//! Memory: `Work`, `Loads`, twice `Prices`, and 24 bytes for each price that may rise, or up to
-//! twice that. A climb takes none. Time: for each step a least trip for each flight, and a look at
-//! each price.
+//! Memory: `Work`, `Loads`, three times `Prices`, 24 bytes for each price that may rise, or up to
+//! twice that, and 24 for each of 32 nodes a flight. A climb takes none. Time: for each step a
+//! least trip for each flight, and a look at each price.
 #![tactic(auto)]
 
 mod ascent;
 mod pace;
 mod slopes;
+mod spread;
 
 pub use ascent::{Ascent, WEIGHT};
+pub use spread::Spread;

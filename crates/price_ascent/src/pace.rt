@@ -1,23 +1,29 @@
 //! How far a climb moves prices in a step, and when it ends.
 //!
-//! The goal is a value above the best one. Where a step comes near it the lead over the best value is
-//! doubled, and where nothing is gained for ten steps it is halved (a level method without a bound
-//! from above, after Brännlund, "A generalized subgradient method with relaxation step", 1995). So no
-//! cost needs to be known.
+//! The goal is a value above the best one. Where a step comes near it the lead over the best value
+//! is doubled, and where nothing is gained for ten steps it is halved (a level method without a
+//! bound from above, after Brännlund, "A generalized subgradient method with relaxation step",
+//! 1995). So no cost needs to be known.
 
 use crate::ascent::WEIGHT;
 
 // After how many steps without a gain the lead is halved.
 const MOST_IDLE: u32 = 10;
 
-// The climb ends where the lead is below a thousandth of a cost of 1.
+// The climb ends where the lead is below this part of the first one, and a thousandth of a cost of
+// 1.
+const LEAST_PART: i128 = 1 << 14;
+
 const LEAST_LEAD: i128 = 1 << 10;
 
-// A lead that is given by a cost is no shorter than a 64th of a cost of 1.
+// Where no plan is known, the climb ends above what any costs.
+const MOST_COST: i64 = 10_000_000_000_000;
+
+// The first lead is no shorter than a 64th of a cost of 1.
 const SHORTEST_LEAD: i128 = 1 << 14;
 
 // The lead is doubled no further.
-const MOST_LEAD: i128 = 1 << 56;
+const MOST_LEAD: i128 = 1 << 62;
 
 // A step goes half the way, in 1,024ths.
 const STEP: i128 = 512;
@@ -28,24 +34,28 @@ const FIFTHS_KEPT: i64 = 4;
 /// The best value that a climb has found, and the pace that follows from it.
 #[derive(Clone, Copy, Debug, PartialEq, Eq)]
 pub struct Pace {
-    enough: Option<i128>,
-    first: Option<u32>,
+    cost: Option<i64>,
+    enough: i128,
+    part: u32,
     best: Option<i128>,
     lead: i128,
+    least_lead: i128,
     goal: i128,
     idle: u32,
     moved: bool,
 }
 
 impl Pace {
-    /// At the begin of a climb which ends where the bound is this cost or more, if one is known, and
-    /// which leads by so much at first; where that isn't told, up to the cost.
-    pub fn new(cost: Option<i64>, lead: Option<u32>) -> Pace {
+    /// At the begin of a climb that ends where the bound is this cost or more, if one is known, and
+    /// leads at first by such a part of what is missing to it.
+    pub fn new(cost: Option<i64>, part: u32) -> Pace {
         Pace {
-            enough: cost.map(|cost| weighted(cost.saturating_sub(1))),
+            cost,
+            enough: weighted(cost.unwrap_or(MOST_COST).saturating_sub(1)),
+            part,
             best: None,
-            first: lead,
             lead: LEAST_LEAD,
+            least_lead: LEAST_LEAD,
             goal: 0,
             idle: 0,
             moved: false,
@@ -57,6 +67,7 @@ impl Pace {
         let Some(best) = self.best else {
             self.best = Some(value);
             self.lead = self.first_lead(value);
+            self.least_lead = (self.lead / LEAST_PART).max(LEAST_LEAD);
             self.goal = value.saturating_add(self.lead);
             return true;
         };
@@ -69,13 +80,17 @@ impl Pace {
         }
     }
 
-    // By how much the climb leads where the first prices have this value.
+    // By how much the climb leads where the first prices have this value: by a part of what is
+    // missing to the cost; where none is known, by one of the value and a cost of 1.
     fn first_lead(&self, value: i128) -> i128 {
-        match (self.first, self.enough) {
-            (Some(lead), _) => weighted(i64::from(lead)),
-            (None, Some(enough)) => enough.saturating_sub(value).max(SHORTEST_LEAD),
-            (None, None) => weighted(1),
-        }
+        let missing = match self.cost {
+            Some(_) => self.enough.saturating_sub(value),
+            None => value
+                .saturating_abs()
+                .saturating_add(weighted(i64::from(self.part))),
+        };
+        let lead = missing.checked_div(i128::from(self.part)).unwrap_or(0);
+        lead.clamp(SHORTEST_LEAD, MOST_LEAD)
     }
 
     // A better value.
@@ -100,14 +115,11 @@ impl Pace {
 
     /// Whether the climb is at its end: the bound is enough, or the lead is used up.
     pub fn is_over(&self) -> bool {
-        let is_enough = match (self.enough, self.best) {
-            (Some(enough), Some(best)) => best > enough,
-            _ => false,
-        };
-        is_enough || self.lead < LEAST_LEAD
+        self.best.is_some_and(|best| best > self.enough) || self.lead < self.least_lead
     }
 
-    /// How many fifths of the way before are kept in the next step: four, but none in the first one.
+    /// How many fifths of the way before are kept in the next step: four, but none in the first
+    /// one.
     pub fn fifths_kept(&mut self) -> i64 {
         let fifths = if self.moved { FIFTHS_KEPT } else { 0 };
         self.moved = true;
@@ -122,8 +134,8 @@ impl Pace {
     }
 }
 
-// A cost, weighted.
-fn weighted(cost: i64) -> i128 {
+/// A cost, weighted.
+pub fn weighted(cost: i64) -> i128 {
     i128::from(cost).saturating_mul(i128::from(WEIGHT))
 }
 

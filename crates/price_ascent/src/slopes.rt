@@ -25,6 +25,8 @@ pub struct Slope {
 // How finely ways are counted.
 const WAY_UNIT: i64 = 1024;
 
+const WAY_UNIT_SQUARED: i128 = 1 << 20;
+
 /// The highest that a price gets.
 pub const MOST_PRICE: i64 = 1 << 60;
 
@@ -114,38 +116,78 @@ fn may_pass(s: &Scenario, key: PriceKey) -> bool
     }
 }
 
+/// What slopes are turned by.
+#[derive(Clone, Copy, Debug, PartialEq, Eq)]
+pub struct Turned {
+    /// The sum of the squares of how far limits are exceeded, over the prices that may follow.
+    pub squares: i64,
+    /// What is paid for that.
+    pub paid: i128,
+    /// Whether a limit is exceeded.
+    pub exceeds: bool,
+}
+
+impl Turned {
+    /// What the least trips cost, weighted, where they pass no limit and the prices have this
+    /// value.
+    pub fn plan_cost(&self, value: i128) -> Option<i128> {
+        if self.exceeds {
+            None
+        } else {
+            Some(value.saturating_sub(self.paid))
+        }
+    }
+}
+
 /// Turns each slope by how far the loads exceed the limit, where so many fifths of the way before
-/// are kept, and answers the sum of the squares of this, over the prices that may follow.
+/// are kept.
 pub fn turn_slopes(
     slopes: &mut [Slope],
     s: &Scenario,
     loads: &Loads,
     prices: &Prices,
     fifths: i64,
-) -> i64
+) -> Turned
     requires slopes { AreSlopesFor (parts_of s.now) slopes.old }
     requires loads { IsMadeFor (parts_of s.now) loads.now }
     requires prices { IsGood (parts_of s.now) prices.now }
     ensures { AreSlopesFor (parts_of s.now) slopes.new }
 {
-    let mut squares = 0i64;
+    let mut turned = Turned {
+        squares: 0,
+        paid: 0,
+        exceeds: false,
+    };
     for at in 0..slopes.len() {
         let Slope { key, way } = slopes[at];
         let excess = excess_of(s, loads, key);
         slopes[at] = Slope {
             key,
-            way: turned(way, fifths, excess),
+            way: turned_way(way, fifths, excess),
         };
-        if excess > 0 || price_at(prices, key) > 0 {
-            squares = squares.saturating_add(excess.saturating_mul(excess));
-        }
+        turned = counted(turned, excess, price_at(prices, key));
     }
-    squares
+    turned
+}
+
+// The same with one price more, whose limit is exceeded so far.
+fn counted(turned: Turned, excess: i64, price: u64) -> Turned
+    requires { price < 2 ^ 62 }
+{
+    if excess <= 0 && price == 0 {
+        return turned;
+    }
+    let paid = i128::from(price).saturating_mul(i128::from(excess));
+    Turned {
+        squares: turned.squares.saturating_add(excess.saturating_mul(excess)),
+        paid: turned.paid.saturating_add(paid),
+        exceeds: turned.exceeds || excess > 0,
+    }
 }
 
 // The way that a price moves now: as far as the limit is exceeded, and so many fifths of the way
 // before.
-fn turned(way: i64, fifths: i64, excess: i64) -> i64 {
+fn turned_way(way: i64, fifths: i64, excess: i64) -> i64 {
     excess
         .saturating_mul(WAY_UNIT)
         .saturating_add((way / 5).saturating_mul(fifths))
@@ -193,11 +235,13 @@ pub fn move_prices(slopes: &[Slope], s: &Scenario, stride: i64, prices: &mut Pri
     }
 }
 
-// The price, so many 1,024ths along the way.
+// The price, so many 1,024ths along the way, as far as prices go.
 fn moved(price: u64, way: i64, stride: i64) -> i64
     requires { price < 2 ^ 62 }
 {
-    (price as i64).saturating_add(way.saturating_mul(stride) / (WAY_UNIT * WAY_UNIT))
+    let far = i128::from(way).saturating_mul(i128::from(stride)) / WAY_UNIT_SQUARED;
+    let most = i128::from(MOST_PRICE);
+    (price as i64).saturating_add(far.clamp(-most, most) as i64)
 }
 
 // Sets a price that may rise; the number is brought into the range of prices.
@@ -215,17 +259,4 @@ fn in_range(price: i64) -> u64
     ensures { result < 2 ^ 62 }
 {
     price.clamp(0, MOST_PRICE) as u64
-}
-
-/// Sets the prices that may rise to so many times the others, which are of the scenario.
-pub fn take_prices(slopes: &[Slope], s: &Scenario, others: &Prices, times: i64, prices: &mut Prices)
-    requires slopes { AreSlopesFor (parts_of s.now) slopes.now }
-    requires others { ArePricesOf (parts_of s.now) others.now }
-    requires prices { IsGood (parts_of s.now) prices.old }
-    ensures { IsGood (parts_of s.now) prices.new }
-{
-    for slope in slopes {
-        let price = price_at(others, slope.key) as i64;
-        set_price(s, slope.key, price.saturating_mul(times), prices);
-    }
 }

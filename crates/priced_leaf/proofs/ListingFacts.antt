@@ -1,19 +1,22 @@
 -- One price more is listed; a row and a kind are at their end.
-use Rattle.std.proofs.Common.{◌≡◌, ◌⊎◌, ℕ, ◌+◌, ◌<◌, ◌≤◌, Bool, true, false, ◌&&◌, ◌||◌, nat_eq, nat_lt, if◌then◌else◌, List, [], ◌∷◌, ◌++◌, length, slice_get, None, Some, zero, suc, refl, sym, ap, ◌∙◌, subst, inl, inr, arith}
+use Rattle.std.proofs.Common.{◌≡◌, ◌⊎◌, All, ℕ, ◌+◌, ◌<◌, ◌≤◌, Bool, true, false, ◌&&◌, ◌||◌, nat_eq, nat_lt, if◌then◌else◌, List, [], ◌∷◌, ◌++◌, length, slice_get, None, Some, zero, suc, refl, sym, ap, ◌∙◌, subst, inl, inr, arith}
 use Rattle.std.proofs.lemmas.Bool.{cases_lt}
 use Rattle.std.proofs.lemmas.Bool.Decides.{nat_tests}
+use Rattle.std.proofs.lemmas.List.Elements.{All-push, All-weaker}
+use Rattle.std.proofs.lemmas.List.Quantifiers.{all_pairs_push}
 use Rattle.flow_types.specs.declared.bound.PriceKey.{PriceKey}
 use Rattle.flow_types.specs.declared.bound.PriceKey.TheVariants as key
 use Rattle.flow_types.specs.declared.parts.Parts.{Parts}
 use Rattle.flight_routes.specs.Prices.{PriceTable, price_at}
 use Rattle.priced_plans.specs.declared.kinds.PriceKind.{PriceKind}
 use Rattle.priced_plans.specs.Keys.{ArePlaced, IsKeyFor, has_limit, kind_number, number_in, period_in, row_in, rows_of}
-use Rattle.priced_plans.proofs.KeyFacts.{key_at, period_within, row_within}
+use Rattle.priced_plans.proofs.KeyFacts.{itself, key_at, period_within, row_within}
+use Rattle.bytime_model.specs.Order.{IsBefore}
 use Rattle.branch_tree.specs.declared.leaf.Multiplier.{Multiplier}
 use Rattle.dual_leaf.specs.Lag.{ArePriceable, is_key, is_priceable, key_of, set_by, set_on}
 use Rattle.dual_leaf.proofs.LagFacts.{set-more}
 use Rattle.priced_leaf.specs.Leaf.{row_of}
-use Rattle.priced_leaf.specs.Listing.{IsListed, is_listed}
+use Rattle.priced_leaf.specs.Listing.{IsListed, IsNamedBelow, is_listed}
 
 named : (k : PriceKey) → key_of (row_of k) ≡ Some k
 named (key.Dep place period) = refl
@@ -96,6 +99,38 @@ kind_end n r number row period before = by (cases_lt number n) (cases_lt n numbe
     by (inr fine) (inr less) =
         let here = before (omega (arith, fine, less)) in grind (arith, nat_tests)
 
+or_true : (b : Bool) → (b || true) ≡ true
+or_true true = refl
+or_true false = refl
+
+-- of two prices the one that comes before has the row that comes before
+less : (row period r t : ℕ)
+    → (nat_lt row r || (nat_eq row r && nat_lt period t)) ≡ true
+    → (nat_lt row r || (nat_eq row r && (nat_lt period t || (nat_eq period t && false)))) ≡ true
+less row period r t before = grind (arith, nat_tests)
+
+never_before : {A : Type 0} → false ≡ true → A
+never_before is = absurd (let e : false ≡ true = is in cc)
+
+rows_before : (j k : PriceKey) → is_listed (number_in k) (row_in k) (period_in k) j ≡ true
+    → IsBefore (row_of j) (row_of k)
+rows_before (key.Dep p u) (key.Dep q t) before = less p u q t before
+rows_before (key.Dep p u) (key.Arr q t) before = refl
+rows_before (key.Dep p u) (key.Sector q t) before = refl
+rows_before (key.Dep p u) (key.Connect q t) before = refl
+rows_before (key.Arr p u) (key.Dep q t) before = never_before before
+rows_before (key.Arr p u) (key.Arr q t) before = less p u q t before
+rows_before (key.Arr p u) (key.Sector q t) before = refl
+rows_before (key.Arr p u) (key.Connect q t) before = refl
+rows_before (key.Sector p u) (key.Dep q t) before = never_before before
+rows_before (key.Sector p u) (key.Arr q t) before = never_before before
+rows_before (key.Sector p u) (key.Sector q t) before = less p u q t before
+rows_before (key.Sector p u) (key.Connect q t) before = refl
+rows_before (key.Connect p u) (key.Dep q t) before = never_before before
+rows_before (key.Connect p u) (key.Arr q t) before = never_before before
+rows_before (key.Connect p u) (key.Sector q t) before = never_before before
+rows_before (key.Connect p u) (key.Connect q t) before = less p u q t before
+
 pick : (was here now : Bool) (price value sum : ℕ) → now ≡ (was || here)
     → sum ≡ (if was then price else 0) → (here ≡ true → value ≡ price)
     → (if here then value else sum) ≡ (if now then price else 0)
@@ -113,6 +148,16 @@ pick was false now price value sum is before same =
     none false = refl
 
 module _ (parts : Parts) (table : PriceTable) where
+  named_same : (n r t m q u : ℕ) (x : Multiplier) → IsNamedBelow parts n r t x
+      → ((k : PriceKey) → IsKeyFor parts k → is_listed n r t k ≡ is_listed m q u k)
+      → IsNamedBelow parts m q u x
+  named_same n r t m q u x below same = record {
+    key = below.key;
+    there = below.there;
+    is = below.is;
+    listed = sym (same below.key below.there) ∙ below.listed;
+  }
+
   -- the same prices come before another place
   pub listed-same : (n r t m q u : ℕ) (rows : List Multiplier) → IsListed parts table n r t rows
       → ((k : PriceKey) → IsKeyFor parts k → is_listed n r t k ≡ is_listed m q u k)
@@ -121,12 +166,19 @@ module _ (parts : Parts) (table : PriceTable) where
     priceable = is.priceable;
     each = λ k within. is.each k within
         ∙ ap (λ b. if b then price_at table k else 0) (same k within);
+    positive = is.positive;
+    ascending = is.ascending;
+    named = All-weaker (IsNamedBelow parts n r t) (IsNamedBelow parts m q u)
+        (λ x below. named_same n r t m q u x below same) rows is.named;
   }
 
   pub listed-start : IsListed parts table 0 0 0 []
   listed-start = record {
     priceable = λ k multiplier at. absurd (let e : None ≡ Some multiplier = at in cc);
     each = λ k within. none k (number_in k) (row_in k) (period_in k);
+    positive = λ k d within. absurd (omega (arith, within));
+    ascending = λ i j d before within. absurd (omega (arith, within));
+    named = λ k d within. absurd (omega (arith, within));
   }
     where
       none : (k : PriceKey) (number row period : ℕ)
@@ -170,11 +222,26 @@ module _ (parts : Parts) (table : PriceTable) where
         ≡ (is_listed n r t other || is_key k other)
     here_now other = one_more n r t (number_in other) (row_in other) (period_in other)
 
+    -- what came before comes before the next one
+    further : (rows : List Multiplier) → All (IsNamedBelow parts n r t) rows
+        → All (IsNamedBelow parts n r (t + 1)) rows
+    further rows named =
+        All-weaker (IsNamedBelow parts n r t) (IsNamedBelow parts n r (t + 1))
+        (λ x below. record {
+          key = below.key;
+          there = below.there;
+          is = below.is;
+          listed = here_now below.key ∙ ap (λ b. b || is_key k below.key) below.listed;
+        }) rows named
+
     pub listed-none : (rows : List Multiplier) → price_at table k ≡ 0
         → IsListed parts table n r t rows → IsListed parts table n r (t + 1) rows
     listed-none rows none is = record {
       priceable = is.priceable;
       each = λ other within. by other within (is_key k other) refl;
+      positive = is.positive;
+      ascending = is.ascending;
+      named = further rows is.named;
     }
       where
         by : (other : PriceKey) → IsKeyFor parts other → (b : Bool) → is_key k other ≡ b
@@ -205,6 +272,17 @@ module _ (parts : Parts) (table : PriceTable) where
           (price_at table other) value (set_by rows other 0) (here_now other)
           (before.each other within)
           (λ at. is ∙ ap (price_at table) (sym (key_at k other at)));
+      positive = All-push (λ x. 0 < x.value) rows m before.positive some;
+      ascending = all_pairs_push (λ x y. IsBefore x.row y.row) rows m before.ascending
+          (λ i d within. let below = before.named i d within in
+          subst (λ z. IsBefore z (row_of k)) (sym below.is)
+          (rows_before below.key k below.listed));
+      named = All-push (IsNamedBelow parts n r (t + 1)) rows m (further rows before.named) (record {
+        key = k;
+        there = within_day;
+        is = refl;
+        listed = here_now k ∙ ap (λ b. is_listed n r t k || b) (itself n r t) ∙ or_true _;
+      });
     }
       where
         m : Multiplier

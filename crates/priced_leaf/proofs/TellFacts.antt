@@ -13,7 +13,7 @@ use Rattle.branch_tree.specs.declared.leaf.Leaf.{Leaf}
 use Rattle.branch_tree.specs.declared.leaf.Leaf.TheVariants.{Lag}
 use Rattle.branch_tree.specs.declared.leaf.Multiplier.{Multiplier}
 use Rattle.dual_leaf.specs.Leaf.{IsLeafBound, IsLive, IsTableSaid}
-use Rattle.priced_leaf.specs.Leaf.{IsLagOf, TellsAs}
+use Rattle.priced_leaf.specs.Leaf.{Closes, IsLagOf, TellsAs}
 use Rattle.priced_leaf.specs.Listing.{IsListed, is_listed}
 
 key_for : (parts : Parts) (table : PriceTable) (k : PriceKey) → ArePricesOf parts table
@@ -40,6 +40,8 @@ lag-of parts weight table rows are listed = record {
   rows = rows;
   is = refl;
   priceable = listed.priceable;
+  positive = listed.positive;
+  ascending = listed.ascending;
   priced = record {
     size = are;
     each = λ k is. sym (listed.each k (key_for parts table k are is)
@@ -62,4 +64,15 @@ tells parts weight table leaf some is = λ box bound live told.
       table = table;
       prices = is.priced;
       said = said parts box weight table bound some told;
+    }))
+
+pub closes : (parts : Parts) (table : PriceTable) (leaf : Leaf) → IsLagOf parts 0 table leaf
+    → Closes parts table leaf
+closes parts table leaf is = λ box value live priced above.
+    subst (λ z. IsLeafBound parts box z (Ok NoPlan)) (sym is.is) (inl (record {
+      live = live;
+      priceable = is.priceable;
+      table = table;
+      prices = is.priced;
+      said = inr (record { value = value; priced = priced; said = (refl, above) });
     }))

@@ -1,14 +1,17 @@
 -- The leaf that prices are.
-use Rattle.std.specs.Prelude.{◌≡◌, ℕ, List, Ok}
+use Rattle.std.specs.Prelude.{◌≡◌, ℕ, ◌<◌, List, All, AllPairs, Ok, ℤ, pos, ◌≤ℤ◌}
 use Rattle.flow_types.specs.declared.bound.Bound.{Bound}
+use Rattle.flow_types.specs.declared.bound.Bound.TheVariants.{NoPlan}
 use Rattle.flow_types.specs.declared.bound.PriceKey.{PriceKey}
 use Rattle.flow_types.specs.declared.bound.PriceKey.TheVariants as key
 use Rattle.flow_types.specs.declared.parts.Parts.{Parts}
 use Rattle.flight_routes.specs.Prices.{PriceTable}
 use Rattle.priced_plans.specs.PricedBound.{IsPricedBound}
+use Rattle.priced_plans.specs.Values.{IsPricedValue}
 use Rattle.time_windows.specs.Boxes.{Box}
 use Rattle.bytime_model.specs.declared.names.RowName.{RowName}
 use Rattle.bytime_model.specs.declared.names.RowName.TheVariants.{Arr, Connect, Dep, Sector}
+use Rattle.bytime_model.specs.Order.{IsBefore}
 use Rattle.branch_tree.specs.declared.leaf.Leaf.{Leaf}
 use Rattle.branch_tree.specs.declared.leaf.Leaf.TheVariants.{Lag}
 use Rattle.branch_tree.specs.declared.leaf.Multiplier.{Multiplier}
@@ -22,11 +25,20 @@ row_of (key.Arr place period) = Arr place period
 row_of (key.Sector place period) = Sector place period
 row_of (key.Connect connection period) = Connect connection period
 
+-- no multiplier is 0, and each row is named once, in the order of rows
+abbrev pub ArePositive : List Multiplier → Type 0
+ArePositive rows = All (λ multiplier. 0 < multiplier.value) rows
+
+abbrev pub AreAscending : List Multiplier → Type 0
+AreAscending rows = AllPairs (λ before after. IsBefore before.row after.row) rows
+
 -- the Lag leaf of this weight whose multipliers are the prices
 pub record IsLagOf (parts : Parts) (weight : ℕ) (table : PriceTable) (leaf : Leaf) : Type 0 where
   pub rows : List Multiplier
   pub is : leaf ≡ Lag weight rows
   pub priceable : ArePriceable parts rows
+  pub positive : ArePositive rows
+  pub ascending : AreAscending rows
   pub priced : ArePricedBy parts rows table
 
 -- in any box what the prices tell is the bound of the leaf
@@ -34,3 +46,9 @@ abbrev pub TellsAs : Parts → ℕ → PriceTable → Leaf → Type 0
 TellsAs parts weight table leaf =
     (box : Box) (bound : Bound) → IsLive box → IsPricedBound parts box weight table bound
     → IsLeafBound parts box leaf (Ok bound)
+
+-- in any box in which their value at weight 0 is above 0, the leaf says that there is no plan
+abbrev pub Closes : Parts → PriceTable → Leaf → Type 0
+Closes parts table leaf =
+    (box : Box) (value : ℤ) → IsLive box → IsPricedValue parts box 0 table value
+    → pos 1 ≤ℤ value → IsLeafBound parts box leaf (Ok NoPlan)

@@ -1,12 +1,13 @@
 -- Prices that are listed by their rows, in the order of kinds, then of places and connections, then
 -- of periods. No public clause cites these.
-use Rattle.std.specs.Prelude.{◌≡◌, ℕ, ◌<◌, Bool, ◌&&◌, ◌||◌, nat_eq, nat_lt, if◌then◌else◌, List}
+use Rattle.std.specs.Prelude.{◌≡◌, ℕ, ◌<◌, Bool, true, ◌&&◌, ◌||◌, nat_eq, nat_lt, if◌then◌else◌, List, All}
 use Rattle.flow_types.specs.declared.bound.PriceKey.{PriceKey}
 use Rattle.flow_types.specs.declared.parts.Parts.{Parts}
 use Rattle.flight_routes.specs.Prices.{PriceTable, price_at}
 use Rattle.priced_plans.specs.Keys.{IsKeyFor, number_in, period_in, row_in}
 use Rattle.branch_tree.specs.declared.leaf.Multiplier.{Multiplier}
 use Rattle.dual_leaf.specs.Lag.{ArePriceable, set_by}
+use Rattle.priced_leaf.specs.Leaf.{AreAscending, ArePositive, row_of}
 
 -- the key comes before this kind, row and period
 abbrev pub is_listed : ℕ → ℕ → ℕ → PriceKey → Bool
@@ -15,9 +16,20 @@ is_listed kind row period key =
     || (nat_eq (number_in key) kind && (nat_lt (row_in key) row
     || (nat_eq (row_in key) row && nat_lt (period_in key) period)))
 
--- the multipliers are the prices that come before
+-- the multiplier is of a price that comes before
+pub record IsNamedBelow (parts : Parts) (kind row period : ℕ) (multiplier : Multiplier)
+    : Type 0 where
+  pub key : PriceKey
+  pub there : IsKeyFor parts key
+  pub is : multiplier.row ≡ row_of key
+  pub listed : is_listed kind row period key ≡ true
+
+-- the multipliers are the prices that come before and aren't 0, in their order
 pub record IsListed (parts : Parts) (table : PriceTable) (kind row period : ℕ)
     (rows : List Multiplier) : Type 0 where
   pub priceable : ArePriceable parts rows
   pub each : (key : PriceKey) → IsKeyFor parts key → set_by rows key 0
       ≡ (if is_listed kind row period key then price_at table key else 0)
+  pub positive : ArePositive rows
+  pub ascending : AreAscending rows
+  pub named : All (IsNamedBelow parts kind row period) rows

@@ -7,9 +7,10 @@
 //!     let bound = work.leaf_bound(&s, &boxes, &leaf, &pool);
 //!
 //! Proved: the leaf's multipliers set exactly the prices, each on a row that is there and may have
-//! one (`prices`), and in every box in which no node that must be entered is closed the leaf has the
-//! bound that the prices tell (`bound`). That it names no price of 0, and each row once and in
-//! order, no clause says.
+//! one; none is 0, and each row is named once, in the order of rows (`prices`). In every box in
+//! which no node that must be entered is closed the leaf has the bound that the prices tell
+//! (`bound`); and a leaf of weight 0 says of a box that no plan is in it, where the value of the
+//! prices is above 0 (`closes`).
 //!
 //! Memory: 24 bytes for each price that isn't 0, or up to twice that. Time: for each place and
 //! period, and for each connection and period.
@@ -17,4 +18,4 @@
 
 mod listing;
 
-pub use listing::lag_leaf;
+pub use listing::{closing_leaf, lag_leaf};

@@ -3,7 +3,7 @@ ghost use Rattle.std.specs.Prelude.{◌≡◌, ◌<◌, ◌+◌, ◌^◌, IfOk, 
 ghost use Rattle.flow_types.specs.Scenario.{parts_of};
 ghost use Rattle.flight_routes.specs.Prices.{ArePricesOf, IsKeyOf, price_at};
 ghost use Rattle.priced_plans.specs.Keys.{ArePlaced, IsKeyFor, kind_number, number_in, period_in, row_in, rows_of};
-ghost use Rattle.priced_leaf.specs.Leaf.{IsLagOf, TellsAs, row_of};
+ghost use Rattle.priced_leaf.specs.Leaf.{Closes, IsLagOf, TellsAs, row_of};
 ghost use Rattle.priced_leaf.specs.Listing.{IsListed};
 
 use branch_tree::{Leaf, Multiplier, Multipliers};
@@ -122,4 +122,19 @@ pub fn lag_leaf(
 {
     let rows = list_prices(alloc, s, prices)?;
     Ok(Leaf::Lag { weight, rows })
+}
+
+/// The Lag leaf of weight 0 whose multipliers are the prices, as above. In any box in which every
+/// node is open that must be entered, and in which the value of the prices at this weight is above
+/// 0, its bound is that there is no plan.
+///
+/// What it needs and takes is as above.
+pub fn closing_leaf(alloc: Global, s: &Scenario, prices: &Prices) -> Result<Leaf, OutOfMemory>
+    requires prices { ArePricesOf (parts_of s.now) prices.now }
+    requires placed { ArePlaced (parts_of s.now) prices.now }
+    ensures prices { IfOk result (IsLagOf (parts_of s.now) 0 prices.now) }
+    ensures closes { IfOk result (Closes (parts_of s.now) prices.now) }
+{
+    let rows = list_prices(alloc, s, prices)?;
+    Ok(Leaf::Lag { weight: 0, rows })
 }

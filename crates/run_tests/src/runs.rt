@@ -14,8 +14,8 @@ trip,F1,ORIG,0,S,0,DEST,2
 trip,F2,ORIG,1,S,1,DEST,3
 ";
 
-// The same plan where the run of the relaxation may make no pivot, there is no round of prices, and no
-// box may be split.
+// The same plan where the run of the relaxation may make no pivot, there is no round of prices, and
+// no box may be split.
 const OPEN: &str = "status,open
 cost,1
 bound,0

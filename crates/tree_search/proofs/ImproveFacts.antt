@@ -1,5 +1,5 @@
 -- A plan that is offered while a search stands at a box leaves it where it is.
-use Rattle.std.proofs.Common.{◌≡◌, ◌<◌, ◌≤◌, ◌+◌, true, List, ◌∷◌, length, Option, None, Some, IfSome, MatchOption, inl, inr, sym, ◌∙◌, ap, subst, arith}
+use Rattle.std.proofs.Common.{◌≡◌, ◌<◌, ◌≤◌, ◌+◌, suc, Bool, true, false, List, ◌∷◌, length, Option, None, Some, IfSome, MatchOption, inl, inr, sym, ◌∙◌, ap, subst, arith}
 use Rattle.flow_types.specs.declared.bound.Bound.{Bound}
 use Rattle.flow_types.specs.declared.parts.Parts.{Parts}
 use Rattle.flow_types.specs.declared.plan.Stop.{Stop}
@@ -7,13 +7,13 @@ use Rattle.flow_types.specs.Costs.{plan_cost}
 use Rattle.flow_types.specs.Feasible.{IsFeasible}
 use Rattle.time_windows.specs.Boxes.{Box, IsInBox}
 use Rattle.time_windows.specs.Held.{box_of}
-use Rattle.plan_improver.specs.Cheaper.{IsCheaper}
+use Rattle.plan_improver.specs.Cheaper.{IsCheaper, IsKept}
 use Rattle.relaxed_bound.specs.Reached.{is_reached}
 use Rattle.tree_search.specs.declared.draft.Draft.{Draft}
 use Rattle.tree_search.specs.declared.found.Budget.{Budget}
 use Rattle.tree_search.specs.Drafts.{IsOffered, IsTried}
 use Rattle.tree_search.specs.Records.{IsPlanIn}
-use Rattle.tree_search.specs.Searching.{IsSearching}
+use Rattle.tree_search.specs.Searching.{IsSearching, IsStepped}
 use Rattle.tree_search.specs.Ways.{Way, top_box}
 use Rattle.tree_search.proofs.CompleteFacts.{same_complete}
 use Rattle.tree_search.proofs.DraftFacts.{offered_best, offered_draft, offered_still, reached_below}
@@ -69,6 +69,13 @@ found_in_box parts box start None cheaper = tt
 found_in_box parts box start (Some plan) cheaper =
     record { feasible = cheaper.feasible; inside = cheaper.inside }
 
+-- and so is a plan that is kept
+pub kept_in_box : (parts : Parts) (box : Box) (found : Option (List (List Stop)))
+    → IfSome found (IsKept parts box) → IfSome found (IsPlanIn parts box)
+kept_in_box parts box None kept = tt
+kept_in_box parts box (Some plan) kept =
+    record { feasible = kept.feasible; inside = kept.inside }
+
 pub found_feasible : (parts : Parts) (box : Box) (found : Option (List (List Stop)))
     → IfSome found (IsPlanIn parts box) → IfSome found (IsFeasible parts)
 found_feasible parts box None is = tt
@@ -82,3 +89,23 @@ improved_by parts budget way old new None is same searching =
     subst (IsSearching parts budget way) (sym same) searching
 improved_by parts budget way old new (Some plan) is offered searching =
     improved_on parts budget way old new plan searching is offered
+
+-- no node is written down
+pub offered_nodes : (parts : Parts) (box : Box) (old new : Draft)
+    (found : Option (List (List Stop)))
+    → MatchOption found (new ≡ old) (λ plan. IsOffered parts plan old new)
+    → new.nodes ≡ old.nodes
+offered_nodes parts box old new None same = ap (λ (d : Draft). d.nodes) same
+offered_nodes parts box old new (Some plan) offered =
+    (offered_tree parts box old new plan offered).2.nodes
+
+-- so that a step after it is one from before
+pub stepped_from : (parts : Parts) (budget : Budget) (way : Way) (old now : Draft) (next : Way)
+    (new : Draft) (more : Bool) → now.nodes ≡ old.nodes
+    → IsStepped parts budget way now next new more → IsStepped parts budget way old next new more
+stepped_from parts budget way old now next new true same stepped = record {
+  searching = stepped.searching;
+  same = stepped.same;
+  longer = stepped.longer ∙ ap (λ l. suc (length l)) same;
+}
+stepped_from parts budget way old now next new false same stepped = stepped

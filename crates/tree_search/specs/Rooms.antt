@@ -1,5 +1,7 @@
 -- The rooms in which boxes are looked at. No public clause cites these.
-use Rattle.std.specs.Prelude.{ℕ}
+use Rattle.std.specs.Prelude.{◌≡◌, ℕ}
+use Rattle.flow_types.specs.declared.bound.Bound.{Bound}
+use Rattle.flow_types.specs.declared.bound.Bound.TheVariants.{NoPlan}
 use Rattle.flow_types.specs.declared.parts.Parts.{Parts}
 use Rattle.flight_routes.specs.Prices.{PriceTable}
 use Rattle.time_windows.specs.Boxes.{Box}
@@ -9,11 +11,11 @@ use Rattle.priced_plans.specs.Keys.{ArePlaced}
 use Rattle.priced_plans.specs.PricedBound.{IsPricedBound}
 use Rattle.lagrange_bound.specs.Rounds.{cost_weight}
 use Rattle.lagrange_bound.specs.Work.{IsRoomFor as IsRoundRoomFor}
-use Rattle.price_ascent.specs.Work.{IsAscentRoomFor, climb_weight}
+use Rattle.price_ascent.specs.Work.{HasNone, IsAscentRoomFor, climb_weight}
 use Rattle.dual_leaf.specs.Work.{IsRoomFor}
 use Rattle.tree_search.specs.declared.pricing.Priced.{Priced}
 use Rattle.tree_search.specs.declared.pricing.Source.{Source}
-use Rattle.tree_search.specs.declared.pricing.Source.TheVariants.{Ascent, Rounds}
+use Rattle.tree_search.specs.declared.pricing.Source.TheVariants.{Ascent, Closing, Rounds}
 use Rattle.tree_search.specs.declared.rooms.PlanRooms.{PlanRooms}
 use Rattle.tree_search.specs.declared.rooms.PriceRooms.{PriceRooms}
 use Rattle.tree_search.specs.declared.rooms.Rooms.{Rooms}
@@ -35,13 +37,20 @@ pub record AreRoomsFor (parts : Parts) (rooms : Rooms) : Type 0 where
 abbrev pub weight_from : Source → ℕ
 weight_from Rounds = cost_weight
 weight_from Ascent = climb_weight
+weight_from Closing = 0
 
 abbrev pub prices_from : PriceRooms → Source → PriceTable
 prices_from rooms Rounds = rooms.rounds.best
 prices_from rooms Ascent = rooms.ascent.best
+prices_from rooms Closing = rooms.ascent.best
 
 -- the prices that the source keeps tell the bound
-pub record IsToldBy (parts : Parts) (box : Box) (rooms : PriceRooms) (priced : Priced) : Type 0 where
-  pub bound : IsPricedBound parts box (weight_from priced.source)
-      (prices_from rooms priced.source) priced.bound
+abbrev pub Tells : Parts → Box → PriceRooms → Source → Bound → Type 0
+Tells parts box rooms Rounds bound = IsPricedBound parts box cost_weight rooms.rounds.best bound
+Tells parts box rooms Ascent bound = IsPricedBound parts box climb_weight rooms.ascent.best bound
+Tells parts box rooms Closing bound = (bound ≡ NoPlan) × HasNone parts box rooms.ascent.best
+
+pub record IsToldBy (parts : Parts) (box : Box) (rooms : PriceRooms) (priced : Priced)
+    : Type 0 where
+  pub bound : Tells parts box rooms priced.source priced.bound
   pub placed : ArePlaced parts (prices_from rooms priced.source)

@@ -10,6 +10,7 @@ ghost use Rattle.tree_search.specs.Seen.{IsBranchOf, IsChoiceIn};
 use crate::walk::Branch;
 use bytime_model::Var;
 use flow_types::{MOST_NODES, Scenario};
+use price_ascent::{Ascent, Spread};
 use relaxed_bound::Point;
 use time_windows::{Access, Boxes};
 
@@ -48,6 +49,37 @@ pub fn nearest_half(s: &Scenario, boxes: &Boxes, point: &Point, known: Branch) -
         }
     }
     best
+}
+
+/// The branch of the box at the mean period in which a flight entered a node in the steps of the
+/// last climb, where these differ the most; the known one where none differ, or the mean is no
+/// branch.
+pub fn most_spread(s: &Scenario, boxes: &Boxes, ascent: &Ascent, known: Branch) -> Branch
+    requires { IsBranchOf (parts_of s.now) (box_of boxes.now) known }
+    ensures { IsBranchOf (parts_of s.now) (box_of boxes.now) result }
+{
+    let mut best = known;
+    let mut widest = 0;
+    for flight in 0..s.flights().len() {
+        for node in 0..MOST_NODES {
+            let spread = ascent.spread(flight as u32, node as u16);
+            if spread.width() > widest {
+                if let Some(branch) = branch_in(s, boxes, flight as u32, node as u16, spread) {
+                    best = branch;
+                    widest = spread.width();
+                }
+            }
+        }
+    }
+    best
+}
+
+// The branch at the mean, if it is one.
+fn branch_in(s: &Scenario, boxes: &Boxes, flight: u32, node: u16, spread: Spread) -> Option<Branch>
+    ensures { IfSome result (IsBranchOf (parts_of s.now) (box_of boxes.now)) }
+{
+    let time = u16::try_from(spread.mean()?).ok()?;
+    branch_at(s, boxes, Var::By { flight, node, time })
 }
 
 // How far a fraction is from a half, over twice its denominator. Of numbers that aren't fractions

@@ -12,11 +12,14 @@
 //!         Bound::NoPlan => println!("no plan is in the box"),
 //!     }
 //!
-//! It goes depth first, the early side of a split before the late one. For each box the greedy plan
-//! is made, and kept where it is cheaper than the last. An empty box is done with, and so is one in
-//! which there is no choice. Else the run of the box's relaxation gives a leaf, and rounds of prices
-//! another one: where the bound of one reaches what the best plan costs, or where there is no room
-//! for two nodes more, the box is done with, by the one that tells more; and else it is split.
+//! First a climb looks for good prices, and a plan that costs less than the greedy one is looked
+//! for by them. Then it goes depth first, the early side of a split before the late one. For each
+//! box the greedy plan is made, and kept where it is cheaper than the last; so is the plan that the
+//! least trips of a climb are, where they keep the rules. An empty box is done with, and so is one
+//! in which there is no choice. Else the run of the box's relaxation gives a leaf, and prices
+//! another one, those of rounds or those of the climb: where the bound of one reaches what the best
+//! plan costs, or where there is no room for two nodes more, the box is done with, by the one that
+//! tells more; and else it is split.
 //!
 //! The definitions stand in `specs/`: `Records` (what is handed back), `Nodes` (what is known of
 //! each node), `Bounds` (the least of bounds) and `Budgets` (a number of nodes that is enough).
@@ -27,8 +30,10 @@
 //! (`search_records_are_bounds`), and one with enough nodes is closed (`enough_nodes_close`).
 //!
 //! Memory: one box and the log of what changed on the way, some 110 bytes for each node of the tree
-//! and 24 for each row of a Dual leaf and each price of a Lag leaf, the plans, and what one run, one
-//! leaf and rounds of prices take. Time: for each node a greedy plan, a run and the rounds.
+//! and 24 for each row of a Dual leaf and each price of a Lag leaf, the plans, and what one run
+//! takes, one leaf, rounds of prices, climbs and the search for cheaper plans. Time: for each node
+//! a greedy plan, a run, the rounds, and a climb of as many steps; at the begin a climb of sixteen
+//! times as many, and the search for a cheaper plan.
 #![tactic(auto)]
 
 mod branching;

@@ -1,36 +1,39 @@
 //! What prices tell of a box.
-ghost use Rattle.std.specs.Prelude.{◌≤◌, IfOk};
+ghost use Rattle.std.specs.Prelude.{◌≤◌, IfOk, Ok};
+ghost use Rattle.dual_leaf.specs.Leaf.{IsLeafBound, IsLive};
+ghost use Rattle.flow_types.specs.declared.bound.Bound.{Bound};
 ghost use Rattle.flow_types.specs.Scenario.{parts_of};
 ghost use Rattle.lagrange_bound.specs.Best.{IsMostOfRounds, IsNear};
 ghost use Rattle.lagrange_bound.specs.Work.{most_rounds};
-ghost use Rattle.priced_leaf.specs.Leaf.{IsLagOf, TellsAs};
+ghost use Rattle.priced_leaf.specs.Leaf.{IsLagOf};
 ghost use Rattle.priced_plans.specs.Keys.{ArePlaced};
+ghost use Rattle.time_windows.specs.Boxes.{Box};
 ghost use Rattle.time_windows.specs.Held.{IsMadeFor, box_of};
-ghost use Rattle.tree_search.specs.Rooms.{ArePriceRoomsFor, IsToldBy, prices_from, weight_from};
+ghost use Rattle.tree_search.specs.Rooms.{ArePriceRoomsFor, IsToldBy, Tells, prices_from, weight_from};
 
 use crate::rooms::PriceRooms;
 use branch_tree::Leaf;
 use flow_types::{Bound, OutOfMemory, Scenario};
 use lagrange_bound::{COST_WEIGHT, is_above};
 use price_ascent::WEIGHT;
-use priced_leaf::lag_leaf;
+use priced_leaf::{closing_leaf, lag_leaf};
 use relaxed_bound::is_reached;
 use std::alloc::Global;
 use time_windows::Boxes;
 
-// How often the weight of rounds goes into that of climbs.
-const TIMES: i64 = 1024;
-
-// How many steps the first climb may take for each round, and by how much it leads at first.
+// How many steps the first climb may take for each round, and at which part of what is missing it
+// aims.
 const FIRST_STEPS: u32 = 16;
 
-const FIRST_LEAD: u32 = 16;
+const FIRST_PART: u32 = 32;
 
 /// Where prices come from.
 #[derive(Clone, Copy, Debug, PartialEq, Eq)]
 pub enum Source {
     Rounds,
     Ascent,
+    /// Those of a climb, with no weight on costs.
+    Closing,
 }
 
 /// A bound that prices tell.
@@ -40,8 +43,8 @@ pub struct Priced {
     pub source: Source,
 }
 
-/// Where a search begins: climbs from the prices of rounds, and answers what the prices tell to which
-/// that leads.
+/// Where a search begins: climbs from prices of 0, and answers what the prices tell to which that
+/// leads.
 pub fn begin_climb(
     s: &Scenario,
     boxes: &Boxes,
@@ -50,21 +53,21 @@ pub fn begin_climb(
     cutoff: Option<i64>,
 ) -> Bound
     requires made { IsMadeFor (parts_of s.now) boxes.now }
-    requires few { rounds ≤ most_rounds }
     requires rooms { ArePriceRoomsFor (parts_of s.now) rooms.old }
     ensures { ArePriceRoomsFor (parts_of s.now) rooms.new }
 {
-    let _played = rooms.rounds.play(s, boxes, rounds);
-    rooms.ascent.start_from(s, rooms.rounds.prices(), TIMES);
     let steps = rounds.saturating_mul(FIRST_STEPS);
-    rooms
-        .ascent
-        .climb(s, boxes, cutoff, Some(FIRST_LEAD), steps)
+    let climbed = rooms.ascent.climb(s, boxes, cutoff, FIRST_PART, steps);
+    if cutoff.is_none() && rooms.ascent.has_none(s, boxes) {
+        Bound::NoPlan
+    } else {
+        climbed
+    }
 }
 
 /// The greatest bound that rounds of prices tell; or, where neither that nor the bound of the run
-/// reaches the cutoff, what the prices tell to which as many steps lead from those of the climb
-/// before, if that is more.
+/// reaches the cutoff, what the prices tell that the climb before has kept, if that is more; with no
+/// cutoff, also that no plan is in the box.
 pub fn price(
     s: &Scenario,
     boxes: &Boxes,
@@ -83,7 +86,13 @@ pub fn price(
 {
     let played = rooms.rounds.play(s, boxes, rounds);
     if rounds > 0 && !is_reached(cutoff, run) && !is_reached(cutoff, played) {
-        let climbed = rooms.ascent.climb(s, boxes, cutoff, None, rounds);
+        if cutoff.is_none() && rooms.ascent.has_none(s, boxes) {
+            return Priced {
+                bound: Bound::NoPlan,
+                source: Source::Closing,
+            };
+        }
+        let climbed = rooms.ascent.tell(s, boxes);
         if is_above(climbed, played) {
             return Priced {
                 bound: climbed,
@@ -108,11 +117,16 @@ pub fn price_leaf(
     requires placed { ArePlaced (parts_of s.now) (prices_from rooms.now source) }
     ensures prices { IfOk result
         (IsLagOf (parts_of s.now) (weight_from source) (prices_from rooms.now source)) }
-    ensures bound { IfOk result
-        (TellsAs (parts_of s.now) (weight_from source) (prices_from rooms.now source)) }
+    ensures bound { IfOk result (λ leaf. (box : Box) (bound : Bound) → IsLive box
+        → Tells (parts_of s.now) box rooms.now source bound
+        → IsLeafBound (parts_of s.now) box leaf (Ok bound)) }
 {
     match source {
         Source::Rounds => lag_leaf(alloc, s, COST_WEIGHT, rooms.rounds.prices()),
         Source::Ascent => lag_leaf(alloc, s, WEIGHT, rooms.ascent.prices()),
+        Source::Closing => {
+            let leaf = closing_leaf(alloc, s, rooms.ascent.prices())?;
+            Ok(leaf)
+        }
     }
 }

@@ -26,7 +26,7 @@ pub struct PlanRooms {
     pub improver: Improver,
 }
 
-/// For rounds of prices, and climbs from them.
+/// For rounds of prices, and for climbs.
 #[derive(Drop)]
 pub struct PriceRooms {
     pub rounds: Rounds,

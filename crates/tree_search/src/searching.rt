@@ -20,6 +20,7 @@ ghost use Rattle.tree_search.specs.Searching.{IsLeft, IsSearched, IsSearching, I
 ghost use Rattle.tree_search.specs.Visits.{IsVisited};
 ghost use Rattle.tree_search.specs.Ways.{AreSteps, IsFork, IsNextOr, top_box};
 
+use crate::branching::first_choice;
 use crate::draft::{Draft, no_draft, note, offer};
 use crate::found::{Budget, Found};
 use crate::pricing::begin_climb;
@@ -54,8 +55,8 @@ fn visit(
     }
 }
 
-// A plan in the box that costs less than its greedy plan, if one is found; one that costs the bound is
-// enough.
+// A plan in the box that costs less than its greedy plan, if one is found; one that costs the bound
+// is enough.
 #[tactic(auto, using(crate::proofs::ImproveFacts::found_in_box))]
 fn find_cheaper(
     alloc: Global,
@@ -206,6 +207,54 @@ fn go_on(
     }
 }
 
+// A plan of the box to which prices lead that are found from those of the box before, if there is
+// one.
+#[tactic(auto, using(crate::proofs::ImproveFacts::kept_in_box))]
+fn find_by_prices(
+    alloc: Global,
+    s: &Scenario,
+    boxes: &Boxes,
+    rooms: &mut Rooms,
+    rounds: u32,
+    cutoff: Option<i64>,
+) -> Result<Option<Plan>, OutOfMemory>
+    requires boxes { IsMadeFor (parts_of s.now) boxes.now }
+    requires rooms { AreRoomsFor (parts_of s.now) rooms.old }
+    ensures found { IfOk result
+        (λ found. IfSome found (IsPlanIn (parts_of s.now) (box_of boxes.now))) }
+    ensures rooms { AreRoomsFor (parts_of s.now) rooms.new }
+{
+    if rounds == 0 || boxes.is_empty() || first_choice(s, boxes).is_none() {
+        return Ok(None);
+    }
+    let _climbed = rooms.prices.ascent.climb(s, boxes, cutoff, 1, rounds);
+    match rooms.prices.ascent.plan(alloc, s, boxes, cutoff)? {
+        None => Ok(None),
+        Some(plan) => Ok(rooms.plans.improver.if_kept(s, boxes, plan)),
+    }
+}
+
+// Looks for such a plan in the present box, and offers it.
+fn climb_on(
+    alloc: Global,
+    s: &Scenario,
+    walk: &Walk,
+    rooms: &mut Rooms,
+    draft: &mut Draft,
+    rounds: u32,
+) -> Result<(), OutOfMemory>
+    requires boxes { IsMadeFor (parts_of s.now) walk.now.present }
+    requires rooms { AreRoomsFor (parts_of s.now) rooms.old }
+    ensures improved { (budget : Budget) → IsSearching (parts_of s.now) budget walk.now draft.old
+        → OnOk result (IsSearching (parts_of s.now) budget walk.now draft.new) }
+    ensures nodes { OnOk result (draft.new.nodes ≡ draft.old.nodes) }
+    ensures rooms { AreRoomsFor (parts_of s.now) rooms.new }
+{
+    let found = find_by_prices(alloc, s, walk.boxes(), rooms, rounds, draft.best)?;
+    offer_found(draft, s, found)?;
+    Ok(())
+}
+
 // The same, and offers the greedy plan of the next box.
 fn step(
     alloc: Global,
@@ -229,6 +278,27 @@ fn step(
     Ok(true)
 }
 
+// The same, after a climb in the present box.
+fn advance(
+    alloc: Global,
+    s: &Scenario,
+    budget: Budget,
+    rooms: &mut Rooms,
+    walk: &mut Walk,
+    draft: &mut Draft,
+) -> Result<bool, OutOfMemory>
+    requires searching { IsSearching (parts_of s.now) budget walk.old draft.old }
+    requires few { budget.rounds ≤ most_rounds }
+    requires rooms { AreRoomsFor (parts_of s.now) rooms.old }
+    ensures stepped { IfOk result
+        (IsStepped (parts_of s.now) budget walk.old draft.old walk.new draft.new) }
+    ensures rooms { AreRoomsFor (parts_of s.now) rooms.new }
+{
+    climb_on(alloc, s, walk, rooms, draft, budget.rounds)?;
+    let more = step(alloc, s, budget, rooms, walk, draft)?;
+    Ok(more)
+}
+
 // Searches from the tight box on, which is the way's first one, until no box waits.
 fn run(
     alloc: Global,
@@ -243,7 +313,7 @@ fn run(
     requires rooms { AreRoomsFor (parts_of s.now) rooms.old }
     ensures { OnOk result (IsSearched (parts_of s.now) budget (top_box walk.old) draft.new) }
 {
-    while step(alloc, s, budget, rooms, walk, draft)? {}
+    while advance(alloc, s, budget, rooms, walk, draft)? {}
     Ok(())
 }
 
@@ -389,13 +459,13 @@ fn search_tight(
 /// Searches the box, which is one of the scenario, for a plan that costs the least, and spends no
 /// more than the budget, which has a node or more, and 2^18 rounds at the most. It hands back the
 /// plans that it found, each cheaper than the one before, and the tree that proves a bound: no plan
-/// in the box that keeps every rule costs less, and with `NoPlan` there is none. The last plan costs
-/// the bound, or there is neither a plan nor a bound, or fewer than two nodes of the budget were
-/// left (branch and bound, after Land and Doig 1960).
+/// in the box that keeps every rule costs less, and with `NoPlan` there is none. The last plan
+/// costs the bound, or there is neither a plan nor a bound, or fewer than two nodes of the budget
+/// were left (branch and bound, after Land and Doig 1960).
 ///
-/// It takes a copy of the box, what `PlanWork`, `LeafWork`, `Rounds` and `Improver` take, for each
-/// node some 110 bytes and what its leaf takes, 24 bytes a row, and for one box at a time what its
-/// run takes. The box stays as it was.
+/// It takes a copy of the box, what `PlanWork`, `LeafWork`, `Rounds`, `Ascent` and `Improver` take,
+/// for each node some 110 bytes and what its leaf takes, 24 bytes a row, and for one box at a time
+/// what its run takes. The box stays as it was.
 pub fn search(
     alloc: Global,
     s: &Scenario,

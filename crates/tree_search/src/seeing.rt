@@ -14,7 +14,7 @@ ghost use Rattle.time_windows.specs.Held.{IsMadeFor, box_of};
 ghost use Rattle.time_windows.specs.Tight.{IsTight};
 ghost use Rattle.tree_search.specs.Seen.{IsBranchOf, IsSeen, may_split};
 
-use crate::branching::{first_choice, nearest_half};
+use crate::branching::{first_choice, most_spread, nearest_half};
 use crate::found::Budget;
 use crate::pricing::{price, price_leaf};
 use crate::rooms::Rooms;
@@ -23,6 +23,7 @@ use branch_tree::Leaf;
 use dual_leaf::LeafWork;
 use flow_types::{Bound, OutOfMemory, Scenario};
 use lagrange_bound::is_above;
+use price_ascent::Ascent;
 use relaxed_bound::{Point, Relaxed, is_reached, relax};
 use std::alloc::Global;
 use time_windows::Boxes;
@@ -109,7 +110,7 @@ fn see_open(
     let run = bound_of(alloc, s, boxes, &mut rooms.leaves, &leaf);
     let priced = price(s, boxes, &mut rooms.prices, budget.rounds, cutoff, run);
     if may_split(more, cutoff, run, priced.bound) {
-        let branch = choose(s, boxes, &point, branch);
+        let branch = choose(s, boxes, &point, &rooms.prices.ascent, branch);
         Ok(Seen::Split(branch))
     } else if is_above(priced.bound, run) {
         let leaf = price_leaf(alloc, s, &rooms.prices, priced.source)?;
@@ -129,13 +130,20 @@ fn may_split(more: bool, cutoff: Option<i64>, run: Bound, priced: Bound) -> bool
     more && !is_reached(cutoff, run) && !is_reached(cutoff, priced)
 }
 
-// Where to split the box, which has this branch.
-fn choose(s: &Scenario, boxes: &Boxes, point: &Option<Point>, known: Branch) -> Branch
+// Where to split the box, which has this branch: by the run's point, where there is one, and else
+// by the trips of the last climb.
+fn choose(
+    s: &Scenario,
+    boxes: &Boxes,
+    point: &Option<Point>,
+    ascent: &Ascent,
+    known: Branch,
+) -> Branch
     requires { IsBranchOf (parts_of s.now) (box_of boxes.now) known }
     ensures { IsBranchOf (parts_of s.now) (box_of boxes.now) result }
 {
     match point {
-        None => known,
+        None => most_spread(s, boxes, ascent, known),
         Some(point) => nearest_half(s, boxes, point, known),
     }
 }

@@ -6,5 +6,5 @@ use Rattle.tree_search.proofs.pricing.price.Goals as goal
 pub returns-then-is_above-clause-most : goal.returns-then-is_above-clause-most
 returns-then-is_above-clause-most c =
     most_raised (parts_of c.args.s.now) (box_of c.args.boxes.now) c.args.rounds
-    c.play-played.result c.climb-climbed.result c.play-played.ensures.least
+    c.play-played.result c.tell-climbed.result c.play-played.ensures.least
     (c.is_above.ensures.above c.if-is_above.true)
