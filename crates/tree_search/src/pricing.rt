@@ -13,7 +13,7 @@ ghost use Rattle.tree_search.specs.Rooms.{ArePriceRoomsFor, IsToldBy, Tells, pri
 
 use crate::rooms::PriceRooms;
 use branch_tree::Leaf;
-use flow_types::{Bound, OutOfMemory, Scenario};
+use flow_types::{Bound, Flight, OutOfMemory, Scenario};
 use lagrange_bound::{COST_WEIGHT, is_above};
 use price_ascent::WEIGHT;
 use priced_leaf::{closing_leaf, lag_leaf};
@@ -26,6 +26,9 @@ use time_windows::Boxes;
 const FIRST_STEPS: u32 = 16;
 
 const FIRST_PART: u32 = 32;
+
+// How many legs, times the periods of the day, the first climb may look at.
+const MOST_LOOKS: u64 = 3_000_000_000;
 
 /// Where prices come from.
 #[derive(Clone, Copy, Debug, PartialEq, Eq)]
@@ -56,13 +59,30 @@ pub fn begin_climb(
     requires rooms { ArePriceRoomsFor (parts_of s.now) rooms.old }
     ensures { ArePriceRoomsFor (parts_of s.now) rooms.new }
 {
-    let steps = rounds.saturating_mul(FIRST_STEPS);
+    let steps = first_steps(s, rounds);
     let climbed = rooms.ascent.climb(s, boxes, cutoff, FIRST_PART, steps);
     if cutoff.is_none() && rooms.ascent.has_none(s, boxes) {
         Bound::NoPlan
     } else {
         climbed
     }
+}
+
+// How many steps the first climb may take: so many for each round, fewer on long days with many
+// legs, but as many as there are rounds.
+fn first_steps(s: &Scenario, rounds: u32) -> u32 {
+    let looks = legs_of(s.flights()).saturating_mul(u64::from(s.day().periods));
+    let most = u32::try_from(MOST_LOOKS / looks.max(1)).unwrap_or(u32::MAX);
+    rounds.saturating_mul(FIRST_STEPS).min(most).max(rounds)
+}
+
+// How many legs the flights have.
+fn legs_of(flights: &[Flight]) -> u64 {
+    let mut legs = 0u64;
+    for flight in flights {
+        legs = legs.saturating_add(flight.legs.items().len() as u64);
+    }
+    legs
 }
 
 /// The greatest bound that rounds of prices tell; or, where neither that nor the bound of the run
