@@ -1,5 +1,5 @@
 -- Multipliers that are prices, and what they say of a box.
-use Rattle.std.proofs.Common.{◌≡◌, ◌≢◌, ◌⊎◌, ℕ, ◌+◌, ◌<◌, ◌≤◌, ◌^◌, true, false, Bool, ◌&&◌, nat_eq, if◌then◌else◌, List, [], ◌∷◌, ◌++◌, All, length, take, get_or, slice_get, Option, None, Some, IfOk, Result, Ok, Err, ℤ, pos, ◌*ℤ◌, ◌≤ℤ◌, refl, sym, ap, ap₂, ◌∙◌, subst, inl, inr, arith}
+use Rattle.std.proofs.Common.{◌≡◌, ◌≢◌, ◌⊎◌, ℕ, ◌+◌, ◌<◌, ◌≤◌, ◌^◌, true, false, Bool, if◌then◌else◌, List, [], ◌∷◌, ◌++◌, All, length, take, get_or, slice_get, Option, None, Some, IfOk, Result, Ok, Err, pos, ◌*ℤ◌, refl, sym, ap, ◌∙◌, subst, inl, inr, arith}
 use Rattle.std.proofs.lemmas.Int.{ints}
 use Rattle.std.proofs.lemmas.Bool.{cases_lt}
 use Rattle.std.proofs.lemmas.Option.{get_or_from_slice_get, slice_get-get_or}
@@ -9,24 +9,20 @@ use Rattle.std.proofs.lemmas.List.{take_more}
 use Rattle.flow_types.specs.declared.bound.Bound.{Bound}
 use Rattle.flow_types.specs.declared.bound.Bound.TheVariants.{AtLeast, NoPlan}
 use Rattle.flow_types.specs.declared.bound.PriceKey.{PriceKey}
-use Rattle.flow_types.specs.declared.bound.PriceKey.TheVariants as key
 use Rattle.flow_types.specs.declared.parts.Parts.{Parts}
-use Rattle.flow_types.specs.declared.plan.Stop.{Stop}
 use Rattle.flow_types.specs.Costs.{plan_cost}
-use Rattle.flow_types.specs.Feasible.{IsFeasible}
 use Rattle.flow_types.specs.Valid.{IsScenario}
-use Rattle.flight_routes.specs.Prices.{AreFree, ArePricesOf, IsKeyOf, PriceTable, price_at}
-use Rattle.priced_plans.specs.Values.{IsPricedValue}
-use Rattle.priced_plans.specs.Valuing.{AreSmall, LacksTrip}
+use Rattle.flight_routes.specs.Prices.{PriceTable, price_at}
+use Rattle.priced_plans.specs.Valuing.{AreSmall}
 use Rattle.priced_plans.specs.Keys.{number_in, period_in, row_in}
 use Rattle.priced_plans.proofs.KeyFacts.{itself, key_at}
 use Rattle.priced_plans.proofs.SmallFacts.{key_moved}
 use Rattle.priced_plans.proofs.ValueFacts.{none-inside, value-below}
-use Rattle.time_windows.specs.Boxes.{Box, IsInBox}
+use Rattle.time_windows.specs.Boxes.{Box}
 use Rattle.branch_tree.specs.declared.leaf.Multiplier.{Multiplier}
 use Rattle.dual_leaf.specs.declared.fault.LeafFault.{LeafFault}
 use Rattle.dual_leaf.specs.Lag.{ArePricedBy, IsFirstUnpriceable, IsSetBy, is_key, is_priceable, key_of, set_by, set_on}
-use Rattle.dual_leaf.specs.Leaf.{IsBoundOn, IsLackSaid, IsPriceSaid, IsSaid, IsTableSaid}
+use Rattle.dual_leaf.specs.Leaf.{IsBoundOn, IsTableSaid}
 
 pub set-more : (rows : List Multiplier) (m : Multiplier) (at : PriceKey) (price : ℕ)
     → set_by (rows ++ m ∷ []) at price ≡ set_on (key_of m.row) m.value at (set_by rows at price)

@@ -23,7 +23,8 @@ use Rattle.greedy_plan.specs.FirstBound.{IsLeastSum, IsNear, plus}
 use Rattle.greedy_plan.specs.Greedy.{AreChosen, IsChosen, with_rest}
 use Rattle.greedy_plan.proofs.BoundFacts.{is_bound, sum_more, sum_none}
 use Rattle.greedy_plan.proofs.FeasibleFacts.{chosen_more, chosen_none, greedy_feasible, loads_none, one_more}
-use Rattle.dual_leaf.specs.Leaf.{IsBoundOn, IsCostIn, IsNearBound, IsUnitBox}
+use Rattle.dual_leaf.specs.Leaf.{IsBoundOn, IsCostIn, IsUnitBox}
+use Rattle.priced_plans.specs.PricedBound.{IsNearBound}
 use Rattle.dual_leaf.specs.UnitSums.{IsNext, IsNextTrip, IsSoFar, IsSumOf, bound_of}
 use Rattle.dual_leaf.proofs.SumsFacts.{abs_le}
 use Rattle.dual_leaf.proofs.UnitBoxFacts.{one_trip}

@@ -7,7 +7,7 @@ use Rattle.flow_types.specs.declared.plan.Stop.{Stop}
 use Rattle.flow_types.specs.Costs.{plan_cost}
 use Rattle.flow_types.specs.Feasible.{IsFeasible}
 use Rattle.flight_routes.specs.Prices.{PriceTable}
-use Rattle.priced_plans.specs.PricedBound.{IsRoundedUp}
+use Rattle.priced_plans.specs.PricedBound.{IsNearBound, IsRoundedUp}
 use Rattle.priced_plans.specs.Values.{IsPricedValue}
 use Rattle.priced_plans.specs.Valuing.{LacksTrip}
 use Rattle.time_windows.specs.Boxes.{Box, IsClosedMust, IsInBox, options_of}
@@ -136,7 +136,14 @@ IsBoundOn parts box NoPlan = IsCostIn parts box NoPlan
 IsBoundOn parts box (AtLeast least) = (plan : List (List Stop)) → IsFeasible parts plan
     → IsInBox box plan → least ≤ℤ plan_cost parts.tables parts.flights plan
 
--- not too far from 0
-abbrev pub IsNearBound : Bound → Type 0
-IsNearBound NoPlan = Unit {0}
-IsNearBound (AtLeast least) = unsigned_abs least < 2 ^ 124
+-- not too far from 0, though prices may be large beside the weight
+abbrev pub IsNearPriced : Bound → Type 0
+IsNearPriced NoPlan = Unit {0}
+IsNearPriced (AtLeast least) = unsigned_abs least < 2 ^ 124
+
+-- nearer where the leaf isn't one of prices
+abbrev pub IsNearOf : Leaf → Bound → Type 0
+IsNearOf Empty bound = IsNearBound bound
+IsNearOf UnitLeaf bound = IsNearBound bound
+IsNearOf (Dual weight rows) bound = IsNearBound bound
+IsNearOf (Lag weight rows) bound = IsNearPriced bound

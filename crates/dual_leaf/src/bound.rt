@@ -1,7 +1,8 @@
 //! What the value of a leaf says.
-ghost use Rattle.std.specs.Prelude.{◌^◌, IfOk};
+ghost use Rattle.std.specs.Prelude.{◌<◌, ◌^◌, IfOk, unsigned_abs};
 ghost use Rattle.flight_routes.specs.Rates.{IsValueWithin};
-ghost use Rattle.dual_leaf.specs.Leaf.{IsNearBound, IsSaid};
+ghost use Rattle.dual_leaf.specs.Leaf.{IsNearPriced, IsSaid};
+ghost use Rattle.priced_plans.specs.PricedBound.{IsNearBound};
 
 use crate::fault::LeafFault;
 use flow_types::Bound;
@@ -12,7 +13,8 @@ use priced_plans::rounded_up;
 pub fn said(value: i128, weight: u64) -> Result<Bound, LeafFault>
     requires near { IsValueWithin (2 ^ 123) value }
     ensures said { IsSaid weight value result }
-    ensures near { IfOk result IsNearBound }
+    ensures near { IfOk result IsNearPriced }
+    ensures nearer { unsigned_abs value < 2 ^ 115 → IfOk result IsNearBound }
 {
     if weight > 0 {
         Ok(Bound::AtLeast(rounded_up(value, weight)))

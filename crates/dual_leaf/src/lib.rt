@@ -16,15 +16,15 @@
 //!
 //! The definitions stand in `specs/`: `Leaf` (the bound of a leaf, or why it has none), `Dual` (what
 //! a Dual leaf comes to: the Lagrangian dual of the by-time program) and `Lag` (the prices that a Lag
-//! leaf is; what these come to is said in `priced_plans`). The others serve the proof: `Columns` (a position for each variable that a tight box may leave free), `Landing`
-//! (where a variable counts, and how sums grow), `Slots`, `Sums`, `Rows`, `Options`, `UnitSums`,
-//! and `Work` (the room).
+//! leaf is; what these come to is said in `priced_plans`). The others serve the proof: `Columns` (a
+//! position for each variable that a tight box may leave free), `Landing` (where a variable counts,
+//! and how sums grow), `Slots`, `Sums`, `Rows`, `Options`, `UnitSums`, and `Work` (the room).
 //!
 //! Proved: `leaf_bound` gives exactly the bound of the leaf, or exactly the first fault (`bound`),
 //! and no plan in the box that keeps every rule costs less, whoever chose the multipliers
 //! (`sound`). So it is of any bound that the definition gives a leaf (`leaf_bounds_are_bounds`),
-//! which serves trees of leaves. What `leaf_bound` gives is nearer to 0 than 2^124 (`near`), so
-//! that sums with it have room.
+//! which serves trees of leaves. What `leaf_bound` gives is nearer to 0 than 2^115, and than 2^124
+//! for a Lag leaf (`near`), so that sums with it have room.
 //!
 //! A Dual leaf is worked out in sums: a constant, and a factor for each variable that is free. Each
 //! term of the cost row and of the rows is looked up in the box, and lands in the constant, at a

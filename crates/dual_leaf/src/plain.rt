@@ -4,7 +4,8 @@ ghost use Rattle.flow_types.specs.Scenario.{parts_of};
 ghost use Rattle.flight_routes.specs.Work.{IsWorkFor};
 ghost use Rattle.plan_rules.specs.Loads.{IsMadeFor as AreLoadsFor};
 ghost use Rattle.time_windows.specs.Held.{IsMadeFor, box_of};
-ghost use Rattle.dual_leaf.specs.Leaf.{IsBoundOn, IsEmptyBound, IsNearBound, IsUnitBound};
+ghost use Rattle.dual_leaf.specs.Leaf.{IsBoundOn, IsEmptyBound, IsUnitBound};
+ghost use Rattle.priced_plans.specs.PricedBound.{IsNearBound};
 
 use crate::fault::LeafFault;
 use crate::options::{first_closed, first_other};

@@ -7,7 +7,8 @@ ghost use Rattle.plan_rules.specs.Loads.{AreLoads, IsMadeFor as AreLoadsFor};
 ghost use Rattle.time_windows.specs.Held.{IsMadeFor, box_of};
 ghost use Rattle.greedy_plan.specs.FirstBound.{IsNear, plus};
 ghost use Rattle.greedy_plan.specs.Greedy.{with_rest};
-ghost use Rattle.dual_leaf.specs.Leaf.{IsBoundOn, IsCostIn, IsNearBound, IsUnitBox};
+ghost use Rattle.dual_leaf.specs.Leaf.{IsBoundOn, IsCostIn, IsUnitBox};
+ghost use Rattle.priced_plans.specs.PricedBound.{IsNearBound};
 ghost use Rattle.dual_leaf.specs.UnitSums.{IsNext, IsSoFar, bound_of};
 
 use flight_routes::Work;

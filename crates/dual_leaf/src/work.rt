@@ -8,7 +8,8 @@ ghost use Rattle.time_windows.specs.Tight.{IsTight};
 ghost use Rattle.bytime_model.specs.Visits.{AreVisitsOf};
 ghost use Rattle.branch_tree.specs.Leaves.{HasRange};
 ghost use Rattle.dual_leaf.specs.Columns.{AreColumnsOf};
-ghost use Rattle.dual_leaf.specs.Leaf.{IsBoundOn, IsDualAnswer, IsLagAnswer, IsNearBound};
+ghost use Rattle.dual_leaf.specs.Leaf.{IsBoundOn, IsDualAnswer, IsLagAnswer, IsNearPriced};
+ghost use Rattle.priced_plans.specs.PricedBound.{IsNearBound};
 
 use crate::bound::said;
 use crate::columns::Columns;
@@ -62,7 +63,7 @@ impl LeafWork {
     ghost use Rattle.time_windows.specs.Held.{IsMadeFor, box_of};
     ghost use Rattle.time_windows.specs.Tight.{IsTight};
     ghost use Rattle.branch_tree.specs.Leaves.{IsInRange};
-    ghost use Rattle.dual_leaf.specs.Leaf.{IsBoundOn, IsLeafBound, IsNearBound};
+    ghost use Rattle.dual_leaf.specs.Leaf.{IsBoundOn, IsLeafBound, IsNearOf};
     ghost use Rattle.dual_leaf.specs.Work.{IsRoomFor};
 
     /// Room for the leaves of the scenario: 20 bytes for each variable that the tight root box
@@ -99,7 +100,7 @@ impl LeafWork {
     /// pay; where a flight has no trip in the box it has `NoPlan`. The last multiplier of a row
     /// counts. With the weight 0 a value above 0 gives `NoPlan`.
     ///
-    /// The bound is nearer to 0 than 2^124.
+    /// The bound is nearer to 0 than 2^115, that of a Lag leaf than 2^124.
     ///
     /// The fault is the first of those that `LeafFault` lists. No cut has a row yet, whatever the
     /// pool. It takes no memory, and time for each node; for a Dual leaf also for each period by
@@ -118,7 +119,7 @@ impl LeafWork {
         requires range { IsInRange leaf.now }
         ensures bound { IsLeafBound (parts_of s.now) (box_of boxes.now) leaf.now result }
         ensures sound { IfOk result (IsBoundOn (parts_of s.now) (box_of boxes.now)) }
-        ensures near { IfOk result IsNearBound }
+        ensures near { IfOk result (IsNearOf leaf.now) }
         ensures made { IsRoomFor (parts_of s.now) self.new }
     {
         match leaf {
@@ -193,7 +194,7 @@ fn lag_bound(
     requires range { HasRange weight rows.now }
     ensures bound { IsLagAnswer (parts_of s.now) (box_of boxes.now) weight rows.now result }
     ensures sound { IfOk result (IsBoundOn (parts_of s.now) (box_of boxes.now)) }
-    ensures near { IfOk result IsNearBound }
+    ensures near { IfOk result IsNearPriced }
     ensures work { IsWorkFor (parts_of s.now) work.new }
     ensures prices { ArePricesOf (parts_of s.now) prices.new }
 {

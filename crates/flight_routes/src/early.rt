@@ -137,6 +137,20 @@ pub fn about_first_end(accesses: &[Access], rates: &RateTable, last: u16) -> u32
     first_rated(rates, End::Arrival, arrives).max(u32::from(arrives.lo) + waits)
 }
 
+/// The last period in which the flight can arrive, 0 where it can't.
+pub fn last_end(accesses: &[Access], rates: &RateTable, last: u16) -> u32
+    requires accesses { length accesses.now ≡ most_nodes }
+    requires windows { AreWindows rates.now.periods (row_of accesses.now) }
+    requires few { rates.now.periods ≤ most_periods }
+    requires last { last < most_nodes }
+    ensures { result < most_periods }
+{
+    match window_at(accesses, last) {
+        None => 0,
+        Some(window) => u32::from(window.hi),
+    }
+}
+
 // No more than any way costs that ends in the periods from `lo` to `hi`: it leaves and arrives at
 // some cost, takes its time, and what it pays in between isn't below 0. None only where there is no
 // such way.

@@ -11,7 +11,7 @@ use time_windows::{End, Turn};
 /// Sets the sum of each period to what the connections cost from then on: with a departure from the
 /// period itself, with an arrival from the turnaround after it.
 pub fn add_up_later(sums: &mut [u128], prices: &Prices, turns: &[Turn], end: End, periods: u16)
-    requires sums { length sums.old ≡ most_periods }
+    requires sums { length sums.old ≡ periods }
     requires periods { periods ≤ most_periods }
     requires long { prices.now.turns.periods ≡ periods }
     requires turns { All (λ turn. turn.connection < prices.now.turns.rows) turns.now }
@@ -19,7 +19,7 @@ pub fn add_up_later(sums: &mut [u128], prices: &Prices, turns: &[Turn], end: End
     ensures sums { (t : ℕ) → t < periods → slice_index sums.new t
         ≡ sum_by (λ turn. summed (price_in prices.now.turns turn.connection)
         (t + shift_of end turn) periods) turns.now }
-    ensures length { length sums.new ≡ most_periods }
+    ensures length { length sums.new ≡ periods }
     ensures small { (t : ℕ) → slice_index sums.new t ≤ most_connections * 2 ^ 71 }
 {
     clear_sums(sums);
@@ -50,7 +50,7 @@ fn clear_sums(sums: &mut [u128])
 
 // Adds to the sum of each period what one connection costs from so many periods later on.
 fn add_later(sums: &mut [u128], prices: &Prices, connection: u32, shift: u16, periods: u16)
-    requires sums { length sums.old ≡ most_periods }
+    requires sums { length sums.old ≡ periods }
     requires periods { periods ≤ most_periods }
     requires long { prices.now.turns.periods ≡ periods }
     requires connection { connection < prices.now.turns.rows }
@@ -61,11 +61,12 @@ fn add_later(sums: &mut [u128], prices: &Prices, connection: u32, shift: u16, pe
         + summed (price_in prices.now.turns connection) (t + shift) periods }
     ensures small { (t : ℕ) → slice_index sums.new t ≤ slice_index sums.old t + 2 ^ 71 }
 {
+    let turns = prices.turns(connection);
     let mut sum = 0u128;
     let mut time = periods;
     while shift < time {
         time -= 1;
-        sum += u128::from(prices.turn(connection, time));
+        sum += u128::from(turns[usize::from(time)]);
         sums[usize::from(time - shift)] += sum;
     }
 }

@@ -25,7 +25,7 @@ impl Model for PriceBlock {
 }
 
 impl PriceBlock {
-    ghost use Rattle.std.specs.Prelude.{◌*◌, ◌^◌, ◌<◌, ℕ, IfOk};
+    ghost use Rattle.std.specs.Prelude.{◌≡◌, ◌*◌, ◌^◌, ◌<◌, ℕ, All, IfOk, length, slice_index};
     ghost use Rattle.flight_routes.specs.Prices.{IsPlaceIn, IsSized, SetsPrice, price_in};
 
     /// A block of zeros.
@@ -48,6 +48,18 @@ impl PriceBlock {
         ensures small { result < 2 ^ 62 }
     {
         self.prices[row as usize * usize::from(self.periods) + usize::from(period)]
+    }
+
+    /// The prices of the row, period by period.
+    pub fn row(&self, row: u32) -> &[u64]
+        requires { row < self.now.rows }
+        ensures length { length result.now ≡ self.now.periods }
+        ensures prices { (t : ℕ) → t < self.now.periods
+            → slice_index result.now t ≡ price_in self.now row t }
+        ensures small { All (λ price. price < 2 ^ 62) result.now }
+    {
+        let start = row as usize * usize::from(self.periods);
+        &self.prices[start..start + usize::from(self.periods)]
     }
 
     /// Sets the price of the row in the period.

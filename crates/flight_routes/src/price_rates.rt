@@ -116,7 +116,7 @@ fn set_end(
     requires flight { flight < length (parts_of s.now).flights }
     requires window { window.hi < (parts_of s.now).day.periods }
     requires weight { weight < 2 ^ 62 }
-    requires sums { length sums.now ≡ most_periods }
+    requires sums { length sums.now ≡ (parts_of s.now).day.periods }
     requires small { (t : ℕ) → slice_index sums.now t ≤ most_connections * 2 ^ 71 }
     ensures costs { (t : ℕ) → window.lo ≤ t → t ≤ window.hi
         → rate_at end (rates_of table.new) t ≡ Some (end_value end weight prices.now
@@ -142,10 +142,11 @@ fn set_paid(table: &mut RateTable, s: &Scenario, node: u16, place: u32, prices: 
     ensures only { OnlyPaid node table.old table.new }
     ensures within { ArePaidSmall table.old → ArePaidSmall table.new }
 {
+    let stays = prices.stays(place);
     let mut sum = 0u128;
     for time in 0..s.day().periods {
         table.set_paid(node, time, sum);
-        sum += u128::from(prices.stay(place, time));
+        sum += u128::from(stays[usize::from(time)]);
     }
 }
 
@@ -167,13 +168,13 @@ fn set_end_rates(
     requires flight { flight < length (parts_of s.now).flights }
     requires window { window.hi < (parts_of s.now).day.periods }
     requires weight { weight < 2 ^ 62 }
-    requires sums { length sums.old ≡ most_periods }
+    requires sums { length sums.old ≡ (parts_of s.now).day.periods }
     ensures costs { (t : ℕ) → window.lo ≤ t → t ≤ window.hi
         → rate_at end (rates_of table.new) t ≡ Some (end_cost end weight prices.now
         (parts_of s.now) flight (flight_at s.now flight) t) }
     ensures only { OnlyEnd end table.old table.new }
     ensures within { AreSmallAt end table.old → AreSmallAt end table.new }
-    ensures sums { length sums.new ≡ most_periods }
+    ensures sums { length sums.new ≡ (parts_of s.now).day.periods }
 {
     add_up_later(
         sums,
@@ -205,13 +206,13 @@ fn set_end_in(
     requires windows { AreWindows (parts_of s.now).day.periods (row_of accesses.now) }
     requires node { node < most_nodes }
     requires weight { weight < 2 ^ 62 }
-    requires sums { length sums.old ≡ most_periods }
+    requires sums { length sums.old ≡ (parts_of s.now).day.periods }
     ensures costs { (t : ℕ) → IsInWindow (row_of accesses.now node).window t
         → rate_at end (rates_of table.new) t ≡ Some (end_cost end weight prices.now
         (parts_of s.now) flight (flight_at s.now flight) t) }
     ensures only { OnlyEnd end table.old table.new }
     ensures within { AreSmallAt end table.old → AreSmallAt end table.new }
-    ensures sums { length sums.new ≡ most_periods }
+    ensures sums { length sums.new ≡ (parts_of s.now).day.periods }
 {
     if let Some(window) = accesses[usize::from(node)].window {
         set_end_rates(table, sums, s, flight, end, window, weight, prices, turns);
@@ -256,13 +257,13 @@ pub fn set_price_rates(
     requires accesses { length accesses.now ≡ most_nodes }
     requires windows { AreWindows (parts_of s.now).day.periods (row_of accesses.now) }
     requires weight { weight < 2 ^ 62 }
-    requires sums { length sums.old ≡ most_periods }
+    requires sums { length sums.old ≡ (parts_of s.now).day.periods }
     ensures rates { (details : Flight) → flight_at s.now flight ≡ Some details
         → AreTripRates weight prices.now (parts_of s.now) flight details (row_of accesses.now)
         (rates_of table.new) }
     ensures table { IsPriceTable table.new }
     ensures periods { table.new.periods ≡ table.old.periods }
-    ensures sums { length sums.new ≡ most_periods }
+    ensures sums { length sums.new ≡ (parts_of s.now).day.periods }
 {
     let details = &s.flights()[flight as usize];
     let last = last_of(details);

@@ -31,7 +31,7 @@ impl Model for Prices {
 }
 
 impl Prices {
-    ghost use Rattle.std.specs.Prelude.{◌^◌, ◌<◌, ◌≢◌, IfOk};
+    ghost use Rattle.std.specs.Prelude.{◌≡◌, ◌^◌, ◌<◌, ◌≢◌, ℕ, All, IfOk, length, slice_index};
     ghost use Rattle.flow_types.specs.declared.bound.PriceKey.{PriceKey};
     ghost use Rattle.flow_types.specs.declared.parts.Parts.{Parts};
     ghost use Rattle.flow_types.specs.Scenario.{parts_of};
@@ -117,6 +117,28 @@ impl Prices {
         ensures small { result < 2 ^ 62 }
     {
         self.inside.get(place, period)
+    }
+
+    /// The prices of the periods in a sector.
+    pub fn stays(&self, place: u32) -> &[u64]
+        requires { place < self.now.inside.rows }
+        ensures length { length result.now ≡ self.now.inside.periods }
+        ensures prices { (t : ℕ) → t < self.now.inside.periods
+            → slice_index result.now t ≡ price_in self.now.inside place t }
+        ensures small { All (λ price. price < 2 ^ 62) result.now }
+    {
+        self.inside.row(place)
+    }
+
+    /// The prices of a connection from each period on.
+    pub fn turns(&self, connection: u32) -> &[u64]
+        requires { connection < self.now.turns.rows }
+        ensures length { length result.now ≡ self.now.turns.periods }
+        ensures prices { (t : ℕ) → t < self.now.turns.periods
+            → slice_index result.now t ≡ price_in self.now.turns connection t }
+        ensures small { All (λ price. price < 2 ^ 62) result.now }
+    {
+        self.turns.row(connection)
     }
 
     /// The price of a connection from a period on.

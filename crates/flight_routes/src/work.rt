@@ -11,7 +11,7 @@ ghost use Rattle.flight_routes.specs.TripOrder.{IsNoLater};
 
 use crate::cost::Cost;
 use crate::distances::distances_of;
-use crate::early::{about_first_end, early_way};
+use crate::early::{about_first_end, early_way, last_end};
 use crate::fit_rates::set_fit_rates;
 use crate::price_rates::set_price_rates;
 use crate::prices::Prices;
@@ -53,7 +53,7 @@ impl Model for Work {
     ghost invariant = { λ a. (a.priced.periods ≡ a.periods) × (a.fitting.periods ≡ a.periods)
         × IsPriceTable a.priced × IsFitTable a.fitting
         × (vec_len a.accesses ≡ most_nodes) × (vec_len a.cut ≡ most_nodes)
-        × (vec_len a.sums ≡ most_periods)
+        × (vec_len a.sums ≡ a.periods)
         × (most_nodes ≤ vec_capacity a.stops) };
 }
 
@@ -84,7 +84,7 @@ impl Work {
             table: Table::new(alloc)?,
             accesses: no_accesses(alloc)?,
             cut: no_accesses(alloc)?,
-            sums: no_sums(alloc)?,
+            sums: no_sums(alloc, periods)?,
             stops: Vec::with_capacity(alloc, MOST_NODES)?,
         })
     }
@@ -203,11 +203,11 @@ fn no_accesses(alloc: Global) -> Result<Vec<Access>, OutOfMemory>
     Ok(vec![in alloc; closed; 32]?)
 }
 
-// A sum of nothing for each period that a day may have.
-fn no_sums(alloc: Global) -> Result<Vec<u128>, OutOfMemory>
-    ensures { IfOk result (λ sums. vec_len sums ≡ most_periods) }
+// A sum of nothing for each period of the day.
+fn no_sums(alloc: Global, periods: u16) -> Result<Vec<u128>, OutOfMemory>
+    ensures { IfOk result (λ sums. vec_len sums ≡ periods) }
 {
-    Ok(vec![in alloc; 0; 512]?)
+    Ok(vec![in alloc; 0; usize::from(periods)]?)
 }
 
 // Puts what the box says of each node of the flight into a row.
@@ -251,8 +251,8 @@ fn whole_way(
     least
 }
 
-// The same. It looks among the ways that end early first: while a later one may cost as little,
-// among those that have twice as many periods.
+// The same. Where ways may end late, it looks among those that end early first: while a later one
+// may cost as little, among those that have twice as many periods.
 fn least_way(
     table: &mut Table,
     flight: &Flight,
@@ -278,8 +278,9 @@ fn least_way(
     let last = (flight.nodes.items().len() - 1) as u16;
     let distances = distances_of(flight);
     let first = about_first_end(accesses, rates, last);
+    let end = last_end(accesses, rates, last);
     let mut width = 32u32;
-    while first + width < u32::from(rates.periods()) {
+    while first + width < end {
         let cap = (first + width) as u16;
         let early = early_way(
             table, flight, accesses, cut, rates, &distances, last, cap, stops,

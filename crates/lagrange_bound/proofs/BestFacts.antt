@@ -1,5 +1,5 @@
 -- The best of rounds, one round after another.
-use Rattle.std.proofs.Common.{◌≡◌, ◌⊎◌, ℕ, zero, suc, ◌+◌, ◌<◌, ◌≤◌, Bool, true, false, if◌then◌else◌, List, length, slice_get, inl, inr, sym, subst, ◌∙◌, arith}
+use Rattle.std.proofs.Common.{◌≡◌, ◌⊎◌, ℕ, zero, suc, ◌+◌, ◌<◌, ◌≤◌, Bool, true, false, if◌then◌else◌, List, length, slice_get, inl, inr, refl, sym, subst, ◌∙◌, arith}
 use Rattle.std.proofs.lemmas.Bool.{cases_lt}
 use Rattle.std.proofs.lemmas.Int.{ints}
 use Rattle.flow_types.specs.declared.bound.Bound.{Bound}
@@ -15,7 +15,8 @@ use Rattle.flight_routes.specs.Prices.{AreFree, ArePricesOf, PriceTable, price_i
 use Rattle.plan_rules.specs.Cells.{Tally}
 use Rattle.time_windows.specs.Boxes.{Box}
 use Rattle.priced_plans.specs.Keys.{ArePlaced}
-use Rattle.lagrange_bound.specs.Best.{IsAtMost, IsMostOfRounds}
+use Rattle.priced_plans.specs.Valuing.{LacksTrip}
+use Rattle.lagrange_bound.specs.Best.{HaveBounds, IsAtMost, IsMostOfRounds}
 use Rattle.lagrange_bound.specs.Rounds.{IsMovedBy, IsRoundBound, IsRoundStep, IsRoundTable, IsTableBound, moved, step_of}
 use Rattle.lagrange_bound.specs.Taking.{HaveTaken}
 use Rattle.lagrange_bound.specs.Work.{AreLow, ArePlayed, AreTakenFor, IsBest}
@@ -39,11 +40,17 @@ module _ (parts : Parts) (box : Box) (valid : IsScenario parts) where
   -- the first prices
   most_first : (table : PriceTable) (told : Bound) → IsRoundTable parts box 0 table
       → IsTableBound parts box table told → IsMostOfRounds parts box 0 told
-  most_first table told first is = λ round bound within at.
-      let none : round ≡ 0 = omega (arith, within) in
-      let same = round_same parts box 0 bound told valid
-      (subst (λ n. IsRoundBound parts box n bound) none at) (table, first, is) in
-      subst (λ b. IsAtMost b told) (sym same) (at_most_itself told)
+  most_first table told first is = record {
+    told = λ round within.
+        let none : 0 ≡ round = omega (arith, within) in
+        subst (λ n. (bound : Bound) × IsRoundBound parts box n bound) none
+        (told, (table, first, is));
+    no_more = λ round bound within at.
+        let none : round ≡ 0 = omega (arith, within) in
+        let same = round_same parts box 0 bound told valid
+        (subst (λ n. IsRoundBound parts box n bound) none at) (table, first, is) in
+        subst (λ b. IsAtMost b told) (sym same) (at_most_itself told);
+  }
 
   pub first_played : (table best : PriceTable) (loads : Tally) (told : Bound)
       → ArePricesOf parts table → AreFree table → IsTableBound parts box table told
@@ -75,14 +82,24 @@ module _ (parts : Parts) (box : Box) (valid : IsScenario parts) where
 
     most_more : (up : Bound) → IsAtMost bound up → IsAtMost told up
         → IsMostOfRounds parts box (n + 1) up
-    most_more up one two = λ round other within at. by round other within at
-        (cases_lt round (n + 1))
+    most_more up one two = record {
+      told = λ round within. has round within (cases_lt round (n + 1));
+      no_more = λ round other within at. by round other within at (cases_lt round (n + 1));
+    }
       where
+        has : (round : ℕ) → round ≤ n + 1 → (round < n + 1) ⊎ (n + 1 ≤ round)
+            → (other : Bound) × IsRoundBound parts box round other
+        has round within (inl before) = played.kept.most.told round (omega (arith, before))
+        has round within (inr past) =
+            let last : n + 1 ≡ round = omega (arith, within, past) in
+            subst (λ m. (other : Bound) × IsRoundBound parts box m other) last
+            (told, (new, table_more, is))
+
         by : (round : ℕ) (other : Bound) → round ≤ n + 1 → IsRoundBound parts box round other
             → (round < n + 1) ⊎ (n + 1 ≤ round) → IsAtMost other up
         by round other within at (inl before) =
             at_most_through other bound up
-            (played.kept.most round other (omega (arith, before)) at) one
+            (played.kept.most.no_more round other (omega (arith, before)) at) one
         by round other within at (inr past) =
             let last : round ≡ n + 1 = omega (arith, within, past) in
             let same = round_same parts box (n + 1) other told valid
@@ -131,6 +148,20 @@ module _ (parts : Parts) (box : Box) (valid : IsScenario parts) where
       });
     }
 
+-- once a flight has no trip in the box, each round leaves the prices
+rounds_go_on : (parts : Parts) (box : Box) (n : ℕ) → LacksTrip parts box
+    → HaveBounds parts box n → (m : ℕ) → HaveBounds parts box m
+rounds_go_on parts box n lacks have m = λ round within. at round
+  where
+    at : (round : ℕ) → (bound : Bound) × IsRoundBound parts box round bound
+    at zero = have zero (omega arith)
+    at (suc before) =
+        let last = at before in
+        let table = last.1.0 in
+        let same : IsRoundStep parts box (suc before) table table =
+        inr (record { none = lacks; same = refl }) in
+        (NoPlan, (table, (table, last.1.1, same), lacks))
+
 -- where there is no plan, no round tells more
 pub best_ends : (parts : Parts) (box : Box) (n rounds : ℕ) (best : PriceTable) → n ≤ rounds
     → IsBest parts box n best NoPlan → IsBest parts box rounds best NoPlan
@@ -142,7 +173,10 @@ best_ends parts box n rounds best up is = record {
     after = is.one.after;
   };
   told = is.told;
-  most = λ round bound within at. tt;
+  most = record {
+    told = rounds_go_on parts box n is.told is.most.told rounds;
+    no_more = λ round bound within at. tt;
+  };
 }
 
 -- a price that a round has nothing to move by stays 0

@@ -1,8 +1,7 @@
 -- Tables with the same prices for the day: trips cost the same with both, both move alike, and what
 -- they tell is the same.
-use Rattle.std.proofs.Common.{◌≡◌, ◌⊎◌, ℕ, zero, suc, ◌+◌, ◌-◌, ◌*◌, ◌<◌, ◌≤◌, ◌==◌, Bool, true, false, if◌then◌else◌, List, [], ◌∷◌, length, slice_get, sum_by, Option, Some, ℤ, pos, ◌+ℤ◌, ◌-ℤ◌, ◌*ℤ◌, inl, inr, refl, sym, ap, ap₂, ◌∙◌, subst, arith}
+use Rattle.std.proofs.Common.{◌≡◌, ℕ, zero, suc, ◌+◌, ◌-◌, ◌*◌, ◌<◌, ◌≤◌, ◌==◌, Bool, true, false, if◌then◌else◌, List, [], ◌∷◌, length, slice_get, sum_by, Option, Some, ℤ, pos, ◌+ℤ◌, ◌-ℤ◌, ◌*ℤ◌, inl, inr, refl, sym, ap, ap₂, ◌∙◌, subst, arith}
 use Rattle.std.specs.List.{range_with_len}
-use Rattle.std.proofs.lemmas.Bool.{cases_lt}
 use Rattle.std.proofs.lemmas.Int.{ints}
 use Rattle.exact_sums.specs.Leasts.{IsFirstLeast, IsLeastAt}
 use Rattle.exact_sums.proofs.ItemFacts.{All-item, item_there}
@@ -30,6 +29,7 @@ use Rattle.time_windows.specs.Boxes.{Box}
 use Rattle.priced_plans.specs.PricedBound.{IsRoundedUp}
 use Rattle.priced_plans.specs.Values.{IsPricedSum, IsPricedValue, capacity_price, limit_price}
 use Rattle.priced_plans.specs.Valuing.{LacksTrip}
+use Rattle.priced_plans.proofs.OnceFacts.{lacks_none}
 use Rattle.priced_plans.proofs.RangeFacts.{range-same}
 use Rattle.priced_plans.specs.Keys.{IsKeyFor}
 use Rattle.lagrange_bound.specs.Rounds.{AreLeastTrips, IsLeastTrip, IsMovedBy, IsRoundBound, IsRoundStep, IsRoundTable, IsTableBound, cost_weight, moved_by_capacity, moved_by_turn, step_of}
@@ -247,26 +247,7 @@ module _ (parts : Parts) (valid : IsScenario parts) (a b : PriceTable)
         (sum_same (length parts.flights) p.sum q.sum p.least q.least) limit_same
         ∙ sym q.less
 
--- where there is a sum, each flight has a trip
-sum_trip : (parts : Parts) (box : Box) (table : PriceTable) (n k : ℕ) (sum : ℤ)
-    → IsPricedSum parts box cost_weight table n sum → k < n → (k < n - 1) ⊎ (n - 1 ≤ k)
-    → (stops : List Stop) × IsTripIn parts box k stops
-sum_trip parts box table zero k sum is below at = absurd (omega (arith, below))
-sum_trip parts box table (suc n) k sum is below (inl before) =
-    sum_trip parts box table n k is.0 is.2 (omega (arith, before)) (cases_lt k (n - 1))
-sum_trip parts box table (suc n) k sum is below (inr here) =
-    let last : n ≡ k = omega (arith, below, here) in
-    let reached = is.3.reached in
-    (reached.0, subst (λ m. IsTripIn parts box m reached.0) last reached.1)
-
-lacks_none : (parts : Parts) (box : Box) (table : PriceTable) (value : ℤ) → LacksTrip parts box
-    → IsPricedValue parts box cost_weight table value → ⊥
-lacks_none parts box table value lacks is =
-    let has = sum_trip parts box table (length parts.flights) lacks.number is.sum is.least
-    lacks.within (cases_lt lacks.number (length parts.flights - 1)) in
-    lacks.none has.0 has.1
-
--- nor is there then a flight without one among least trips
+-- no flight lacks a trip where there are least trips
 lacks_least : (parts : Parts) (box : Box) (table : PriceTable) (trips : List (List Stop))
     → LacksTrip parts box → AreLeastTrips parts box table trips → ⊥
 lacks_least parts box table trips lacks are =
@@ -358,8 +339,8 @@ module _ (parts : Parts) (box : Box) (valid : IsScenario parts) where
   pub bound_same : (a b : PriceTable) (x y : Bound) → AreSame parts a b
       → IsTableBound parts box a x → IsTableBound parts box b y → x ≡ y
   bound_same a b NoPlan NoPlan same p q = refl
-  bound_same a b NoPlan (AtLeast y) same p q = absurd (lacks_none parts box b q.0 p q.1)
-  bound_same a b (AtLeast x) NoPlan same p q = absurd (lacks_none parts box a p.0 q p.1)
+  bound_same a b NoPlan (AtLeast y) same p q = absurd (lacks_none parts box cost_weight b q.0 p q.1)
+  bound_same a b (AtLeast x) NoPlan same p q = absurd (lacks_none parts box cost_weight a p.0 q p.1)
   bound_same a b (AtLeast x) (AtLeast y) same p q =
       ap AtLeast
       (rounded_same q.0 cost_weight x y

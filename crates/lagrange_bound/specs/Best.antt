@@ -1,5 +1,5 @@
 -- The best of so many rounds: the prices whose bound is the greatest.
-use Rattle.std.specs.Prelude.{ℕ, ◌≤◌, ◌<◌, ◌^◌, ◌≤ℤ◌, unsigned_abs}
+use Rattle.std.specs.Prelude.{ℕ, ◌≤◌, ◌≤ℤ◌}
 use Rattle.flow_types.specs.declared.bound.Bound.{Bound}
 use Rattle.flow_types.specs.declared.bound.Bound.TheVariants.{AtLeast, NoPlan}
 use Rattle.flow_types.specs.declared.parts.Parts.{Parts}
@@ -13,11 +13,6 @@ IsAtMost first NoPlan = Unit {0}
 IsAtMost NoPlan (AtLeast second) = ⊥
 IsAtMost (AtLeast first) (AtLeast second) = first ≤ℤ second
 
--- not too far from 0
-abbrev pub IsNear : Bound → Type 0
-IsNear NoPlan = Unit {0}
-IsNear (AtLeast least) = unsigned_abs least < 2 ^ 124
-
 -- the prices after one of so many rounds
 pub record IsOneOfRounds (parts : Parts) (box : Box) (rounds : ℕ) (table : PriceTable)
     : Type 0 where
@@ -25,8 +20,14 @@ pub record IsOneOfRounds (parts : Parts) (box : Box) (rounds : ℕ) (table : Pri
   pub within : round ≤ rounds
   pub after : IsRoundTable parts box round table
 
--- no round up to this one has a greater bound
-abbrev pub IsMostOfRounds : Parts → Box → ℕ → Bound → Type 0
-IsMostOfRounds parts box rounds most =
-    (round : ℕ) (bound : Bound) → round ≤ rounds → IsRoundBound parts box round bound
-    → IsAtMost bound most
+-- each round up to this one tells a bound
+abbrev pub HaveBounds : Parts → Box → ℕ → Type 0
+HaveBounds parts box rounds =
+    (round : ℕ) → round ≤ rounds → (bound : Bound) × IsRoundBound parts box round bound
+
+-- and none a greater one
+pub record IsMostOfRounds (parts : Parts) (box : Box) (rounds : ℕ) (most : Bound)
+    : Type 0 where
+  pub told : HaveBounds parts box rounds
+  pub no_more : (round : ℕ) (bound : Bound) → round ≤ rounds → IsRoundBound parts box round bound
+      → IsAtMost bound most

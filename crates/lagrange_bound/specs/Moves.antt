@@ -1,5 +1,5 @@
 -- How prices move by what loads count, price by price.
-use Rattle.std.specs.Prelude.{◌≡◌, ◌≤◌, ◌<◌, ℕ, ◌+◌, ◌^◌, Bool, ◌&&◌, nat_eq, nat_lt, if◌then◌else◌, length, Option, None, Some, slice_get}
+use Rattle.std.specs.Prelude.{◌≡◌, ◌≤◌, ◌<◌, ℕ, ◌+◌, ◌^◌, Bool, ◌&&◌, nat_eq, nat_lt, if◌then◌else◌, Option, None, Some, slice_get}
 use Rattle.flow_types.specs.declared.bound.PriceKey.{PriceKey}
 use Rattle.flow_types.specs.declared.bound.PriceKey.TheVariants as key
 use Rattle.flow_types.specs.declared.flight.Connection.{Connection}

@@ -6,7 +6,8 @@ ghost use Rattle.flight_routes.specs.Work.{IsWorkFor};
 ghost use Rattle.plan_rules.specs.Loads.{IsMadeFor as AreLoadsFor};
 ghost use Rattle.time_windows.specs.Boxes.{Box};
 ghost use Rattle.time_windows.specs.Held.{IsMadeFor, box_of};
-ghost use Rattle.lagrange_bound.specs.Best.{IsAtMost, IsNear};
+ghost use Rattle.lagrange_bound.specs.Best.{IsAtMost};
+ghost use Rattle.priced_plans.specs.PricedBound.{IsNearBound};
 ghost use Rattle.lagrange_bound.specs.Rounds.{IsRoundStep, IsTableBound};
 ghost use Rattle.lagrange_bound.specs.Taking.{HaveTaken};
 ghost use Rattle.lagrange_bound.specs.Work.{AreLow, ArePlayed, AreTakenFor, IsBest, most_rounds};
@@ -50,9 +51,9 @@ impl Rounds {
     ghost use Rattle.flow_types.specs.Scenario.{parts_of};
     ghost use Rattle.flight_routes.specs.Prices.{AreFree};
     ghost use Rattle.time_windows.specs.Held.{IsMadeFor, box_of};
-    ghost use Rattle.priced_plans.specs.PricedBound.{BoundsFeasible};
+    ghost use Rattle.priced_plans.specs.PricedBound.{BoundsFeasible, IsNearBound};
     ghost use Rattle.priced_plans.specs.Keys.{ArePlaced};
-    ghost use Rattle.lagrange_bound.specs.Best.{IsMostOfRounds, IsNear, IsOneOfRounds};
+    ghost use Rattle.lagrange_bound.specs.Best.{IsMostOfRounds, IsOneOfRounds};
     ghost use Rattle.lagrange_bound.specs.Rounds.{IsTableBound};
     ghost use Rattle.lagrange_bound.specs.Work.{IsRoomFor, most_rounds};
 
@@ -71,7 +72,7 @@ impl Rounds {
 
     /// Plays so many rounds on a box, from prices of 0, and keeps the prices of the round with the
     /// greatest bound. Answers what they tell: no feasible plan in the box costs less, or there is
-    /// none, since a flight has no trip in the box. The bound is nearer to 0 than 2^124.
+    /// none, since a flight has no trip in the box. The bound is nearer to 0 than 2^115.
     ///
     /// The room and the box are of the scenario, and there are at most 2^18 rounds. With none the
     /// prices are 0. It takes no memory, and time as a least trip for each flight, and for each
@@ -84,7 +85,7 @@ impl Rounds {
         ensures told { IsTableBound (parts_of s.now) (box_of boxes.now) self.new.best result }
         ensures least { IsMostOfRounds (parts_of s.now) (box_of boxes.now) rounds result }
         ensures sound { BoundsFeasible (parts_of s.now) (box_of boxes.now) result }
-        ensures near { IsNear result }
+        ensures near { IsNearBound result }
         ensures placed { ArePlaced (parts_of s.now) self.new.best }
         ensures made { IsRoomFor (parts_of s.now) self.new }
     {
@@ -127,7 +128,7 @@ fn play_rounds(
     requires work { IsWorkFor (parts_of s.now) work.old }
     requires loads { AreLoadsFor (parts_of s.now) loads.old }
     ensures kept { IsBest (parts_of s.now) (box_of boxes.now) rounds best.new result }
-    ensures near { IsNear result }
+    ensures near { IsNearBound result }
     ensures prices { ArePricesOf (parts_of s.now) prices.new }
     ensures work { IsWorkFor (parts_of s.now) work.new }
     ensures loads { AreLoadsFor (parts_of s.now) loads.new }
@@ -160,10 +161,10 @@ fn play_round(
         loads.old bound }
     requires taken { HaveTaken (parts_of s.now) (box_of boxes.now) prices.old
         (length (parts_of s.now).flights) loads.old }
-    requires near { IsNear bound }
+    requires near { IsNearBound bound }
     requires work { IsWorkFor (parts_of s.now) work.old }
     requires loads { AreLoadsFor (parts_of s.now) loads.old }
-    ensures near { IsNear result }
+    ensures near { IsNearBound result }
     ensures played { ArePlayed (parts_of s.now) (box_of boxes.now) (played + 1) prices.new best.new
         loads.new result }
     ensures work { IsWorkFor (parts_of s.now) work.new }
@@ -202,7 +203,7 @@ fn tell(s: &Scenario, boxes: &Boxes, prices: &Prices, work: &mut Work, loads: &m
     requires work { IsWorkFor (parts_of s.now) work.old }
     requires loads { AreLoadsFor (parts_of s.now) loads.old }
     ensures told { IsTableBound (parts_of s.now) (box_of boxes.now) prices.now result }
-    ensures near { IsNear result }
+    ensures near { IsNearBound result }
     ensures taken { AreTakenFor (parts_of s.now) (box_of boxes.now) prices.now loads.new result }
     ensures work { IsWorkFor (parts_of s.now) work.new }
     ensures loads { AreLoadsFor (parts_of s.now) loads.new }

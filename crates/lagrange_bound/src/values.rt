@@ -4,7 +4,7 @@ ghost use Rattle.flow_types.specs.Scenario.{parts_of};
 ghost use Rattle.flight_routes.specs.Prices.{ArePricesOf};
 ghost use Rattle.flight_routes.specs.Rates.{IsValueWithin};
 ghost use Rattle.priced_plans.specs.Values.{limit_price};
-ghost use Rattle.lagrange_bound.specs.Best.{IsNear};
+ghost use Rattle.priced_plans.specs.PricedBound.{IsNearBound};
 ghost use Rattle.lagrange_bound.specs.Sums.{IsBoundOf, less};
 
 use crate::taking::COST_WEIGHT;
@@ -40,7 +40,7 @@ pub fn value_of(s: &Scenario, prices: &Prices, sum: Option<i128>) -> Option<i128
 pub fn bound_of(value: Option<i128>) -> Bound
     requires near { IfSome value (IsValueWithin (2 ^ 123)) }
     ensures told { IsBoundOf value result }
-    ensures near { IsNear result }
+    ensures near { IsNearBound result }
 {
     match value {
         None => Bound::NoPlan,

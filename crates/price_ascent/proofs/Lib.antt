@@ -1,1 +1,2 @@
+pub mod NoneFacts
 pub mod SlopeFacts

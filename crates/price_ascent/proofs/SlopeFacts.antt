@@ -1,9 +1,9 @@
 -- Prices stay good where one that may rise is set, and slopes stay on such prices.
-use Rattle.std.proofs.Common.{◌≡◌, ◌≢◌, ◌<◌, ◌^◌, ◌++◌, ◌∷◌, [], ℕ, true, false, All, List, sym, ◌∙◌, ap, subst}
+use Rattle.std.proofs.Common.{◌≡◌, ◌≢◌, ◌<◌, ◌^◌, ℕ, true, false, sym, ◌∙◌, ap}
 use Rattle.flow_types.specs.declared.bound.PriceKey.{PriceKey}
 use Rattle.flow_types.specs.declared.parts.Parts.{Parts}
 use Rattle.flight_routes.specs.Prices.{AreFree, ArePricesOf, IsKeyOf, PriceTable, price_at}
-use Rattle.priced_plans.specs.Keys.{IsKeyFor, has_limit}
+use Rattle.priced_plans.specs.Keys.{has_limit}
 use Rattle.priced_plans.proofs.KeyFacts.{key_of}
 use Rattle.priced_plans.proofs.SmallFacts.{free-small, set-small}
 use Rattle.price_ascent.specs.Slopes.{IsGood, IsSlopeKey}

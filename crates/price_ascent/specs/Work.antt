@@ -1,5 +1,5 @@
 -- What the room of climbs is seen as.
-use Rattle.std.specs.Prelude.{ℕ, ◌^◌, List, ℤ, pos, ◌≤ℤ◌}
+use Rattle.std.specs.Prelude.{ℕ, ◌^◌, Bool, false, List, Option, None, Some, ℤ, pos, int_lt, ◌≤ℤ◌}
 use Rattle.flow_types.specs.declared.parts.Parts.{Parts}
 use Rattle.flight_routes.specs.Prices.{PriceTable}
 use Rattle.flight_routes.specs.Work.{IsWorkFor, Worked}
@@ -32,6 +32,11 @@ pub record IsAscentRoomFor (parts : Parts) (room : AscentRoom) : Type 0 where
   pub work : IsWorkFor parts room.work
   pub loads : IsMadeFor parts room.loads
   pub slopes : AreSlopesFor parts room.slopes
+
+-- there is a value above 0
+abbrev pub is_positive : Option ℤ → Bool
+is_positive None = false
+is_positive (Some value) = int_lt (pos 0) value
 
 -- the value of the prices at weight 0 is above 0, so that no plan is in the box
 pub record HasNone (parts : Parts) (box : Box) (table : PriceTable) : Type 0 where

@@ -2,14 +2,13 @@
 ghost use Rattle.std.specs.Prelude.{◌≡◌, IfOk};
 ghost use Rattle.flow_types.specs.declared.parts.Parts.{Parts};
 ghost use Rattle.flow_types.specs.Scenario.{parts_of};
-ghost use Rattle.flight_routes.specs.Prices.{AreAlike, ArePricesOf};
+ghost use Rattle.flight_routes.specs.Prices.{AreAlike, AreFree};
 ghost use Rattle.flight_routes.specs.Work.{IsWorkFor};
 ghost use Rattle.plan_rules.specs.Loads.{IsMadeFor as AreLoadsFor};
 ghost use Rattle.time_windows.specs.Held.{IsMadeFor, box_of};
-ghost use Rattle.priced_plans.specs.PricedBound.{IsPricedBound};
-ghost use Rattle.lagrange_bound.specs.Best.{IsNear};
+ghost use Rattle.priced_plans.specs.PricedBound.{IsNearBound, IsPricedBound};
 ghost use Rattle.price_ascent.specs.Slopes.{IsGood};
-ghost use Rattle.price_ascent.specs.Work.{climb_weight};
+ghost use Rattle.price_ascent.specs.Work.{climb_weight, is_positive};
 
 use crate::pace::{Pace, weighted};
 use crate::slopes::{Slope, all_slopes, move_prices, turn_slopes};
@@ -17,7 +16,7 @@ use crate::spread::Spread;
 use flight_routes::{Prices, Work};
 use flow_types::{Bound, MOST_NODES, OutOfMemory, Plan, Scenario, Stop, Trip};
 use plan_rules::Loads;
-use priced_plans::{limit_price, priced_bounds_are_bounds, priced_value, rounded_up};
+use priced_plans::{limit_price, priced_bound, priced_bounds_are_bounds, priced_value};
 use std::alloc::Global;
 use std::marker::Model;
 use time_windows::Boxes;
@@ -70,18 +69,18 @@ impl Model for Ascent {
 }
 
 impl Ascent {
-    ghost use Rattle.std.specs.Prelude.{◌≡◌, IfOk, IsTrue};
+    ghost use Rattle.std.specs.Prelude.{◌≡◌, ◌↔◌, IfOk, IsTrue};
     ghost use Rattle.flow_types.specs.Scenario.{parts_of};
-    ghost use Rattle.flight_routes.specs.Prices.{ArePricesOf};
+    ghost use Rattle.flight_routes.specs.Prices.{AreFree};
     ghost use Rattle.time_windows.specs.Held.{IsMadeFor, box_of};
     ghost use Rattle.priced_plans.specs.Keys.{ArePlaced};
-    ghost use Rattle.priced_plans.specs.PricedBound.{BoundsFeasible, IsPricedBound};
-    ghost use Rattle.lagrange_bound.specs.Best.{IsNear};
+    ghost use Rattle.priced_plans.specs.PricedBound.{BoundsFeasible, IsNearBound, IsPricedBound};
     ghost use Rattle.price_ascent.specs.Work.{HasNone, IsAscentRoomFor, climb_weight};
 
-    /// Room for the climbs of the scenario.
+    /// Room for the climbs of the scenario, with prices of 0.
     pub fn new(alloc: Global, s: &Scenario) -> Result<Ascent, OutOfMemory>
         ensures made { IfOk result (IsAscentRoomFor (parts_of s.now)) }
+        ensures free { IfOk result (λ ascent. AreFree ascent.best) }
     {
         Ok(Ascent {
             tables: no_prices(alloc, s)?,
@@ -113,7 +112,7 @@ impl Ascent {
         ensures told { IsPricedBound (parts_of s.now) (box_of boxes.now) climb_weight
             self.new.best result }
         ensures sound { BoundsFeasible (parts_of s.now) (box_of boxes.now) result }
-        ensures near { IsNear result }
+        ensures near { IsNearBound result }
         ensures placed { ArePlaced (parts_of s.now) self.new.best }
         ensures made { IsAscentRoomFor (parts_of s.now) self.new }
     {
@@ -131,17 +130,18 @@ impl Ascent {
 
     /// What the kept prices tell in the box, at the weight of 2^20: no feasible plan in it costs
     /// less, or there is none, since a flight has no trip in the box. The bound is nearer to 0 than
-    /// 2^124.
+    /// 2^115.
     ///
     /// The room and the box are of the scenario. It takes no memory, and the time of a least trip
     /// for each flight and of a look at each price.
     pub fn tell(&mut self, s: &Scenario, boxes: &Boxes) -> Bound
         requires made { IsAscentRoomFor (parts_of s.now) self.old }
         requires boxes { IsMadeFor (parts_of s.now) boxes.now }
+        ensures same { self.new.best ≡ self.old.best }
         ensures told { IsPricedBound (parts_of s.now) (box_of boxes.now) climb_weight
             self.new.best result }
         ensures sound { BoundsFeasible (parts_of s.now) (box_of boxes.now) result }
-        ensures near { IsNear result }
+        ensures near { IsNearBound result }
         ensures placed { ArePlaced (parts_of s.now) self.new.best }
         ensures made { IsAscentRoomFor (parts_of s.now) self.new }
     {
@@ -149,22 +149,22 @@ impl Ascent {
         bound_of(&mut self.trips.work, s, boxes, &self.tables.best)
     }
 
-    /// Whether the kept prices prove that no plan is in the box: a plan that keeps every rule pays no
-    /// more than all capacities would, and here even the least trips pay more.
+    /// Whether the kept prices prove that no plan is in the box: a plan that keeps every rule pays
+    /// no more than all capacities would, and here even the least trips pay more.
     ///
     /// The room and the box are of the scenario. It takes no memory, and time as `tell`.
+    #[tactic(auto, using(crate::proofs::NoneFacts::none_told))]
     pub fn has_none(&mut self, s: &Scenario, boxes: &Boxes) -> bool
         requires made { IsAscentRoomFor (parts_of s.now) self.old }
         requires boxes { IsMadeFor (parts_of s.now) boxes.now }
+        ensures same { self.new.best ≡ self.old.best }
         ensures none { IsTrue result
-            → HasNone (parts_of s.now) (box_of boxes.now) self.new.best }
+            ↔ HasNone (parts_of s.now) (box_of boxes.now) self.new.best }
         ensures placed { ArePlaced (parts_of s.now) self.new.best }
         ensures made { IsAscentRoomFor (parts_of s.now) self.new }
     {
-        match priced_value(&mut self.trips.work, s, boxes, 0, &self.tables.best) {
-            None => false,
-            Some(value) => value > 0,
-        }
+        let value = priced_value(&mut self.trips.work, s, boxes, 0, &self.tables.best);
+        is_positive(value)
     }
 
     /// The prices that are kept.
@@ -252,6 +252,7 @@ impl Ascent {
 fn no_prices(alloc: Global, s: &Scenario) -> Result<Tables, OutOfMemory>
     ensures present { IfOk result (λ tables. IsGood (parts_of s.now) tables.present) }
     ensures best { IfOk result (λ tables. IsGood (parts_of s.now) tables.best) }
+    ensures free { IfOk result (λ tables. AreFree tables.best) }
     ensures planned { IfOk result (λ tables. IsGood (parts_of s.now) tables.planned) }
 {
     Ok(Tables {
@@ -290,6 +291,16 @@ fn is_below(cost: Option<i128>, kept: Option<i128>) -> bool {
         (None, _) => false,
         (Some(_), None) => true,
         (Some(cost), Some(kept)) => cost < kept,
+    }
+}
+
+// Whether there is a value above 0.
+fn is_positive(value: Option<i128>) -> bool
+    ensures { result ≡ is_positive value }
+{
+    match value {
+        None => false,
+        Some(value) => value > 0,
     }
 }
 
@@ -377,11 +388,8 @@ fn bound_of(work: &mut Work, s: &Scenario, boxes: &Boxes, prices: &Prices) -> Bo
     requires boxes { IsMadeFor (parts_of s.now) boxes.now }
     requires prices { IsGood (parts_of s.now) prices.now }
     ensures told { IsPricedBound (parts_of s.now) (box_of boxes.now) climb_weight prices.now result }
-    ensures near { IsNear result }
+    ensures near { IsNearBound result }
     ensures work { IsWorkFor (parts_of s.now) work.new }
 {
-    match priced_value(work, s, boxes, WEIGHT, prices) {
-        None => Bound::NoPlan,
-        Some(value) => Bound::AtLeast(rounded_up(value, WEIGHT)),
-    }
+    priced_bound(work, s, boxes, WEIGHT, prices)
 }

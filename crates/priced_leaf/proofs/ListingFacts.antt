@@ -1,22 +1,25 @@
 -- One price more is listed; a row and a kind are at their end.
-use Rattle.std.proofs.Common.{◌≡◌, ◌⊎◌, All, ℕ, ◌+◌, ◌<◌, ◌≤◌, Bool, true, false, ◌&&◌, ◌||◌, nat_eq, nat_lt, if◌then◌else◌, List, [], ◌∷◌, ◌++◌, length, slice_get, None, Some, zero, suc, refl, sym, ap, ◌∙◌, subst, inl, inr, arith}
+use Rattle.std.proofs.Common.{◌≡◌, ◌⊎◌, All, ℕ, ◌+◌, ◌^◌, ◌<◌, ◌≤◌, Bool, true, false, ◌&&◌, ◌||◌, nat_eq, nat_lt, if◌then◌else◌, List, [], ◌∷◌, ◌++◌, length, slice_get, None, Some, zero, suc, refl, sym, ap, ◌∙◌, subst, inl, inr, arith}
 use Rattle.std.proofs.lemmas.Bool.{cases_lt}
 use Rattle.std.proofs.lemmas.Bool.Decides.{nat_tests}
+use Rattle.std.proofs.lemmas.List.{length_push}
 use Rattle.std.proofs.lemmas.List.Elements.{All-push, All-weaker}
 use Rattle.std.proofs.lemmas.List.Quantifiers.{all_pairs_push}
 use Rattle.flow_types.specs.declared.bound.PriceKey.{PriceKey}
 use Rattle.flow_types.specs.declared.bound.PriceKey.TheVariants as key
 use Rattle.flow_types.specs.declared.parts.Parts.{Parts}
+use Rattle.flow_types.specs.Valid.{IsScenario}
 use Rattle.flight_routes.specs.Prices.{PriceTable, price_at}
 use Rattle.priced_plans.specs.declared.kinds.PriceKind.{PriceKind}
+use Rattle.priced_plans.specs.declared.kinds.PriceKind.TheVariants.{Arrival, Departure, Stay, Turn}
 use Rattle.priced_plans.specs.Keys.{ArePlaced, IsKeyFor, has_limit, kind_number, number_in, period_in, row_in, rows_of}
 use Rattle.priced_plans.proofs.KeyFacts.{itself, key_at, period_within, row_within}
 use Rattle.bytime_model.specs.Order.{IsBefore}
 use Rattle.branch_tree.specs.declared.leaf.Multiplier.{Multiplier}
-use Rattle.dual_leaf.specs.Lag.{ArePriceable, is_key, is_priceable, key_of, set_by, set_on}
+use Rattle.dual_leaf.specs.Lag.{is_key, is_priceable, key_of, set_by, set_on}
 use Rattle.dual_leaf.proofs.LagFacts.{set-more}
 use Rattle.priced_leaf.specs.Leaf.{row_of}
-use Rattle.priced_leaf.specs.Listing.{IsListed, IsNamedBelow, is_listed}
+use Rattle.priced_leaf.specs.Listing.{IsListed, IsNamedBelow, is_listed, most_listed}
 
 named : (k : PriceKey) → key_of (row_of k) ≡ Some k
 named (key.Dep place period) = refl
@@ -161,8 +164,8 @@ module _ (parts : Parts) (table : PriceTable) where
   -- the same prices come before another place
   pub listed-same : (n r t m q u : ℕ) (rows : List Multiplier) → IsListed parts table n r t rows
       → ((k : PriceKey) → IsKeyFor parts k → is_listed n r t k ≡ is_listed m q u k)
-      → IsListed parts table m q u rows
-  listed-same n r t m q u rows is same = record {
+      → most_listed n r t ≤ most_listed m q u → IsListed parts table m q u rows
+  listed-same n r t m q u rows is same more = record {
     priceable = is.priceable;
     each = λ k within. is.each k within
         ∙ ap (λ b. if b then price_at table k else 0) (same k within);
@@ -170,6 +173,8 @@ module _ (parts : Parts) (table : PriceTable) where
     ascending = is.ascending;
     named = All-weaker (IsNamedBelow parts n r t) (IsNamedBelow parts m q u)
         (λ x below. named_same n r t m q u x below same) rows is.named;
+    small = is.small;
+    few = let few = is.few in omega (arith, few, more);
   }
 
   pub listed-start : IsListed parts table 0 0 0 []
@@ -179,6 +184,8 @@ module _ (parts : Parts) (table : PriceTable) where
     positive = λ k d within. absurd (omega (arith, within));
     ascending = λ i j d before within. absurd (omega (arith, within));
     named = λ k d within. absurd (omega (arith, within));
+    small = λ k d within. absurd (omega (arith, within));
+    few = omega arith;
   }
     where
       none : (k : PriceKey) (number row period : ℕ)
@@ -191,21 +198,29 @@ module _ (parts : Parts) (table : PriceTable) where
               || (nat_eq row 0 && nat_lt period 0)))) ≡ false
           never number row period = grind (arith, nat_tests)
 
-  pub row-ended : (kind : PriceKind) (r : ℕ) (rows : List Multiplier)
+  pub row-ended : (kind : PriceKind) (r : ℕ) (rows : List Multiplier) → IsScenario parts
       → IsListed parts table (kind_number kind) r parts.day.periods rows
       → IsListed parts table (kind_number kind) (r + 1) 0 rows
-  row-ended kind r rows is =
+  row-ended kind r rows valid is =
       listed-same (kind_number kind) r parts.day.periods (kind_number kind) (r + 1) 0 rows is
       (λ k within. row_end (kind_number kind) r parts.day.periods (number_in k) (row_in k)
       (period_in k) (period_within parts k within))
+      (let day = valid.day.periods_to in omega (arith, day))
 
-  pub kind-ended : (kind : PriceKind) (rows : List Multiplier)
+  most_rows : (kind : PriceKind) → IsScenario parts → rows_of parts kind ≤ 2 ^ 20
+  most_rows Departure valid = let few = valid.places_few in omega (arith, few)
+  most_rows Arrival valid = let few = valid.places_few in omega (arith, few)
+  most_rows Stay valid = let few = valid.places_few in omega (arith, few)
+  most_rows Turn valid = let few = valid.connections_few in omega (arith, few)
+
+  pub kind-ended : (kind : PriceKind) (rows : List Multiplier) → IsScenario parts
       → IsListed parts table (kind_number kind) (rows_of parts kind) 0 rows
       → IsListed parts table (kind_number kind + 1) 0 0 rows
-  kind-ended kind rows is =
+  kind-ended kind rows valid is =
       listed-same (kind_number kind) (rows_of parts kind) 0 (kind_number kind + 1) 0 0 rows is
       (λ k within. kind_end (kind_number kind) (rows_of parts kind) (number_in k) (row_in k)
       (period_in k) (row_within parts kind k within))
+      (let few = most_rows kind valid in omega (arith, few))
 
   -- the price of a key, if there is one
   module _ (k : PriceKey) where
@@ -242,6 +257,8 @@ module _ (parts : Parts) (table : PriceTable) where
       positive = is.positive;
       ascending = is.ascending;
       named = further rows is.named;
+      small = is.small;
+      few = let few = is.few in omega (arith, few);
     }
       where
         by : (other : PriceKey) → IsKeyFor parts other → (b : Bool) → is_key k other ≡ b
@@ -262,9 +279,10 @@ module _ (parts : Parts) (table : PriceTable) where
             (is.each other within) (λ never. absurd (let e : false ≡ true = never in cc))
 
     pub listed-more : (rows : List Multiplier) (value : ℕ) → ArePlaced parts table
-        → IsKeyFor parts k → value ≡ price_at table k → 0 < value → IsListed parts table n r t rows
+        → IsKeyFor parts k → value ≡ price_at table k → 0 < value → value < 2 ^ 62
+        → IsListed parts table n r t rows
         → IsListed parts table n r (t + 1) (rows ++ record { row = row_of k; value = value } ∷ [])
-    listed-more rows value placed within_day is some before = record {
+    listed-more rows value placed within_day is some low before = record {
       priceable = λ i multiplier at. fine i multiplier at;
       each = λ other within. set-more rows m other 0
           ∙ ap (λ z. set_on z value other (set_by rows other 0)) (named k)
@@ -283,6 +301,10 @@ module _ (parts : Parts) (table : PriceTable) where
         is = refl;
         listed = here_now k ∙ ap (λ b. is_listed n r t k || b) (itself n r t) ∙ or_true _;
       });
+      small = All-push (λ x. x.value < 2 ^ 62) rows m before.small low;
+      few = let few = before.few in
+          let long = length_push rows m in
+          omega (arith, few, long);
     }
       where
         m : Multiplier

@@ -1,6 +1,6 @@
 -- Prices that are listed by their rows, in the order of kinds, then of places and connections, then
 -- of periods. No public clause cites these.
-use Rattle.std.specs.Prelude.{◌≡◌, ℕ, ◌<◌, Bool, true, ◌&&◌, ◌||◌, nat_eq, nat_lt, if◌then◌else◌, List, All}
+use Rattle.std.specs.Prelude.{◌≡◌, ℕ, ◌+◌, ◌*◌, ◌^◌, ◌<◌, ◌≤◌, Bool, true, ◌&&◌, ◌||◌, nat_eq, nat_lt, if◌then◌else◌, List, All, length}
 use Rattle.flow_types.specs.declared.bound.PriceKey.{PriceKey}
 use Rattle.flow_types.specs.declared.parts.Parts.{Parts}
 use Rattle.flight_routes.specs.Prices.{PriceTable, price_at}
@@ -24,6 +24,10 @@ pub record IsNamedBelow (parts : Parts) (kind row period : ℕ) (multiplier : Mu
   pub is : multiplier.row ≡ row_of key
   pub listed : is_listed kind row period key ≡ true
 
+-- no fewer than come before
+abbrev pub most_listed : ℕ → ℕ → ℕ → ℕ
+most_listed kind row period = kind * 2 ^ 29 + (row * 2 ^ 9 + period)
+
 -- the multipliers are the prices that come before and aren't 0, in their order
 pub record IsListed (parts : Parts) (table : PriceTable) (kind row period : ℕ)
     (rows : List Multiplier) : Type 0 where
@@ -33,3 +37,5 @@ pub record IsListed (parts : Parts) (table : PriceTable) (kind row period : ℕ)
   pub positive : ArePositive rows
   pub ascending : AreAscending rows
   pub named : All (IsNamedBelow parts kind row period) rows
+  pub small : All (λ multiplier. multiplier.value < 2 ^ 62) rows
+  pub few : length rows ≤ most_listed kind row period

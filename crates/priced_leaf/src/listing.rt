@@ -3,6 +3,7 @@ ghost use Rattle.std.specs.Prelude.{◌≡◌, ◌<◌, ◌+◌, ◌^◌, IfOk, 
 ghost use Rattle.flow_types.specs.Scenario.{parts_of};
 ghost use Rattle.flight_routes.specs.Prices.{ArePricesOf, IsKeyOf, price_at};
 ghost use Rattle.priced_plans.specs.Keys.{ArePlaced, IsKeyFor, kind_number, number_in, period_in, row_in, rows_of};
+ghost use Rattle.branch_tree.specs.Leaves.{IsInRange};
 ghost use Rattle.priced_leaf.specs.Leaf.{Closes, IsLagOf, TellsAs, row_of};
 ghost use Rattle.priced_leaf.specs.Listing.{IsListed};
 
@@ -106,8 +107,8 @@ fn list_prices(alloc: Global, s: &Scenario, prices: &Prices) -> Result<Multiplie
 /// rows. In any box in which every node is open that must be entered, its bound is what the prices
 /// tell at this weight.
 ///
-/// The prices are of the scenario, and 0 wherever a place has no capacity of the kind. The leaf
-/// takes 24 bytes for each price that isn't 0, or up to twice that. Time: for each price.
+/// The weight is above 0 and below 2^62. The prices are of the scenario, and 0 wherever a place has
+/// no capacity of the kind. The leaf takes 24 bytes for each price that isn't 0, or up to twice that. Time: for each price.
 pub fn lag_leaf(
     alloc: Global,
     s: &Scenario,
@@ -115,9 +116,11 @@ pub fn lag_leaf(
     prices: &Prices,
 ) -> Result<Leaf, OutOfMemory>
     requires weight { 0 < weight }
+    requires small { weight < 2 ^ 62 }
     requires prices { ArePricesOf (parts_of s.now) prices.now }
     requires placed { ArePlaced (parts_of s.now) prices.now }
     ensures prices { IfOk result (IsLagOf (parts_of s.now) weight prices.now) }
+    ensures range { IfOk result IsInRange }
     ensures bound { IfOk result (TellsAs (parts_of s.now) weight prices.now) }
 {
     let rows = list_prices(alloc, s, prices)?;
@@ -133,6 +136,7 @@ pub fn closing_leaf(alloc: Global, s: &Scenario, prices: &Prices) -> Result<Leaf
     requires prices { ArePricesOf (parts_of s.now) prices.now }
     requires placed { ArePlaced (parts_of s.now) prices.now }
     ensures prices { IfOk result (IsLagOf (parts_of s.now) 0 prices.now) }
+    ensures range { IfOk result IsInRange }
     ensures closes { IfOk result (Closes (parts_of s.now) prices.now) }
 {
     let rows = list_prices(alloc, s, prices)?;

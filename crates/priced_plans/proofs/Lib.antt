@@ -4,6 +4,7 @@ pub mod CellFacts
 pub mod TurnFacts
 pub mod PayFacts
 pub mod ValueFacts
+pub mod OnceFacts
 pub mod NearFacts
 pub mod SmallFacts
 pub mod RoundFacts

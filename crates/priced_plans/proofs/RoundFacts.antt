@@ -1,5 +1,5 @@
 -- Dividing and rounding up.
-use Rattle.std.proofs.Common.{◌≡◌, ◌⊎◌, ℕ, zero, suc, ◌+◌, ◌-◌, ◌*◌, ◌/◌, ◌<◌, ◌≤◌, ◌^◌, true, ℤ, pos, negsuc, neg_ℤ, ◌+ℤ◌, ◌*ℤ◌, ◌≤ℤ◌, unsigned_abs, inl, inr, sym, ap, ◌∙◌, subst, SFits, of_z, to_z, arith}
+use Rattle.std.proofs.Common.{◌≡◌, ◌⊎◌, ℕ, zero, suc, ◌+◌, ◌-◌, ◌*◌, ◌/◌, ◌<◌, ◌≤◌, ◌^◌, true, false, ℤ, pos, negsuc, neg_ℤ, ◌+ℤ◌, ◌*ℤ◌, ◌≤ℤ◌, unsigned_abs, inl, inr, sym, ap, ◌∙◌, subst, SFits, of_z, to_z, arith}
 use mir.Syntax.{w128}
 use Rattle.std.specs.Prelude.{int_lt}
 use Rattle.std.proofs.lemmas.Bool.{cases_lt}
@@ -94,10 +94,21 @@ rounded_positive (pos n) up w some weight is =
     subst (IsRoundedUp (pos n) w) (sym is) (rounded_above n w (omega (arith, ints, some)) weight)
 rounded_positive (negsuc n) up w some weight is = absurd (omega (arith, ints, some))
 
+pub rounded_negative : (value up : ℤ) (w : ℕ) → int_lt (pos 0) value ≡ false → 0 < w
+    → up ≡ neg_ℤ (pos (unsigned_abs value / w)) → IsRoundedUp value w up
+rounded_negative (pos zero) up w none weight is =
+    subst (IsRoundedUp (pos 0) w) (sym is) (rounded_below 0 w weight)
+rounded_negative (pos (suc n)) up w none weight is = absurd (omega (arith, ints, none))
+rounded_negative (negsuc n) up w none weight is =
+    subst (IsRoundedUp (negsuc n) w) (sym is) (rounded_below (suc n) w weight)
+
 pub above_small : (size w : ℕ) → size < 2 ^ 126 → w < 2 ^ 64
     → unsigned_abs (pos ((size + (w - 1)) / w)) < 2 ^ 127
 above_small size w small weight =
     let le = div-le_self (size + (w - 1)) w in omega (arith, le, small, weight)
+
+pub below_small : (size w : ℕ) → size < 2 ^ 126 → unsigned_abs (neg_ℤ (pos (size / w))) < 2 ^ 127
+below_small size w small = let le = div-le_self size w in omega (arith, ints, le, small)
 
 -- the size of a number that is near
 pub size_small : (value : ℤ) → IsValueWithin (2 ^ 123) value → unsigned_abs value < 2 ^ 126
@@ -105,7 +116,7 @@ size_small (pos n) near = omega (arith, ints, near.high)
 size_small (negsuc n) near = omega (arith, ints, near.low)
 
 -- what is rounded is no further from 0
-rounded_near : (value up : ℤ) (w : ℕ) → 0 < w → IsRoundedUp value w up
+pub rounded_near : (value up : ℤ) (w : ℕ) → 0 < w → IsRoundedUp value w up
     → unsigned_abs up ≤ unsigned_abs value
 rounded_near (pos v) (pos n) w weight is =
     let more : v * 1 ≤ v * w = mul-le-mul_left v weight in
@@ -136,6 +147,21 @@ rounded_within value up weight some near rounded =
     let small = near_within value near in
     let le = rounded_near value up weight some rounded in
     omega (arith, small, le)
+
+-- and much nearer to 0 with a weight of at least 2^10
+pub rounded_closer : (value up : ℤ) (w : ℕ) → IsValueWithin (2 ^ 123) value
+    → IsRoundedUp value w up → 2 ^ 10 ≤ w → unsigned_abs up < 2 ^ 115
+rounded_closer value (pos n) w near is heavy =
+    let more : 2 ^ 113 * 2 ^ 10 ≤ 2 ^ 113 * w = mul-le-mul_left (2 ^ 113) heavy in
+    let up = near.high in
+    let least = is.below (pos (2 ^ 113)) (omega (arith, ints, more, up)) in
+    omega (arith, ints, least)
+rounded_closer value (negsuc n) w near is heavy =
+    let turned = minus-times n w in
+    let more : suc n * 2 ^ 10 ≤ suc n * w = mul-le-mul_left (suc n) heavy in
+    let reached = is.reached in
+    let down = near.low in
+    omega (arith, ints, reached, turned, more, down)
 
 -- a bound that prices tell is one of the feasible plans
 pub bound-below : (parts : Parts) (box : Box) (weight : ℕ) (table : PriceTable) (bound : Bound)

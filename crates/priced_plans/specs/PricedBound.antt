@@ -1,5 +1,5 @@
 -- The bound that the value of prices tells.
-use Rattle.std.specs.Prelude.{ℕ, List, ℤ, pos, ◌*ℤ◌, ◌≤ℤ◌}
+use Rattle.std.specs.Prelude.{ℕ, List, ℤ, pos, ◌*ℤ◌, ◌≤ℤ◌, ◌<◌, ◌^◌, unsigned_abs}
 use Rattle.flow_types.specs.declared.bound.Bound.{Bound}
 use Rattle.flow_types.specs.declared.bound.Bound.TheVariants.{AtLeast, NoPlan}
 use Rattle.flow_types.specs.declared.parts.Parts.{Parts}
@@ -21,6 +21,11 @@ abbrev pub IsPricedBound : Parts → Box → ℕ → PriceTable → Bound → Ty
 IsPricedBound parts box weight table NoPlan = LacksTrip parts box
 IsPricedBound parts box weight table (AtLeast least) =
     (value : ℤ) × IsPricedValue parts box weight table value × IsRoundedUp value weight least
+
+-- not too far from 0
+abbrev pub IsNearBound : Bound → Type 0
+IsNearBound NoPlan = Unit {0}
+IsNearBound (AtLeast least) = unsigned_abs least < 2 ^ 115
 
 -- no feasible plan in the box costs less; there is none below NoPlan
 abbrev pub BoundsFeasible : Parts → Box → Bound → Type 0

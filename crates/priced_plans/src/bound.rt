@@ -1,12 +1,12 @@
 //! The bound that prices tell.
-ghost use Rattle.std.specs.Prelude.{◌≡◌, ◌<◌, ◌+◌, ◌-◌, ◌/◌, ◌^◌, unsigned_abs, pos, neg_ℤ};
+ghost use Rattle.std.specs.Prelude.{◌≡◌, ◌<◌, ◌+◌, ◌-◌, ◌/◌, ◌≤◌, ◌^◌, unsigned_abs, pos, neg_ℤ};
 ghost use Rattle.flow_types.specs.Scenario.{parts_of};
 ghost use Rattle.flight_routes.specs.Prices.{ArePricesOf};
 ghost use Rattle.flight_routes.specs.Rates.{IsValueWithin};
 ghost use Rattle.flight_routes.specs.Work.{IsWorkFor};
 ghost use Rattle.time_windows.specs.Held.{IsMadeFor, box_of};
 ghost use Rattle.priced_plans.specs.Valuing.{AreSmall};
-ghost use Rattle.priced_plans.specs.PricedBound.{IsPricedBound, IsRoundedUp};
+ghost use Rattle.priced_plans.specs.PricedBound.{IsNearBound, IsPricedBound, IsRoundedUp};
 
 use crate::value::priced_value;
 use flight_routes::{Prices, Work};
@@ -16,7 +16,8 @@ use time_windows::Boxes;
 /// The bound that the prices tell of the plans in the box: their value divided by the weight and
 /// rounded up; that no plan exists, where a flight has no trip in the box.
 ///
-/// As for `priced_value`, with a weight above 0.
+/// As for `priced_value`, with a weight above 0. With one of at least 2^10 the bound is nearer to 0
+/// than 2^115.
 pub fn priced_bound(
     work: &mut Work,
     s: &Scenario,
@@ -31,6 +32,7 @@ pub fn priced_bound(
     requires prices { ArePricesOf (parts_of s.now) prices.now }
     requires small { AreSmall prices.now }
     ensures bound { IsPricedBound (parts_of s.now) (box_of boxes.now) weight prices.now result }
+    ensures near { 2 ^ 10 ≤ weight → IsNearBound result }
     ensures work { IsWorkFor (parts_of s.now) work.new }
 {
     match priced_value(work, s, boxes, weight, prices) {
@@ -40,13 +42,16 @@ pub fn priced_bound(
 }
 
 /// The least number that is no less than the value divided by the weight. The value is no further
-/// from 0 than 2^123, the weight is above 0, and the number is nearer to 0 than 2^124.
-#[tactic(auto, using(crate::proofs::RoundFacts::rounded_above, crate::proofs::RoundFacts::rounded_below, crate::proofs::RoundFacts::rounded_within))]
+/// from 0 than 2^123, and the weight is above 0. The number is no further from 0 than the value,
+/// and with a weight of at least 2^10 it is nearer than 2^115.
+#[tactic(auto, using(crate::proofs::RoundFacts::rounded_above, crate::proofs::RoundFacts::rounded_below, crate::proofs::RoundFacts::rounded_near, crate::proofs::RoundFacts::rounded_within))]
 pub fn rounded_up(value: i128, weight: u64) -> i128
     requires near { IsValueWithin (2 ^ 123) value }
     requires weight { 0 < weight }
     ensures rounded { IsRoundedUp value weight result }
+    ensures smaller { unsigned_abs result ≤ unsigned_abs value }
     ensures near { unsigned_abs result < 2 ^ 124 }
+    ensures closer { 2 ^ 10 ≤ weight → unsigned_abs result < 2 ^ 115 }
 {
     if value > 0 {
         above(value.unsigned_abs(), weight)

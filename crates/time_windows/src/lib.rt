@@ -43,9 +43,9 @@
 //! that, since those lists grow there. `tighten`, the splits and the look-ups take none. A trail
 //! takes 8 bytes for each of 32 nodes a flight beside its box, and 16 for each step of its log, one
 //! for each node that a step down has changed and one for the step; the log may take up to twice
-//! that, since it grows. `up` takes none. Time: `tighten` goes over the legs of each flight twice, and over its connections; and again over both
-//! as often as a connection has moved one of its windows, which is at most once for each period of
-//! its ends.
+//! that, since it grows. `up` takes none. Time: `tighten` goes over the legs of each flight
+//! twice, and over its connections; and again over both as often as a connection has moved one of
+//! its windows, which is at most once for each period of its ends.
 #![tactic(auto)]
 
 mod access;

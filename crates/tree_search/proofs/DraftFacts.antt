@@ -11,7 +11,7 @@ use Rattle.flow_types.specs.declared.parts.Parts.{Parts}
 use Rattle.flow_types.specs.declared.plan.Stop.{Stop}
 use Rattle.flow_types.specs.Costs.{plan_cost}
 use Rattle.time_windows.specs.Boxes.{Box}
-use Rattle.dual_leaf.specs.Leaf.{IsNearBound}
+use Rattle.priced_plans.specs.PricedBound.{IsNearBound}
 use Rattle.branch_tree.specs.declared.tree.TreeNode.{TreeNode}
 use Rattle.relaxed_bound.specs.Reached.{is_reached}
 use Rattle.relaxed_bound.proofs.LicenceFacts.{unreached_is}

@@ -1,11 +1,9 @@
 -- A plan that is offered while a search stands at a box leaves it where it is.
-use Rattle.std.proofs.Common.{◌≡◌, ◌<◌, ◌≤◌, ◌+◌, suc, Bool, true, false, List, ◌∷◌, length, Option, None, Some, IfSome, MatchOption, inl, inr, sym, ◌∙◌, ap, subst, arith}
-use Rattle.flow_types.specs.declared.bound.Bound.{Bound}
+use Rattle.std.proofs.Common.{◌≡◌, suc, Bool, true, false, List, ◌∷◌, length, Option, None, Some, IfSome, inl, inr, sym, ◌∙◌, ap, subst, arith}
 use Rattle.flow_types.specs.declared.parts.Parts.{Parts}
 use Rattle.flow_types.specs.declared.plan.Stop.{Stop}
 use Rattle.flow_types.specs.Costs.{plan_cost}
-use Rattle.flow_types.specs.Feasible.{IsFeasible}
-use Rattle.time_windows.specs.Boxes.{Box, IsInBox}
+use Rattle.time_windows.specs.Boxes.{Box}
 use Rattle.time_windows.specs.Held.{box_of}
 use Rattle.plan_improver.specs.Cheaper.{IsCheaper, IsKept}
 use Rattle.relaxed_bound.specs.Reached.{is_reached}
@@ -76,30 +74,7 @@ kept_in_box parts box None kept = tt
 kept_in_box parts box (Some plan) kept =
     record { feasible = kept.feasible; inside = kept.inside }
 
-pub found_feasible : (parts : Parts) (box : Box) (found : Option (List (List Stop)))
-    → IfSome found (IsPlanIn parts box) → IfSome found (IsFeasible parts)
-found_feasible parts box None is = tt
-found_feasible parts box (Some plan) is = is.feasible
-
-pub improved_by : (parts : Parts) (budget : Budget) (way : Way) (old new : Draft)
-    (found : Option (List (List Stop))) → IfSome found (IsPlanIn parts (box_of way.present))
-    → MatchOption found (new ≡ old) (λ plan. IsOffered parts plan old new)
-    → IsSearching parts budget way old → IsSearching parts budget way new
-improved_by parts budget way old new None is same searching =
-    subst (IsSearching parts budget way) (sym same) searching
-improved_by parts budget way old new (Some plan) is offered searching =
-    improved_on parts budget way old new plan searching is offered
-
--- no node is written down
-pub offered_nodes : (parts : Parts) (box : Box) (old new : Draft)
-    (found : Option (List (List Stop)))
-    → MatchOption found (new ≡ old) (λ plan. IsOffered parts plan old new)
-    → new.nodes ≡ old.nodes
-offered_nodes parts box old new None same = ap (λ (d : Draft). d.nodes) same
-offered_nodes parts box old new (Some plan) offered =
-    (offered_tree parts box old new plan offered).2.nodes
-
--- so that a step after it is one from before
+-- a step after a plan is offered, which writes no node down, is one from before
 pub stepped_from : (parts : Parts) (budget : Budget) (way : Way) (old now : Draft) (next : Way)
     (new : Draft) (more : Bool) → now.nodes ≡ old.nodes
     → IsStepped parts budget way now next new more → IsStepped parts budget way old next new more

@@ -1,13 +1,34 @@
--- A bound above that of the best round is no less than that of any round.
-use Rattle.std.proofs.Common.{ℕ}
+-- What rounds tell, and that a bound above that of the best one is no less than any round's.
+use Rattle.std.proofs.Common.{◌≡◌, ℕ, sym, subst}
 use Rattle.flow_types.specs.declared.bound.Bound.{Bound}
 use Rattle.flow_types.specs.declared.parts.Parts.{Parts}
 use Rattle.time_windows.specs.Boxes.{Box}
+use Rattle.priced_plans.specs.Keys.{ArePlaced}
+use Rattle.priced_plans.specs.PricedBound.{IsPricedBound}
 use Rattle.lagrange_bound.specs.Best.{IsAtMost, IsMostOfRounds}
+use Rattle.lagrange_bound.specs.Rounds.{cost_weight}
+use Rattle.lagrange_bound.specs.Work.{RoundRoom}
 use Rattle.lagrange_bound.proofs.BestFacts.{at_most_through}
+use Rattle.tree_search.specs.declared.pricing.Source.TheVariants.{Rounds}
+use Rattle.tree_search.specs.declared.rooms.PriceRooms.{PriceRooms}
+use Rattle.tree_search.specs.Rooms.{IsToldBy}
 
 pub most_raised : (parts : Parts) (box : Box) (rounds : ℕ) (least more : Bound)
     → IsMostOfRounds parts box rounds least → IsAtMost least more
     → IsMostOfRounds parts box rounds more
-most_raised parts box rounds least more most le =
-    λ round told few is. at_most_through told least more (most round told few is) le
+most_raised parts box rounds least more most le = record {
+  told = most.told;
+  no_more = λ round told few is.
+      at_most_through told least more (most.no_more round told few is) le;
+}
+
+-- what rounds tell while their room is as it was
+pub rounds_told : (parts : Parts) (box : Box) (room : RoundRoom) (rooms : PriceRooms)
+    (bound : Bound) → rooms.rounds ≡ room → IsPricedBound parts box cost_weight room.best bound
+    → ArePlaced parts room.best
+    → IsToldBy parts box rooms (record { bound = bound; source = Rounds })
+rounds_told parts box room rooms bound same told placed = record {
+  bound = subst (λ (r : RoundRoom). IsPricedBound parts box cost_weight r.best bound) (sym same)
+      told;
+  placed = subst (λ (r : RoundRoom). ArePlaced parts r.best) (sym same) placed;
+}

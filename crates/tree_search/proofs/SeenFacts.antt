@@ -11,12 +11,14 @@ use Rattle.time_windows.specs.Boxes.{Box, IsBoxOf, options_of, width_of}
 use Rattle.time_windows.specs.Splits.{IsBranching}
 use Rattle.time_windows.specs.Tight.{IsTight}
 use Rattle.flight_routes.specs.Prices.{PriceTable}
-use Rattle.lagrange_bound.specs.Best.{IsAtMost, IsMostOfRounds, IsNear}
-use Rattle.lagrange_bound.proofs.BestFacts.{at_most_itself, at_most_through}
+use Rattle.lagrange_bound.specs.Best.{IsAtMost, IsMostOfRounds}
+use Rattle.lagrange_bound.proofs.BestFacts.{at_most_itself}
 use Rattle.branch_tree.specs.declared.leaf.Leaf.{Leaf}
+use Rattle.branch_tree.specs.Leaves.{IsInRange}
 use Rattle.priced_leaf.specs.Leaf.{IsLagOf}
 use Rattle.dual_leaf.specs.declared.fault.LeafFault.{LeafFault}
-use Rattle.dual_leaf.specs.Leaf.{IsLeafBound, IsLive, IsNearBound, IsUnitBound, IsUnitBox}
+use Rattle.dual_leaf.specs.Leaf.{IsLeafBound, IsLive, IsNearOf, IsUnitBound, IsUnitBox}
+use Rattle.priced_plans.specs.PricedBound.{IsNearBound}
 use Rattle.relaxed_bound.specs.Licence.{IsLicensed}
 use Rattle.relaxed_bound.specs.Reached.{is_reached}
 use Rattle.relaxed_bound.specs.Relaxed.{relaxed_leaf}
@@ -25,6 +27,7 @@ use Rattle.tree_search.specs.declared.walk.Branch.{Branch}
 use Rattle.tree_search.specs.Nodes.{HasChoice, IsLeafKind, IsOpenLeaf}
 use Rattle.tree_search.specs.Seen.{IsBranchOf, IsLeafSeen, IsSplitSeen, may_split}
 use Rattle.tree_search.proofs.OptionFacts.{each_some}
+use Rattle.tree_search.proofs.PriceFacts.{most_raised}
 
 -- a Unit leaf on a unit box that is live has a bound
 pub unit_has : (parts : Parts) (box : Box) → IsLive box → IsUnitBox box
@@ -95,10 +98,6 @@ not_split more false true is room = inr refl
 not_split true false false is room = absurd (let e : true ≡ false = is in cc)
 not_split false false false is room = absurd (let e : false ≡ true = room in cc)
 
-near_too : (bound : Bound) → IsNear bound → IsNearBound bound
-near_too NoPlan near = tt
-near_too (AtLeast least) near = near
-
 -- what is known of a box that is seen, which has a plan and a choice
 module _ (parts : Parts) (budget : Budget) (cutoff : Option ℤ) (more : Bool) (box : Box)
     (branch : Branch) (made : IsBoxOf parts box) (live : IsLive box)
@@ -108,8 +107,7 @@ module _ (parts : Parts) (budget : Budget) (cutoff : Option ℤ) (more : Bool) (
   open_is bound le = record {
     live = live;
     choice = branch_choice parts box branch branch_is;
-    rounds = λ round told few is.
-        at_most_through told priced bound (rounds round told few is) le;
+    rounds = most_raised parts box budget.rounds priced bound rounds le;
   }
 
   -- the greater bound reaches the cutoff, or there is no room
@@ -144,8 +142,9 @@ module _ (parts : Parts) (budget : Budget) (cutoff : Option ℤ) (more : Bool) (
           live = live;
           choice = branch_choice parts box branch branch_is;
           cutoff_is = refl;
+          told = rounds.told;
           rounds = λ round told few is.
-              reached_down cutoff told priced (rounds round told few is) below.2;
+              reached_down cutoff told priced (rounds.no_more round told few is) below.2;
           licence = licence run bound_is below.1;
           bound_is = refl;
         };
@@ -156,11 +155,12 @@ module _ (parts : Parts) (budget : Budget) (cutoff : Option ℤ) (more : Bool) (
   -- the run's leaf
   pub run_seen : (leaf : Leaf) → leaf ≡ relaxed_leaf parts box budget.limits cutoff
       → IsLeafBound parts box leaf (Ok run) → IsAtMost priced run
-      → may_split more cutoff run priced ≡ false → IsNearBound run
+      → may_split more cutoff run priced ≡ false → IsInRange leaf → IsNearOf leaf run
       → IsLeafSeen parts budget cutoff more box leaf run
-  run_seen leaf is bound_is le none near = record {
+  run_seen leaf is bound_is le none range near = record {
     node = record {
       inside = made;
+      range = range;
       bound_is = bound_is;
       kind = subst (IsLeafKind parts budget cutoff run box) (sym is) (record {
         box_is = open_is run le;
@@ -168,7 +168,7 @@ module _ (parts : Parts) (budget : Budget) (cutoff : Option ℤ) (more : Bool) (
       });
     };
     reached = reached_by priced run le (λ room. turned (either none room));
-    near = near;
+    near = subst (λ z. IsNearOf z run) is near;
   }
 
   -- the leaf of prices
@@ -176,21 +176,24 @@ module _ (parts : Parts) (budget : Budget) (cutoff : Option ℤ) (more : Bool) (
       → IsLagOf parts weight table told → IsLeafBound parts box told (Ok priced)
       → leaf ≡ relaxed_leaf parts box budget.limits cutoff → IsLeafBound parts box leaf (Ok run)
       → IsAtMost run priced → (IsAtMost priced run → ⊥)
-      → may_split more cutoff run priced ≡ false → IsNear priced
+      → may_split more cutoff run priced ≡ false → IsInRange told → IsNearBound priced
       → IsLeafSeen parts budget cutoff more box told priced
-  priced_seen leaf told weight table lag bound_is is run_is le above none near = record {
+  priced_seen leaf told weight table lag bound_is is run_is le above none range near = record {
     node = record {
       inside = made;
+      range = range;
       bound_is = bound_is;
       kind = subst (IsLeafKind parts budget cutoff priced box) (sym lag.is) (record {
         box_is = open_is priced (at_most_itself priced);
+        positive = lag.positive;
+        ascending = lag.ascending;
         run = run;
         run_is = subst (λ z. IsLeafBound parts box z (Ok run)) is run_is;
         above = above;
       });
     };
     reached = reached_by run priced le (either none);
-    near = near_too priced near;
+    near = near;
   }
 
 pub apart : (b : Bool) → b ≡ true → b ≡ false → ⊥

@@ -9,7 +9,7 @@ use Rattle.flow_types.specs.Costs.{plan_cost}
 use Rattle.flow_types.specs.Valid.{IsScenario}
 use Rattle.time_windows.specs.Boxes.{Box, IsInBox}
 use Rattle.greedy_plan.specs.Greedy.{IsGreedy}
-use Rattle.dual_leaf.specs.Leaf.{IsNearBound}
+use Rattle.priced_plans.specs.PricedBound.{IsNearBound}
 use Rattle.dual_leaf.proofs.LeafFacts.{same_plan}
 use Rattle.dual_leaf.proofs.UnitSumFacts.{stuck}
 use Rattle.relaxed_bound.specs.Reached.{is_reached}

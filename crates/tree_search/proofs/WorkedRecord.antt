@@ -313,6 +313,7 @@ whole budget some = record {
   tree = (
     record {
       inside = it_is_inside;
+      range = tt;
       bound_is = (it_is_unit, (soon, keeps, plan_in, refl));
       kind = refl;
     },

@@ -10,7 +10,8 @@ use Rattle.time_windows.specs.Boxes.{Box}
 use Rattle.greedy_plan.specs.Greedy.{IsGreedy}
 use Rattle.branch_tree.specs.declared.tree.TreeNode.{TreeNode}
 use Rattle.branch_tree.specs.Forests.{IsTreeOn, Leads}
-use Rattle.dual_leaf.specs.Leaf.{IsCostIn, IsNearBound, IsUnitBox}
+use Rattle.dual_leaf.specs.Leaf.{IsCostIn, IsUnitBox}
+use Rattle.priced_plans.specs.PricedBound.{IsNearBound}
 use Rattle.relaxed_bound.specs.Reached.{is_reached}
 use Rattle.tree_search.specs.declared.found.Budget.{Budget}
 use Rattle.tree_search.specs.declared.draft.Draft.{Draft}

@@ -8,12 +8,15 @@ use Rattle.flow_types.specs.declared.plan.Stop.{Stop}
 use Rattle.flow_types.specs.Costs.{plan_cost}
 use Rattle.time_windows.specs.Boxes.{Box, IsBoxOf, options_of}
 use Rattle.lagrange_bound.specs.Rounds.{IsRoundBound}
-use Rattle.lagrange_bound.specs.Best.{IsAtMost}
+use Rattle.lagrange_bound.specs.Best.{HaveBounds, IsAtMost, IsMostOfRounds}
 use Rattle.branch_tree.specs.declared.leaf.Leaf.{Leaf as LeafKind}
 use Rattle.branch_tree.specs.declared.leaf.Leaf.TheVariants.{Dual, Empty, Lag, Unit as UnitLeaf}
+use Rattle.branch_tree.specs.declared.leaf.Multiplier.{Multiplier}
 use Rattle.branch_tree.specs.declared.tree.TreeNode.{TreeNode}
 use Rattle.branch_tree.specs.declared.tree.TreeNode.TheVariants.{Leaf, Split}
+use Rattle.branch_tree.specs.Leaves.{IsInRange}
 use Rattle.dual_leaf.specs.Leaf.{IsLeafBound, IsLive}
+use Rattle.priced_leaf.specs.Leaf.{AreAscending, ArePositive}
 use Rattle.relaxed_bound.specs.Licence.{IsLicensed}
 use Rattle.relaxed_bound.specs.Reached.{is_reached}
 use Rattle.relaxed_bound.specs.Relaxed.{relaxed_leaf}
@@ -39,8 +42,7 @@ pub record HasChoice (box : Box) : Type 0 where
 pub record IsOpenLeaf (parts : Parts) (budget : Budget) (bound : Bound) (box : Box) : Type 0 where
   pub live : IsLive box
   pub choice : HasChoice box
-  pub rounds : (round : ℕ) (told : Bound) → round ≤ budget.rounds
-      → IsRoundBound parts box round told → IsAtMost told bound
+  pub rounds : IsMostOfRounds parts box budget.rounds bound
 
 -- its leaf is that of its relaxation's run
 pub record IsRunLeaf (parts : Parts) (budget : Budget) (cutoff : Option ℤ) (bound : Bound)
@@ -48,10 +50,13 @@ pub record IsRunLeaf (parts : Parts) (budget : Budget) (cutoff : Option ℤ) (bo
   pub box_is : IsOpenLeaf parts budget bound box
   pub is : leaf ≡ relaxed_leaf parts box budget.limits cutoff
 
--- or a leaf of prices, whose bound is above that of the run's leaf
+-- or a leaf of prices, none of which is 0, in the order of their rows; its bound is above that of
+-- the run's leaf
 pub record IsPriceLeaf (parts : Parts) (budget : Budget) (cutoff : Option ℤ) (bound : Bound)
-    (box : Box) : Type 0 where
+    (box : Box) (rows : List Multiplier) : Type 0 where
   pub box_is : IsOpenLeaf parts budget bound box
+  pub positive : ArePositive rows
+  pub ascending : AreAscending rows
   pub run : Bound
   pub run_is : IsLeafBound parts box (relaxed_leaf parts box budget.limits cutoff) (Ok run)
   pub above : IsAtMost bound run → ⊥
@@ -64,22 +69,24 @@ IsLeafKind parts budget cutoff bound box UnitLeaf = is_reached cutoff bound ≡ 
 IsLeafKind parts budget cutoff bound box (Dual weight rows) =
     IsRunLeaf parts budget cutoff bound box (Dual weight rows)
 IsLeafKind parts budget cutoff bound box (Lag weight rows) =
-    IsPriceLeaf parts budget cutoff bound box
+    IsPriceLeaf parts budget cutoff bound box rows
 
 pub record IsLeafNode (parts : Parts) (budget : Budget) (cutoff : Option ℤ) (bound : Bound)
     (box : Box) (leaf : LeafKind) : Type 0 where
   pub inside : IsBoxOf parts box
+  pub range : IsInRange leaf
   pub bound_is : IsLeafBound parts box leaf (Ok bound)
   pub kind : IsLeafKind parts budget cutoff bound box leaf
 
--- A split names its cutoff, and is licensed; it has no bound of its own. No round of prices tells a
--- bound that reaches the cutoff.
+-- A split names its cutoff, and is licensed; it has no bound of its own. Each round of prices tells
+-- a bound, and none one that reaches the cutoff.
 pub record IsSplitNode (parts : Parts) (budget : Budget) (cutoff : Option ℤ) (bound : Bound)
     (box : Box) (named : Option ℤ) : Type 0 where
   pub inside : IsBoxOf parts box
   pub live : IsLive box
   pub choice : HasChoice box
   pub cutoff_is : named ≡ cutoff
+  pub told : HaveBounds parts box budget.rounds
   pub rounds : (round : ℕ) (told : Bound) → round ≤ budget.rounds
       → IsRoundBound parts box round told → is_reached cutoff told ≡ false
   pub licence : IsLicensed parts box budget.limits cutoff

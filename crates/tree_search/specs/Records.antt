@@ -11,7 +11,7 @@ use Rattle.time_windows.specs.Boxes.{Box, IsInBox}
 use Rattle.time_windows.specs.Tight.{IsTightened}
 use Rattle.greedy_plan.specs.Greedy.{IsGreedy}
 use Rattle.branch_tree.specs.Forests.{IsTreeOn}
-use Rattle.dual_leaf.specs.Leaf.{IsNearBound}
+use Rattle.priced_plans.specs.PricedBound.{IsNearBound}
 use Rattle.tree_search.specs.declared.found.Budget.{Budget}
 use Rattle.tree_search.specs.declared.found.Found.{Found}
 use Rattle.tree_search.specs.Bounds.{least_of}

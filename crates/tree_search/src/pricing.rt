@@ -3,7 +3,9 @@ ghost use Rattle.std.specs.Prelude.{◌≤◌, IfOk, Ok};
 ghost use Rattle.dual_leaf.specs.Leaf.{IsLeafBound, IsLive};
 ghost use Rattle.flow_types.specs.declared.bound.Bound.{Bound};
 ghost use Rattle.flow_types.specs.Scenario.{parts_of};
-ghost use Rattle.lagrange_bound.specs.Best.{IsMostOfRounds, IsNear};
+ghost use Rattle.branch_tree.specs.Leaves.{IsInRange};
+ghost use Rattle.lagrange_bound.specs.Best.{IsMostOfRounds};
+ghost use Rattle.priced_plans.specs.PricedBound.{IsNearBound};
 ghost use Rattle.lagrange_bound.specs.Work.{most_rounds};
 ghost use Rattle.priced_leaf.specs.Leaf.{IsLagOf};
 ghost use Rattle.priced_plans.specs.Keys.{ArePlaced};
@@ -101,7 +103,7 @@ pub fn price(
     requires rooms { ArePriceRoomsFor (parts_of s.now) rooms.old }
     ensures told { IsToldBy (parts_of s.now) (box_of boxes.now) rooms.new result }
     ensures most { IsMostOfRounds (parts_of s.now) (box_of boxes.now) rounds result.bound }
-    ensures near { IsNear result.bound }
+    ensures near { IsNearBound result.bound }
     ensures rooms { ArePriceRoomsFor (parts_of s.now) rooms.new }
 {
     let played = rooms.rounds.play(s, boxes, rounds);
@@ -137,6 +139,7 @@ pub fn price_leaf(
     requires placed { ArePlaced (parts_of s.now) (prices_from rooms.now source) }
     ensures prices { IfOk result
         (IsLagOf (parts_of s.now) (weight_from source) (prices_from rooms.now source)) }
+    ensures range { IfOk result IsInRange }
     ensures bound { IfOk result (λ leaf. (box : Box) (bound : Bound) → IsLive box
         → Tells (parts_of s.now) box rooms.now source bound
         → IsLeafBound (parts_of s.now) box leaf (Ok bound)) }

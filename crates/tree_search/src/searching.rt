@@ -1,9 +1,8 @@
 //! The search.
-ghost use Rattle.std.specs.Prelude.{◌≡◌, [], ◌∷◌, ◌+◌, ◌<◌, ◌≤◌, ◌↔◌, IfSome, IsTrue, IfOk, MatchOption, OnOk, true};
+ghost use Rattle.std.specs.Prelude.{◌≡◌, [], ◌∷◌, ◌+◌, ◌<◌, ◌≤◌, ◌↔◌, IfSome, IsTrue, IfOk, OnOk, true};
 ghost use Rattle.branch_tree.specs.declared.tree.TreeNode.TheVariants.{Leaf as LeafNode, Split as SplitNode};
 ghost use Rattle.branch_tree.specs.Trees.{is_tree};
 ghost use Rattle.dual_leaf.specs.Leaf.{IsBoundOn};
-ghost use Rattle.flow_types.specs.Feasible.{IsFeasible};
 ghost use Rattle.flow_types.specs.Scenario.{parts_of};
 ghost use Rattle.flow_types.specs.declared.bound.Bound.TheVariants.{NoPlan};
 ghost use Rattle.lagrange_bound.specs.Work.{most_rounds};
@@ -13,7 +12,7 @@ ghost use Rattle.time_windows.specs.Tight.{IsTight, IsTightened};
 ghost use Rattle.tree_search.specs.declared.found.Budget.{Budget};
 ghost use Rattle.tree_search.specs.declared.walk.Step.TheVariants.{Early};
 ghost use Rattle.tree_search.specs.Bounds.{least_of, lesser};
-ghost use Rattle.tree_search.specs.Drafts.{IsBlank, IsNoted, IsOffered};
+ghost use Rattle.tree_search.specs.Drafts.{IsBlank, IsNoted};
 ghost use Rattle.tree_search.specs.Records.{IsPlanIn, IsSearchRecord};
 ghost use Rattle.tree_search.specs.Rooms.{AreRoomsFor};
 ghost use Rattle.tree_search.specs.Searching.{IsLeft, IsSearched, IsSearching, IsStepped, planned_in};
@@ -86,6 +85,27 @@ fn find_cheaper(
     )
 }
 
+// Offers a plan of the present box, if one is found.
+fn offer_found(
+    s: &Scenario,
+    walk: &Walk,
+    draft: &mut Draft,
+    found: Option<Plan>,
+) -> Result<(), OutOfMemory>
+    requires { IfSome found (IsPlanIn (parts_of s.now) (box_of walk.now.present)) }
+    ensures improved { (budget : Budget) → IsSearching (parts_of s.now) budget walk.now draft.old
+        → OnOk result (IsSearching (parts_of s.now) budget walk.now draft.new) }
+    ensures nodes { OnOk result (draft.new.nodes ≡ draft.old.nodes) }
+{
+    match found {
+        None => Ok(()),
+        Some(plan) => {
+            offer(draft, s, plan)?;
+            Ok(())
+        }
+    }
+}
+
 // Looks for such a plan in the present box, and offers it.
 fn improve(
     alloc: Global,
@@ -102,20 +122,7 @@ fn improve(
     ensures rooms { AreRoomsFor (parts_of s.now) rooms.new }
 {
     let found = find_cheaper(alloc, s, walk.boxes(), rooms, bound)?;
-    offer_found(draft, s, found)?;
-    Ok(())
-}
-
-// Offers the plan, if one is found.
-fn offer_found(draft: &mut Draft, s: &Scenario, found: Option<Plan>) -> Result<(), OutOfMemory>
-    requires { IfSome found (IsFeasible (parts_of s.now)) }
-    ensures { OnOk result (MatchOption found (draft.new ≡ draft.old)
-        (λ plan. IsOffered (parts_of s.now) plan draft.old draft.new)) }
-{
-    match found {
-        None => Ok(()),
-        Some(plan) => offer(draft, s, plan),
-    }
+    offer_found(s, walk, draft, found)
 }
 
 // Whether there is room in the budget for two nodes more, beside those that are there, the present
@@ -251,8 +258,7 @@ fn climb_on(
     ensures rooms { AreRoomsFor (parts_of s.now) rooms.new }
 {
     let found = find_by_prices(alloc, s, walk.boxes(), rooms, rounds, draft.best)?;
-    offer_found(draft, s, found)?;
-    Ok(())
+    offer_found(s, walk, draft, found)
 }
 
 // The same, and offers the greedy plan of the next box.

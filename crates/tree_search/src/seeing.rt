@@ -3,7 +3,7 @@ ghost use Rattle.std.specs.Prelude.{◌≡◌, ◌≤◌, IfOk, Ok, Result, true
 ghost use Rattle.std.specs.Result.{IsOk};
 ghost use Rattle.branch_tree.specs.Leaves.{IsInRange};
 ghost use Rattle.dual_leaf.specs.declared.fault.LeafFault.{LeafFault};
-ghost use Rattle.dual_leaf.specs.Leaf.{IsCostIn, IsLeafBound, IsLive, IsNearBound, IsUnitBox};
+ghost use Rattle.dual_leaf.specs.Leaf.{IsCostIn, IsLeafBound, IsLive, IsNearOf, IsUnitBox};
 ghost use Rattle.dual_leaf.specs.Work.{IsRoomFor};
 ghost use Rattle.lagrange_bound.specs.Work.{most_rounds};
 ghost use Rattle.tree_search.specs.Rooms.{AreRoomsFor};
@@ -157,7 +157,7 @@ fn bound_of(alloc: Global, s: &Scenario, boxes: &Boxes, work: &mut LeafWork, lea
     requires some { (answer : Result Bound LeafFault)
         → IsLeafBound (parts_of s.now) (box_of boxes.now) leaf.now answer → IsOk answer }
     ensures bound { IsLeafBound (parts_of s.now) (box_of boxes.now) leaf.now (Ok result) }
-    ensures near { IsNearBound result }
+    ensures near { IsNearOf leaf.now result }
     ensures work { IsRoomFor (parts_of s.now) work.new }
 {
     work.leaf_bound(s, boxes, leaf, &Pool::empty(alloc))

@@ -1,7 +1,8 @@
 use Rattle.std.proofs.Common.{length, ap, subst, sym, arith}
 use Rattle.flow_types.specs.Scenario.{parts_of}
 use Rattle.time_windows.specs.Held.{box_of}
-use Rattle.dual_leaf.specs.Leaf.{IsBoundOn, IsCostIn, IsNearBound}
+use Rattle.dual_leaf.specs.Leaf.{IsBoundOn, IsCostIn}
+use Rattle.priced_plans.specs.PricedBound.{IsNearBound}
 use Rattle.dual_leaf.proofs.UnitSumFacts.{so_far_none, whole_cost, whole_near, whole_sound}
 use Rattle.dual_leaf.proofs.unit.unit_cost.Goals as goal
 

@@ -2,7 +2,7 @@ use Rattle.std.proofs.Common.{◌≡◌, subst, arith}
 use Rattle.flow_types.specs.Scenario.{parts_of}
 use Rattle.time_windows.specs.Held.{box_of}
 use Rattle.lagrange_bound.specs.Work.{IsBest}
-use Rattle.lagrange_bound.proofs.BestFacts.{first_played}
+use Rattle.lagrange_bound.proofs.BestFacts.{best_ends, first_played}
 use Rattle.lagrange_bound.proofs.rounds.play_rounds.Goals as goal
 
 pub loop-played-init : goal.loop-played-init
@@ -22,3 +22,11 @@ returns-clause-kept c =
     omega (arith, c.loop-played.auto.played-end, c.loop-played-test.false) in
     subst (λ n. IsBest (parts_of c.args.s.now) (box_of c.args.boxes.now) n c.loop-played.best
     c.loop-played.bound) all c.loop-played.invariant.0.kept
+
+pub returns-in-NoPlan-clause-kept : goal.returns-in-NoPlan-clause-kept
+returns-in-NoPlan-clause-kept c =
+    best_ends (parts_of c.args.s.now) (box_of c.args.boxes.now) c.loop-played.played c.args.rounds
+    c.loop-played.best
+    (omega (arith, c.loop-played.auto.played-end, c.loop-played-test.true))
+    (subst (IsBest (parts_of c.args.s.now) (box_of c.args.boxes.now) c.loop-played.played
+    c.loop-played.best) c.in-NoPlan.is c.loop-played.invariant.0.kept)

@@ -15,7 +15,8 @@ returns-in_ok-add c =
     (sym c.row_of-row.ensures)
     (listed-more (parts_of c.args.s.now) c.args.prices.now c.args.key c.args.rows.now
     c.price_at-value.result c.requires.placed c.requires.key c.price_at-value.ensures.price
-    (let some = c.if-value-gt0.true in omega (arith, some)) c.requires.listed))
+    (let some = c.if-value-gt0.true in omega (arith, some)) c.price_at-value.ensures.small
+    c.requires.listed))
   where
     listed : List Multiplier → Type 0
     listed = IsListed (parts_of c.args.s.now) c.args.prices.now (number_in c.args.key)

@@ -1,4 +1,3 @@
-use Rattle.flow_types.specs.Scenario.{parts_of}
 use Rattle.tree_search.proofs.searching.search_from.Goals as goal
 
 pub run-requires-clause-searching : goal.run-requires-clause-searching

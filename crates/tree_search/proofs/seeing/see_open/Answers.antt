@@ -25,7 +25,8 @@ returns-in_ok-leaf-2-clause-seen c =
     c.requires.live c.price-priced.ensures.told.bound)
     c.in_ok-leaf.ensures.leaf c.bound_of-run.ensures.bound
     (c.is_above.ensures.above c.if-is_above.true) (c.is_above.ensures.strictly c.if-is_above.true)
-    (sym c.may_split.ensures ∙ c.if-may_split.false) c.price-priced.ensures.near
+    (sym c.may_split.ensures ∙ c.if-may_split.false) c.in_ok-leaf-2.ensures.range
+    c.price-priced.ensures.near
 
 pub returns-else-is_above-clause-seen : goal.returns-else-is_above-clause-seen
 returns-else-is_above-clause-seen c =
@@ -34,4 +35,4 @@ returns-else-is_above-clause-seen c =
     c.requires.branch c.bound_of-run.result c.price-priced.result.bound c.price-priced.ensures.most
     c.in_ok-leaf.field-0.leaf c.in_ok-leaf.ensures.leaf c.bound_of-run.ensures.bound
     (c.is_above.ensures.not c.if-is_above.false) (sym c.may_split.ensures ∙ c.if-may_split.false)
-    c.bound_of-run.ensures.near
+    c.in_ok-leaf.ensures.range c.bound_of-run.ensures.near
