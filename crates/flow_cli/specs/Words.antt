@@ -1,9 +1,8 @@
 -- The words of the command line.
-use Rattle.std.specs.Prelude.{ℕ, ◌==◌, ◌<◌, ◌≤◌, Bool, false, ◌&&◌, not, List, [], ◌∷◌, length, Option, Some, None, IfSome, nat_le, option_map, unwrap_or, codes, if◌then◌else◌}
+use Rattle.std.specs.Prelude.{ℕ, ◌==◌, ◌<◌, Bool, false, ◌&&◌, not, List, [], ◌∷◌, length, Option, Some, None, IfSome, nat_le, option_map, unwrap_or, codes, if◌then◌else◌}
 use Rattle.std.specs.Option.{option_and_then}
 use Rattle.std.specs.Str.{bytes_eq}
 use Rattle.flow_types.specs.Words.{number_of}
-use Rattle.lagrange_bound.specs.Work.{most_rounds}
 use Rattle.tree_search.specs.declared.found.Budget.{Budget}
 use Rattle.flow_cli.specs.declared.words.Command.{Command}
 use Rattle.flow_cli.specs.declared.words.Command.TheVariants as command
@@ -138,13 +137,12 @@ abbrev pub asked_by : Command → Asked
 asked_by (command.Plan name budget) = Planned name.now budget
 asked_by (command.Judge name plan) = Judged name.now plan.now
 
--- a search has a node at least, and no more rounds than there may be
-pub record IsAllowed (given : Given) : Type 0 where
-  pub nodes : IfSome given.nodes (λ n. 0 < n)
-  pub rounds : IfSome given.rounds (λ n. n ≤ 1000)
+-- a search has a node at least
+abbrev pub IsAllowed : Given → Type 0
+IsAllowed given = IfSome given.nodes (λ n. 0 < n)
 
 abbrev pub MaySearch : Command → Type 0
-MaySearch (command.Plan name budget) = (0 < budget.nodes) × (budget.rounds ≤ most_rounds)
+MaySearch (command.Plan name budget) = 0 < budget.nodes
 MaySearch (command.Judge name plan) = Unit {0}
 
 -- the commands, and the words that each one takes

@@ -1,12 +1,11 @@
 //! The command `plan`.
-ghost use Rattle.std.specs.Prelude.{◌≡◌, ◌<◌, ◌≤◌, IfOk, IfSome};
+ghost use Rattle.std.specs.Prelude.{◌≡◌, ◌<◌, IfOk, IfSome};
 ghost use Rattle.flow_outside.specs.Seen.{AreKept};
 ghost use Rattle.flow_types.specs.Scenario.{parts_of};
 ghost use Rattle.flow_types.specs.Bounds.{IsBound};
 ghost use Rattle.flow_types.specs.Feasible.{IsFeasible};
 ghost use Rattle.time_windows.specs.Boxes.{root_box};
 ghost use Rattle.tree_search.specs.Records.{IsSearchRecord};
-ghost use Rattle.lagrange_bound.specs.Work.{most_rounds};
 ghost use Rattle.flow_cli.specs.Answers.{IfAnswered, work_status};
 ghost use Rattle.flow_cli.specs.Outside.{change, printed_by};
 ghost use Rattle.flow_cli.specs.Planning.{IsEnough, IsOfPlan, IsOpen, IsPlannedDay, IsSpent, last_plan};
@@ -29,7 +28,6 @@ pub fn plan_named<F: Files>(
     budget: Budget,
 ) -> Result<Answer, EarlyEnd>
     requires nodes { 0 < budget.nodes }
-    requires rounds { budget.rounds ≤ most_rounds }
     ensures answered { IfAnswered result
         (IsOfPlan (change (F.seen files.old) (F.seen files.new)) name.now budget) }
     ensures quiet { IsQuiet (change (F.seen files.old) (F.seen files.new)) (work_status result) }
@@ -42,7 +40,6 @@ pub fn plan_named<F: Files>(
 // The answer to a day.
 fn plan_day(alloc: Global, s: &Scenario, budget: Budget) -> Result<Answer, OutOfMemory>
     requires nodes { 0 < budget.nodes }
-    requires rounds { budget.rounds ≤ most_rounds }
     ensures { IfOk result (λ answer. IsPlannedDay (parts_of s.now) budget (printed_by answer)) }
 {
     let found = search_day(alloc, s, budget)?;
@@ -55,7 +52,6 @@ fn plan_day(alloc: Global, s: &Scenario, budget: Budget) -> Result<Answer, OutOf
 #[tactic(auto, using(crate::proofs::PlanningFacts::record_of_day, crate::proofs::PlanningFacts::bound_of_day, crate::proofs::PlanningFacts::last_is_feasible, crate::proofs::PlanningFacts::spent_of_day, crate::proofs::PlanningFacts::closed_of_day))]
 fn search_day(alloc: Global, s: &Scenario, budget: Budget) -> Result<Found, OutOfMemory>
     requires nodes { 0 < budget.nodes }
-    requires rounds { budget.rounds ≤ most_rounds }
     ensures record { IfOk result
         (IsSearchRecord (parts_of s.now) (root_box (parts_of s.now)) budget) }
     ensures feasible { IfOk result

@@ -1,6 +1,5 @@
 //! The words of the command line.
 ghost use Rattle.std.specs.Prelude.{◌≡◌, ◌≤◌, ◌<◌, IfSome, map, option_map, string_bytes};
-ghost use Rattle.lagrange_bound.specs.Work.{most_rounds};
 ghost use Rattle.flow_cli.specs.Words.{IsAllowed, MaySearch, asked, asked_by, asked_plan, asked_verdict, budget_of, is_word_for_name, number_within, with_cells, with_nodes, with_option, with_options, with_pivots, with_rounds};
 
 use flow_types::parse_number;
@@ -219,7 +218,6 @@ fn budget_of(given: Given) -> Budget
     requires given { IsAllowed given }
     ensures budget { result ≡ budget_of given }
     ensures nodes { 0 < result.nodes }
-    ensures rounds { result.rounds ≤ most_rounds }
 {
     Budget {
         nodes: given.nodes.unwrap_or(2_001),

@@ -60,6 +60,7 @@ module _ (parts : Parts) (box : Box) (valid : IsScenario parts) where
     size = sized;
     table = (sized, free);
     low = λ k within. omega (arith, free k);
+    last = (told, is);
     taken = taken;
     kept = subst (λ b. IsBest parts box 0 b told) (sym copied) (record {
       size = sized;
@@ -120,6 +121,7 @@ module _ (parts : Parts) (box : Box) (valid : IsScenario parts) where
       size = size;
       table = table_more;
       low = low;
+      last = (told, is);
       taken = taken_for bound most;
       kept = record {
         size = played.kept.size;
@@ -139,6 +141,7 @@ module _ (parts : Parts) (box : Box) (valid : IsScenario parts) where
       size = size;
       table = table_more;
       low = low;
+      last = (told, is);
       taken = taken;
       kept = subst (λ b. IsBest parts box (n + 1) b told) (sym same) (record {
         size = size;
@@ -149,7 +152,7 @@ module _ (parts : Parts) (box : Box) (valid : IsScenario parts) where
     }
 
 -- once a flight has no trip in the box, each round leaves the prices
-rounds_go_on : (parts : Parts) (box : Box) (n : ℕ) → LacksTrip parts box
+pub rounds_go_on : (parts : Parts) (box : Box) (n : ℕ) → LacksTrip parts box
     → HaveBounds parts box n → (m : ℕ) → HaveBounds parts box m
 rounds_go_on parts box n lacks have m = λ round within. at round
   where

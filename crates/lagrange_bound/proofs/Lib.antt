@@ -1,4 +1,5 @@
 pub mod BestFacts
+pub mod StillFacts
 pub mod MoveFacts
 pub mod NearFacts
 pub mod SameFacts

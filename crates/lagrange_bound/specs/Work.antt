@@ -58,5 +58,6 @@ pub record ArePlayed (parts : Parts) (box : Box) (rounds : ℕ) (prices best : P
   pub size : ArePricesOf parts prices
   pub table : IsRoundTable parts box rounds prices
   pub low : AreLow parts rounds prices
+  pub last : (told : Bound) × IsTableBound parts box prices told
   pub taken : AreTakenFor parts box prices loads bound
   pub kept : IsBest parts box rounds best bound

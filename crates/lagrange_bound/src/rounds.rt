@@ -23,6 +23,9 @@ use std::alloc::Global;
 use std::marker::Model;
 use time_windows::Boxes;
 
+// From the next round on prices stay as they are: the step is 0.
+const LAST_ROUND: u32 = 1024;
+
 /// Room to play rounds in, and the best prices of those that were played last. Contracts see it as
 /// a `RoundRoom`.
 #[derive(Debug, Drop)]
@@ -74,13 +77,12 @@ impl Rounds {
     /// greatest bound. Answers what they tell: no feasible plan in the box costs less, or there is
     /// none, since a flight has no trip in the box. The bound is nearer to 0 than 2^115.
     ///
-    /// The room and the box are of the scenario, and there are at most 2^18 rounds. With none the
-    /// prices are 0. It takes no memory, and time as a least trip for each flight, and for each
-    /// place and period, once more often than there are rounds.
+    /// The room and the box are of the scenario. With no round the prices are 0, and after round
+    /// 1,024 none moves them any more. It takes no memory, and time as a least trip for each flight,
+    /// and for each place and period, once more often than there are rounds up to 1,024.
     pub fn play(&mut self, s: &Scenario, boxes: &Boxes, rounds: u32) -> Bound
         requires made { IsRoomFor (parts_of s.now) self.old }
         requires boxes { IsMadeFor (parts_of s.now) boxes.now }
-        requires few { rounds ≤ most_rounds }
         ensures one { IsOneOfRounds (parts_of s.now) (box_of boxes.now) rounds self.new.best }
         ensures told { IsTableBound (parts_of s.now) (box_of boxes.now) self.new.best result }
         ensures least { IsMostOfRounds (parts_of s.now) (box_of boxes.now) rounds result }
@@ -121,7 +123,6 @@ fn play_rounds(
     loads: &mut Loads,
 ) -> Bound
     requires boxes { IsMadeFor (parts_of s.now) boxes.now }
-    requires few { rounds ≤ most_rounds }
     requires prices { ArePricesOf (parts_of s.now) prices.old }
     requires free { AreFree prices.old }
     requires best { ArePricesOf (parts_of s.now) best.old }
@@ -135,7 +136,7 @@ fn play_rounds(
 {
     let mut bound = tell(s, boxes, prices, work, loads);
     best.copy_from(prices);
-    for played in 0..rounds {
+    for played in 0..rounds.min(LAST_ROUND) {
         if let Bound::NoPlan = bound {
             return Bound::NoPlan;
         }

@@ -125,8 +125,8 @@ impl Improver {
         Ok(if_cheaper(&mut self.loads, s, boxes, start, plan))
     }
 
-    /// The plan, if it keeps every rule and is in the box, which is of the scenario that the room
-    /// was made for.
+    /// The plan, where it is found to keep every rule and to be in the box, which is of the scenario
+    /// that the room was made for.
     pub fn if_kept(&mut self, s: &Scenario, boxes: &Boxes, plan: Plan) -> Option<Plan>
         requires made { IsSearchRoomFor (parts_of s.now) self.old }
         ensures kept { IfSome result (IsKept (parts_of s.now) (box_of boxes.now)) }

@@ -7,16 +7,16 @@ ghost use Rattle.flight_routes.specs.Work.{IsWorkFor};
 ghost use Rattle.plan_rules.specs.Loads.{IsMadeFor as AreLoadsFor};
 ghost use Rattle.time_windows.specs.Held.{IsMadeFor, box_of};
 ghost use Rattle.priced_plans.specs.PricedBound.{IsNearBound, IsPricedBound};
-ghost use Rattle.price_ascent.specs.Slopes.{IsGood};
+ghost use Rattle.price_ascent.specs.Slopes.{AreSlopesFor, IsGood};
 ghost use Rattle.price_ascent.specs.Work.{climb_weight, is_positive};
 
 use crate::pace::{Pace, weighted};
-use crate::slopes::{Slope, all_slopes, move_prices, turn_slopes};
+use crate::slopes::{Slope, all_slopes, move_prices, paid_by_limits, turn_slopes};
 use crate::spread::Spread;
 use flight_routes::{Prices, Work};
 use flow_types::{Bound, MOST_NODES, OutOfMemory, Plan, Scenario, Stop, Trip};
 use plan_rules::Loads;
-use priced_plans::{limit_price, priced_bound, priced_bounds_are_bounds, priced_value};
+use priced_plans::{priced_bound, priced_bounds_are_bounds, priced_value};
 use std::alloc::Global;
 use std::marker::Model;
 use time_windows::Boxes;
@@ -98,7 +98,7 @@ impl Ascent {
     /// more.
     ///
     /// The room and the box are of the scenario. It takes no memory, and for each step the time of
-    /// a least trip for each flight and of a look at each price.
+    /// a least trip for each flight and of a look at each price that may rise.
     pub fn climb(
         &mut self,
         s: &Scenario,
@@ -174,6 +174,11 @@ impl Ascent {
         &self.tables.best
     }
 
+    /// How many prices may rise.
+    pub fn rising(&self) -> usize {
+        self.slopes.len()
+    }
+
     /// How much the periods differ in which the flight entered the node in the steps of the last
     /// climb.
     pub fn spread(&self, flight: u32, node: u16) -> Spread {
@@ -216,6 +221,7 @@ impl Ascent {
             &mut self.trips.work,
             &mut self.trips.loads,
             &mut self.trips.spreads,
+            &self.slopes,
             s,
             boxes,
             &self.tables.present,
@@ -332,9 +338,9 @@ fn add_times(spreads: &mut [Spread], flight: u32, stops: &[Stop]) {
     }
 }
 
-// The value of the prices, nothing where a flight has no trip; the loads then count the least trips
-// under them, and their times are added to the spreads.
-fn value_of(
+// What the least trips under the prices cost and pay, nothing where a flight has none; the loads
+// then count them, and their times are added to the spreads.
+fn least_sum(
     work: &mut Work,
     loads: &mut Loads,
     spreads: &mut [Spread],
@@ -358,7 +364,30 @@ fn value_of(
         add_times(spreads, flight, work.trip());
         sum = sum.saturating_add(least);
     }
-    Some(sum.saturating_sub(limit_price(s, prices) as i128))
+    Some(sum)
+}
+
+// The value of the prices, nothing where a flight has no trip, with the counts and the times of the
+// least trips as above.
+fn value_of(
+    work: &mut Work,
+    loads: &mut Loads,
+    spreads: &mut [Spread],
+    slopes: &[Slope],
+    s: &Scenario,
+    boxes: &Boxes,
+    prices: &Prices,
+) -> Option<i128>
+    requires work { IsWorkFor (parts_of s.now) work.old }
+    requires loads { AreLoadsFor (parts_of s.now) loads.old }
+    requires slopes { AreSlopesFor (parts_of s.now) slopes.now }
+    requires boxes { IsMadeFor (parts_of s.now) boxes.now }
+    requires prices { IsGood (parts_of s.now) prices.now }
+    ensures work { IsWorkFor (parts_of s.now) work.new }
+    ensures loads { AreLoadsFor (parts_of s.now) loads.new }
+{
+    let least = least_sum(work, loads, spreads, s, boxes, prices)?;
+    Some(least.saturating_sub(paid_by_limits(slopes, s, prices)))
 }
 
 // The least trips under the prices; no stops where a flight has none.

@@ -17,18 +17,20 @@
 //!
 //! Proved: the bound is exactly what the kept prices tell (`told`), no plan in the box that keeps
 //! every rule costs less (`sound`), and a price stands only where there is such a capacity
-//! (`placed`). Where `has_none` says so, no plan is in the box that keeps every rule: the value of
-//! the prices alone is above 0 (`none`). How great the bound is, no clause says.
+//! (`placed`). `has_none` says yes exactly where the value of the prices alone is above 0 (`none`),
+//! and then no plan is in the box that keeps every rule. How great the bound is, no clause says.
 //!
 //! Memory: `Work`, `Loads`, three times `Prices`, 24 bytes for each price that may rise, or up to
 //! twice that, and 24 for each of 32 nodes a flight. A climb takes none. Time: for each step a
-//! least trip for each flight, and a look at each price.
+//! least trip for each flight, and a look at each price that may rise: there must be more flights
+//! for a capacity than it takes.
 #![tactic(auto)]
 
 mod ascent;
 mod pace;
 mod slopes;
 mod spread;
+mod users;
 
 pub use ascent::{Ascent, WEIGHT};
 pub use spread::Spread;

@@ -4,6 +4,9 @@
 //! is doubled, and where nothing is gained for ten steps it is halved (a level method without a
 //! bound from above, after Brännlund, "A generalized subgradient method with relaxation step",
 //! 1995). So no cost needs to be known.
+//!
+//! Where none is known there may be no plan, and then the values grow without end: the lead is
+//! begun anew where it is used up, and the climb goes on.
 
 use crate::ascent::WEIGHT;
 
@@ -109,13 +112,21 @@ impl Pace {
         if self.idle >= MOST_IDLE {
             self.idle = 0;
             self.lead = self.lead / 2;
+            if self.is_spent() && self.cost.is_none() {
+                self.lead = self.first_lead(best);
+            }
             self.goal = best.saturating_add(self.lead);
         }
     }
 
+    // Whether the lead is used up.
+    fn is_spent(&self) -> bool {
+        self.lead < self.least_lead
+    }
+
     /// Whether the climb is at its end: the bound is enough, or the lead is used up.
     pub fn is_over(&self) -> bool {
-        self.best.is_some_and(|best| best > self.enough) || self.lead < self.least_lead
+        self.best.is_some_and(|best| best > self.enough) || self.is_spent()
     }
 
     /// How many fifths of the way before are kept in the next step: four, but none in the first

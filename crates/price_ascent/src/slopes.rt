@@ -7,8 +7,9 @@ ghost use Rattle.flight_routes.specs.Prices.{ArePricesOf};
 ghost use Rattle.priced_plans.specs.Keys.{IsKeyFor, has_limit, rows_of};
 ghost use Rattle.price_ascent.specs.Slopes.{AreSlopesFor, IsGood, IsSlopeKey};
 
+use crate::users::Users;
 use flight_routes::Prices;
-use flow_types::{CapKind, OutOfMemory, PriceKey, Scenario, has_kind};
+use flow_types::{CapKind, OutOfMemory, PriceKey, Scenario, capacity_at, has_kind};
 use lagrange_bound::is_by;
 use plan_rules::Loads;
 use priced_plans::{PriceKind, key_in, price_at, rows_of};
@@ -30,25 +31,31 @@ const WAY_UNIT_SQUARED: i128 = 1 << 20;
 /// The highest that a price gets.
 pub const MOST_PRICE: i64 = 1 << 60;
 
-/// All prices that may rise, none of which has moved.
+/// All prices that may rise, none of which has moved: those of limits that trips may pass.
 pub fn all_slopes(alloc: Global, s: &Scenario) -> Result<Vec<Slope>, OutOfMemory>
     ensures { IfOk result (λ slopes. AreSlopesFor (parts_of s.now) slopes.items) }
 {
+    let users = Users::new(alloc, s)?;
     let mut slopes = Vec::new(alloc);
-    add_kind(s, PriceKind::Departure, &mut slopes)?;
-    add_kind(s, PriceKind::Arrival, &mut slopes)?;
-    add_kind(s, PriceKind::Stay, &mut slopes)?;
-    add_kind(s, PriceKind::Turn, &mut slopes)?;
+    add_kind(s, &users, PriceKind::Departure, &mut slopes)?;
+    add_kind(s, &users, PriceKind::Arrival, &mut slopes)?;
+    add_kind(s, &users, PriceKind::Stay, &mut slopes)?;
+    add_kind(s, &users, PriceKind::Turn, &mut slopes)?;
     Ok(slopes)
 }
 
 // Adds those of a kind.
-fn add_kind(s: &Scenario, kind: PriceKind, slopes: &mut Vec<Slope>) -> Result<(), OutOfMemory>
+fn add_kind(
+    s: &Scenario,
+    users: &Users,
+    kind: PriceKind,
+    slopes: &mut Vec<Slope>,
+) -> Result<(), OutOfMemory>
     requires { AreSlopesFor (parts_of s.now) slopes.old.items }
     ensures { OnOk result (AreSlopesFor (parts_of s.now) slopes.new.items) }
 {
     for row in 0..rows_of(s, kind) {
-        add_row(s, kind, row as u32, slopes)?;
+        add_row(s, users, kind, row as u32, slopes)?;
     }
     Ok(())
 }
@@ -56,6 +63,7 @@ fn add_kind(s: &Scenario, kind: PriceKind, slopes: &mut Vec<Slope>) -> Result<()
 // Adds those of a row.
 fn add_row(
     s: &Scenario,
+    users: &Users,
     kind: PriceKind,
     row: u32,
     slopes: &mut Vec<Slope>,
@@ -65,18 +73,23 @@ fn add_row(
     ensures { OnOk result (AreSlopesFor (parts_of s.now) slopes.new.items) }
 {
     for period in 0..s.day().periods {
-        add(s, key_in(kind, row, period), slopes)?;
+        add(s, users, key_in(kind, row, period), slopes)?;
     }
     Ok(())
 }
 
 // Adds one, if it may rise.
-fn add(s: &Scenario, key: PriceKey, slopes: &mut Vec<Slope>) -> Result<(), OutOfMemory>
+fn add(
+    s: &Scenario,
+    users: &Users,
+    key: PriceKey,
+    slopes: &mut Vec<Slope>,
+) -> Result<(), OutOfMemory>
     requires key { IsKeyFor (parts_of s.now) key }
     requires slopes { AreSlopesFor (parts_of s.now) slopes.old.items }
     ensures { OnOk result (AreSlopesFor (parts_of s.now) slopes.new.items) }
 {
-    if has_limit(s, key) && may_pass(s, key) {
+    if has_limit(s, key) && may_pass(s, users, key) {
         slopes.push(Slope { key, way: 0 })?;
     }
     Ok(())
@@ -95,14 +108,27 @@ fn has_limit(s: &Scenario, key: PriceKey) -> bool
     }
 }
 
-// Whether trips may pass the limit at all: those of a connection, only where the second flight may
-// have left before the first is ready.
-fn may_pass(s: &Scenario, key: PriceKey) -> bool
+// Whether trips may pass the limit at all.
+fn may_pass(s: &Scenario, users: &Users, key: PriceKey) -> bool
     requires { IsKeyFor (parts_of s.now) key }
 {
-    let PriceKey::Connect { connection, period } = key else {
-        return true;
-    };
+    match key {
+        PriceKey::Dep { place, period } => may_fill(s, users, CapKind::Dep, place, period),
+        PriceKey::Arr { place, period } => may_fill(s, users, CapKind::Arr, place, period),
+        PriceKey::Sector { place, period } => may_fill(s, users, CapKind::Sector, place, period),
+        PriceKey::Connect { connection, period } => may_leave(s, connection, period),
+    }
+}
+
+// Whether there are more flights than the capacity takes.
+fn may_fill(s: &Scenario, users: &Users, kind: CapKind, place: u32, period: u16) -> bool {
+    users.of(kind, place) > capacity_at(s.places(), kind, place, period)
+}
+
+// Whether the second flight of the connection may have left before the first is ready.
+fn may_leave(s: &Scenario, connection: u32, period: u16) -> bool
+    requires { connection < length (parts_of s.now).connections }
+{
     let turn = &s.connections()[connection as usize];
     match (
         s.flights().get(turn.first as usize),
@@ -136,6 +162,31 @@ impl Turned {
         } else {
             Some(value.saturating_sub(self.paid))
         }
+    }
+}
+
+/// What the limits would pay under these prices.
+pub fn paid_by_limits(slopes: &[Slope], s: &Scenario, prices: &Prices) -> i128
+    requires slopes { AreSlopesFor (parts_of s.now) slopes.now }
+    requires prices { IsGood (parts_of s.now) prices.now }
+{
+    let mut sum = 0i128;
+    for slope in slopes {
+        let price = i128::from(price_at(prices, slope.key));
+        sum = sum.saturating_add(price.saturating_mul(i128::from(limit_of(s, slope.key))));
+    }
+    sum
+}
+
+// How many flights pass no limit; of a connection, what the first one makes room for isn't counted.
+fn limit_of(s: &Scenario, key: PriceKey) -> u32 {
+    match key {
+        PriceKey::Dep { place, period } => capacity_at(s.places(), CapKind::Dep, place, period),
+        PriceKey::Arr { place, period } => capacity_at(s.places(), CapKind::Arr, place, period),
+        PriceKey::Sector { place, period } => {
+            capacity_at(s.places(), CapKind::Sector, place, period)
+        }
+        PriceKey::Connect { .. } => 0,
     }
 }
 

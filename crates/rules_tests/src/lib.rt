@@ -1,5 +1,5 @@
 //! Worked cases and tests of the rules of a plan, of boxes of plans, of least trips, of the first
-//! plan and of cheaper ones, over their public calls.
+//! plan and of cheaper ones, and of rounds of prices, over their public calls.
 //!
 //! It stands above them, so that none is proved a second time with its tests. `proofs/` has what
 //! the definitions say of worked cases: which rule a plan breaks first (`BrokenCases`), what a box,

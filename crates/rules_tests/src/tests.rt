@@ -15,11 +15,32 @@ use plan_rules::{
     Loads, Verdict, cost, first_broken_rules_are_first, judge,
     plans_that_break_nothing_are_feasible, trips_are_counted_once,
 };
+use scenario_reader::read_scenario;
 use std::alloc::Global;
 use std::process::Abort;
 use std::test::Fail;
 use time_windows::{Boxes, Tight, Window};
 use worked_days::{plan_with, there_and_back, trip_at, two_flights};
+
+// Three flights that would enter a sector for one flight at once; the third may go round by another
+// sector.
+const ROUND_ABOUT: &[u8] = b"day,2011-03-14T06:00,15,8
+airport,ORIG,9,9
+airport,DEST,9,9
+sector,S,1
+sector,B,9
+flight,F1,ORIG,DEST,0,2,4,5,1,2
+leg,F1,ORIG,S,0
+leg,F1,S,DEST,2
+flight,F2,ORIG,DEST,0,2,4,5,1,2
+leg,F2,ORIG,S,0
+leg,F2,S,DEST,2
+flight,X,ORIG,DEST,0,2,4,5,1,2
+leg,X,ORIG,S,0
+leg,X,S,B,1
+leg,X,ORIG,B,1
+leg,X,B,DEST,1
+";
 
 // Adds the trip: of the loads no more is known then than what they are made for.
 fn add_trip(loads: &mut Loads, s: &Scenario, flight: u32, stops: &[Stop])
@@ -225,6 +246,58 @@ fn the_costs_of_a_day_are_bounded(rt: HostRuntime) -> Result<(), Fail> {
     let s = two_flights(alloc, 1, 9, 9)?;
     let boxes = tight_root(&rt, alloc, &s)?;
     assert_eq!(rt; first_bound(alloc, &s, &boxes)?, Bound::AtLeast(0));
+    Ok(())
+}
+
+// The day that a text tells.
+fn day_of(alloc: Global, text: &[u8]) -> Result<Scenario, Fail> {
+    if text.len() > 4_096 {
+        return Err(Fail::from("a long text"));
+    }
+    match read_scenario(alloc, text) {
+        Ok(s) => Ok(s),
+        Err(_) => Err(Fail::from("no scenario")),
+    }
+}
+
+// The price of a period in the sector, if there is such a place and such a period.
+fn stay_price(s: &Scenario, prices: &Prices, place: u32, period: u16) -> Option<u64>
+    requires { ArePricesOf (parts_of s.now) prices.now }
+{
+    if (place as usize) < s.places().len() && period < s.day().periods {
+        Some(prices.stay(place, period))
+    } else {
+        None
+    }
+}
+
+#[test]
+fn rounds_raise_the_price_of_a_full_sector(rt: HostRuntime) -> Result<(), Fail> {
+    let alloc = rt.alloc();
+    let s = day_of(alloc, ROUND_ABOUT)?;
+    let boxes = tight_root(&rt, alloc, &s)?;
+    let mut rounds = Rounds::new(alloc, &s)?;
+    assert_eq!(rt; rounds.play(&s, &boxes, 1), Bound::AtLeast(1));
+    assert_eq!(rt; stay_price(&s, rounds.prices(), 2, 0), Some(2_048));
+    assert_eq!(rt; stay_price(&s, rounds.prices(), 2, 1), Some(1_024));
+    assert_eq!(rt; stay_price(&s, rounds.prices(), 2, 2), Some(0));
+    assert_eq!(rt; rounds.play(&s, &boxes, 2), Bound::AtLeast(2));
+    assert_eq!(rt; stay_price(&s, rounds.prices(), 2, 0), Some(1_536));
+    assert_eq!(rt; stay_price(&s, rounds.prices(), 2, 1), Some(1_536));
+    assert_eq!(rt; stay_price(&s, rounds.prices(), 2, 2), Some(512));
+    assert_eq!(rt; stay_price(&s, rounds.prices(), 3, 0), Some(0));
+    Ok(())
+}
+
+#[test]
+fn a_round_prices_the_one_departure(rt: HostRuntime) -> Result<(), Fail> {
+    let alloc = rt.alloc();
+    let s = two_flights(alloc, 1, 9, 9)?;
+    let boxes = tight_root(&rt, alloc, &s)?;
+    let mut rounds = Rounds::new(alloc, &s)?;
+    assert_eq!(rt; rounds.play(&s, &boxes, 1), Bound::AtLeast(1));
+    assert_eq!(rt; rounds.prices().departure(0, 0), 1_024);
+    assert_eq!(rt; rounds.prices().departure(0, 1), 0);
     Ok(())
 }
 

@@ -37,7 +37,7 @@ abbrev pub bound_of_cost : Option ℤ → Bound
 bound_of_cost None = NoPlan
 bound_of_cost (Some cost) = AtLeast cost
 
--- the last plan costs no more than the bound, or there is no plan
+-- the last plan costs the bound, or there is neither a plan nor a bound
 abbrev pub IsClosed : Parts → Found → Type 0
 IsClosed parts found =
     found.bound ≡ bound_of_cost (cutoff_after parts found.plans (length found.plans))

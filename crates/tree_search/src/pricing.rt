@@ -1,12 +1,11 @@
 //! What prices tell of a box.
-ghost use Rattle.std.specs.Prelude.{◌≤◌, IfOk, Ok};
+ghost use Rattle.std.specs.Prelude.{IfOk, Ok};
 ghost use Rattle.dual_leaf.specs.Leaf.{IsLeafBound, IsLive};
 ghost use Rattle.flow_types.specs.declared.bound.Bound.{Bound};
 ghost use Rattle.flow_types.specs.Scenario.{parts_of};
 ghost use Rattle.branch_tree.specs.Leaves.{IsInRange};
 ghost use Rattle.lagrange_bound.specs.Best.{IsMostOfRounds};
 ghost use Rattle.priced_plans.specs.PricedBound.{IsNearBound};
-ghost use Rattle.lagrange_bound.specs.Work.{most_rounds};
 ghost use Rattle.priced_leaf.specs.Leaf.{IsLagOf};
 ghost use Rattle.priced_plans.specs.Keys.{ArePlaced};
 ghost use Rattle.time_windows.specs.Boxes.{Box};
@@ -15,7 +14,7 @@ ghost use Rattle.tree_search.specs.Rooms.{ArePriceRoomsFor, IsToldBy, Tells, pri
 
 use crate::rooms::PriceRooms;
 use branch_tree::Leaf;
-use flow_types::{Bound, Flight, OutOfMemory, Scenario};
+use flow_types::{Bound, OutOfMemory, Scenario};
 use lagrange_bound::{COST_WEIGHT, is_above};
 use price_ascent::WEIGHT;
 use priced_leaf::{closing_leaf, lag_leaf};
@@ -29,8 +28,14 @@ const FIRST_STEPS: u32 = 16;
 
 const FIRST_PART: u32 = 32;
 
-// How many legs, times the periods of the day, the first climb may look at.
-const MOST_LOOKS: u64 = 3_000_000_000;
+// How much the first climb may look at, in all its steps.
+const MOST_LOOKS: u64 = 800_000_000;
+
+// How much longer a price that may rise takes than a period of a leg, and how much shorter one of a
+// sector.
+const LOOKS_A_PRICE: u64 = 4;
+
+const PERIODS_A_LOOK: u64 = 8;
 
 /// Where prices come from.
 #[derive(Clone, Copy, Debug, PartialEq, Eq)]
@@ -61,7 +66,7 @@ pub fn begin_climb(
     requires rooms { ArePriceRoomsFor (parts_of s.now) rooms.old }
     ensures { ArePriceRoomsFor (parts_of s.now) rooms.new }
 {
-    let steps = first_steps(s, rounds);
+    let steps = first_steps(s, rooms.ascent.rising(), rounds);
     let climbed = rooms.ascent.climb(s, boxes, cutoff, FIRST_PART, steps);
     if cutoff.is_none() && rooms.ascent.has_none(s, boxes) {
         Bound::NoPlan
@@ -70,21 +75,25 @@ pub fn begin_climb(
     }
 }
 
-// How many steps the first climb may take: so many for each round, fewer on long days with many
-// legs, but as many as there are rounds.
-fn first_steps(s: &Scenario, rounds: u32) -> u32 {
-    let looks = legs_of(s.flights()).saturating_mul(u64::from(s.day().periods));
+// How many steps the first climb may take: so many for each round, fewer on long days with wide
+// windows, but as many as there are rounds.
+fn first_steps(s: &Scenario, rising: usize, rounds: u32) -> u32 {
+    let looks = looks_of(s).saturating_add(LOOKS_A_PRICE.saturating_mul(rising as u64));
     let most = u32::try_from(MOST_LOOKS / looks.max(1)).unwrap_or(u32::MAX);
     rounds.saturating_mul(FIRST_STEPS).min(most).max(rounds)
 }
 
-// How many legs the flights have.
-fn legs_of(flights: &[Flight]) -> u64 {
-    let mut legs = 0u64;
-    for flight in flights {
-        legs = legs.saturating_add(flight.legs.items().len() as u64);
+// About how much a least trip for each flight looks at: for each leg the periods of its windows,
+// and a part of the day's.
+fn looks_of(s: &Scenario) -> u64 {
+    let day = u64::from(s.day().periods) / PERIODS_A_LOOK;
+    let mut looks = 0u64;
+    for flight in s.flights() {
+        let legs = flight.legs.items().len() as u64;
+        let periods = day.saturating_add(u64::from(flight.md)).saturating_add(1);
+        looks = looks.saturating_add(legs.saturating_mul(periods));
     }
-    legs
+    looks
 }
 
 /// The greatest bound that rounds of prices tell; or, where neither that nor the bound of the run
@@ -99,7 +108,6 @@ pub fn price(
     run: Bound,
 ) -> Priced
     requires made { IsMadeFor (parts_of s.now) boxes.now }
-    requires few { rounds ≤ most_rounds }
     requires rooms { ArePriceRoomsFor (parts_of s.now) rooms.old }
     ensures told { IsToldBy (parts_of s.now) (box_of boxes.now) rooms.new result }
     ensures most { IsMostOfRounds (parts_of s.now) (box_of boxes.now) rounds result.bound }

@@ -5,7 +5,6 @@ ghost use Rattle.branch_tree.specs.Trees.{is_tree};
 ghost use Rattle.dual_leaf.specs.Leaf.{IsBoundOn};
 ghost use Rattle.flow_types.specs.Scenario.{parts_of};
 ghost use Rattle.flow_types.specs.declared.bound.Bound.TheVariants.{NoPlan};
-ghost use Rattle.lagrange_bound.specs.Work.{most_rounds};
 ghost use Rattle.time_windows.specs.Held.{IsMadeFor, box_of};
 ghost use Rattle.time_windows.specs.Splits.{early_branch};
 ghost use Rattle.time_windows.specs.Tight.{IsTight, IsTightened};
@@ -193,7 +192,6 @@ fn go_on(
     draft: &mut Draft,
 ) -> Result<bool, OutOfMemory>
     requires searching { IsSearching (parts_of s.now) budget walk.old draft.old }
-    requires few { budget.rounds ≤ most_rounds }
     requires rooms { AreRoomsFor (parts_of s.now) rooms.old }
     ensures left { IfOk result
         (IsLeft (parts_of s.now) budget walk.old draft.old walk.new draft.new) }
@@ -271,7 +269,6 @@ fn step(
     draft: &mut Draft,
 ) -> Result<bool, OutOfMemory>
     requires searching { IsSearching (parts_of s.now) budget walk.old draft.old }
-    requires few { budget.rounds ≤ most_rounds }
     requires rooms { AreRoomsFor (parts_of s.now) rooms.old }
     ensures stepped { IfOk result
         (IsStepped (parts_of s.now) budget walk.old draft.old walk.new draft.new) }
@@ -294,7 +291,6 @@ fn advance(
     draft: &mut Draft,
 ) -> Result<bool, OutOfMemory>
     requires searching { IsSearching (parts_of s.now) budget walk.old draft.old }
-    requires few { budget.rounds ≤ most_rounds }
     requires rooms { AreRoomsFor (parts_of s.now) rooms.old }
     ensures stepped { IfOk result
         (IsStepped (parts_of s.now) budget walk.old draft.old walk.new draft.new) }
@@ -315,7 +311,6 @@ fn run(
     draft: &mut Draft,
 ) -> Result<(), OutOfMemory>
     requires searching { IsSearching (parts_of s.now) budget walk.old draft.old }
-    requires few { budget.rounds ≤ most_rounds }
     requires rooms { AreRoomsFor (parts_of s.now) rooms.old }
     ensures { OnOk result (IsSearched (parts_of s.now) budget (top_box walk.old) draft.new) }
 {
@@ -388,7 +383,6 @@ fn search_from(
     draft: &mut Draft,
 ) -> Result<(), OutOfMemory>
     requires searching { IsSearching (parts_of s.now) budget walk.old draft.old }
-    requires few { budget.rounds ≤ most_rounds }
     requires rooms { AreRoomsFor (parts_of s.now) rooms.old }
     ensures { OnOk result (IsSearched (parts_of s.now) budget (top_box walk.old) draft.new) }
 {
@@ -413,7 +407,6 @@ fn search_in(
     draft: &mut Draft,
 ) -> Result<(), OutOfMemory>
     requires nodes { 0 < budget.nodes }
-    requires few { budget.rounds ≤ most_rounds }
     requires made { IsMadeFor (parts_of s.now) boxes }
     requires tight { IsTight (parts_of s.now) (box_of boxes) }
     requires rooms { AreRoomsFor (parts_of s.now) rooms.old }
@@ -434,7 +427,6 @@ fn draft_of(
     rooms: &mut Rooms,
 ) -> Result<Draft, OutOfMemory>
     requires nodes { 0 < budget.nodes }
-    requires few { budget.rounds ≤ most_rounds }
     requires made { IsMadeFor (parts_of s.now) boxes }
     requires tight { IsTight (parts_of s.now) (box_of boxes) }
     requires rooms { AreRoomsFor (parts_of s.now) rooms.old }
@@ -453,7 +445,6 @@ fn search_tight(
     budget: Budget,
 ) -> Result<Draft, OutOfMemory>
     requires nodes { 0 < budget.nodes }
-    requires few { budget.rounds ≤ most_rounds }
     requires made { IsMadeFor (parts_of s.now) boxes }
     requires tight { IsTight (parts_of s.now) (box_of boxes) }
     ensures { IfOk result (IsSearched (parts_of s.now) budget (box_of boxes)) }
@@ -463,11 +454,11 @@ fn search_tight(
 }
 
 /// Searches the box, which is one of the scenario, for a plan that costs the least, and spends no
-/// more than the budget, which has a node or more, and 2^18 rounds at the most. It hands back the
-/// plans that it found, each cheaper than the one before, and the tree that proves a bound: no plan
-/// in the box that keeps every rule costs less, and with `NoPlan` there is none. The last plan
-/// costs the bound, or there is neither a plan nor a bound, or fewer than two nodes of the budget
-/// were left (branch and bound, after Land and Doig 1960).
+/// more than the budget, which has a node or more. It hands back the plans that it found, each
+/// cheaper than the one before, and the tree that proves a bound: no plan in the box that keeps
+/// every rule costs less, and with `NoPlan` there is none. The last plan costs the bound, or there
+/// is neither a plan nor a bound, or fewer than two nodes of the budget were left (branch and
+/// bound, after Land and Doig 1960).
 ///
 /// It takes a copy of the box, what `PlanWork`, `LeafWork`, `Rounds`, `Ascent` and `Improver` take,
 /// for each node some 110 bytes and what its leaf takes, 24 bytes a row, and for one box at a time
@@ -479,7 +470,6 @@ pub fn search(
     budget: Budget,
 ) -> Result<Found, OutOfMemory>
     requires nodes { 0 < budget.nodes }
-    requires few { budget.rounds ≤ most_rounds }
     requires made { IsMadeFor (parts_of s.now) root.now }
     ensures record { IfOk result (IsSearchRecord (parts_of s.now) (box_of root.now) budget) }
     ensures sound { IfOk result (λ found. IsBoundOn (parts_of s.now) (box_of root.now)

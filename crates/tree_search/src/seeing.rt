@@ -1,11 +1,10 @@
 //! What is seen of a box: a leaf, or where it is split.
-ghost use Rattle.std.specs.Prelude.{◌≡◌, ◌≤◌, IfOk, Ok, Result, true};
+ghost use Rattle.std.specs.Prelude.{◌≡◌, IfOk, Ok, Result, true};
 ghost use Rattle.std.specs.Result.{IsOk};
 ghost use Rattle.branch_tree.specs.Leaves.{IsInRange};
 ghost use Rattle.dual_leaf.specs.declared.fault.LeafFault.{LeafFault};
 ghost use Rattle.dual_leaf.specs.Leaf.{IsCostIn, IsLeafBound, IsLive, IsNearOf, IsUnitBox};
 ghost use Rattle.dual_leaf.specs.Work.{IsRoomFor};
-ghost use Rattle.lagrange_bound.specs.Work.{most_rounds};
 ghost use Rattle.tree_search.specs.Rooms.{AreRoomsFor};
 ghost use Rattle.flow_types.specs.Scenario.{parts_of};
 ghost use Rattle.flow_types.specs.declared.bound.Bound.{Bound};
@@ -54,7 +53,6 @@ pub fn see(
     requires made { IsMadeFor (parts_of s.now) boxes.now }
     requires tight { IsTight (parts_of s.now) (box_of boxes.now) }
     requires rooms { AreRoomsFor (parts_of s.now) rooms.old }
-    requires few { budget.rounds ≤ most_rounds }
     requires tried { IsUnitBox (box_of boxes.now) → (bound : Bound)
         → IsCostIn (parts_of s.now) (box_of boxes.now) bound
         → is_reached cutoff bound ≡ true }
@@ -96,7 +94,6 @@ fn see_open(
     requires made { IsMadeFor (parts_of s.now) boxes.now }
     requires tight { IsTight (parts_of s.now) (box_of boxes.now) }
     requires rooms { AreRoomsFor (parts_of s.now) rooms.old }
-    requires few { budget.rounds ≤ most_rounds }
     requires live { IsLive (box_of boxes.now) }
     requires branch { IsBranchOf (parts_of s.now) (box_of boxes.now) branch }
     ensures seen { IfOk result (IsSeen (parts_of s.now) budget cutoff more (box_of boxes.now)) }

@@ -1,8 +1,10 @@
-use Rattle.std.proofs.Common.{◌≡◌, subst, arith}
+use Rattle.std.proofs.Common.{◌≡◌, ◌⊎◌, ◌<◌, ◌≤◌, inl, inr, subst, arith}
+use Rattle.std.proofs.lemmas.Bool.{cases_lt}
 use Rattle.flow_types.specs.Scenario.{parts_of}
 use Rattle.time_windows.specs.Held.{box_of}
-use Rattle.lagrange_bound.specs.Work.{IsBest}
+use Rattle.lagrange_bound.specs.Work.{ArePlayed, IsBest}
 use Rattle.lagrange_bound.proofs.BestFacts.{best_ends, first_played}
+use Rattle.lagrange_bound.proofs.StillFacts.{best_stands}
 use Rattle.lagrange_bound.proofs.rounds.play_rounds.Goals as goal
 
 pub loop-played-init : goal.loop-played-init
@@ -17,11 +19,27 @@ loop-played-init c = (
 )
 
 pub returns-clause-kept : goal.returns-clause-kept
-returns-clause-kept c =
-    let all : c.loop-played.played ≡ c.args.rounds =
-    omega (arith, c.loop-played.auto.played-end, c.loop-played-test.false) in
-    subst (λ n. IsBest (parts_of c.args.s.now) (box_of c.args.boxes.now) n c.loop-played.best
-    c.loop-played.bound) all c.loop-played.invariant.0.kept
+returns-clause-kept c = by (cases_lt c.args.rounds 1024) where
+  all : c.loop-played.played ≡ c.min-played-end.result
+  all = omega (arith, c.loop-played.auto.played-end, c.loop-played-test.false)
+
+  by : (c.args.rounds < 1024) ⊎ (1024 ≤ c.args.rounds)
+      → IsBest (parts_of c.args.s.now) (box_of c.args.boxes.now) c.args.rounds c.loop-played.best
+      c.loop-played.bound
+  by (inl few) =
+      let same : c.loop-played.played ≡ c.args.rounds =
+      omega (arith, all, few, c.min-played-end.ensures) in
+      subst (λ n. IsBest (parts_of c.args.s.now) (box_of c.args.boxes.now) n c.loop-played.best
+      c.loop-played.bound) same c.loop-played.invariant.0.kept
+  by (inr many) =
+      let last : c.loop-played.played ≡ 1024 =
+      omega (arith, all, many, c.min-played-end.ensures) in
+      best_stands (parts_of c.args.s.now) (box_of c.args.boxes.now) c.args.s.now.valid
+      c.loop-played.prices c.loop-played.best c.loop-played.loads c.loop-played.bound c.args.rounds
+      many
+      (subst (λ n. ArePlayed (parts_of c.args.s.now) (box_of c.args.boxes.now) n
+      c.loop-played.prices c.loop-played.best c.loop-played.loads c.loop-played.bound) last
+      c.loop-played.invariant.0)
 
 pub returns-in-NoPlan-clause-kept : goal.returns-in-NoPlan-clause-kept
 returns-in-NoPlan-clause-kept c =

@@ -1,7 +1,7 @@
 use Rattle.flow_types.specs.Scenario.{parts_of}
 use Rattle.flight_routes.specs.Work.{IsWorkFor}
 use Rattle.plan_rules.specs.Loads.{IsMadeFor}
-use Rattle.price_ascent.proofs.ascent.value_of.Given as goal
+use Rattle.price_ascent.proofs.ascent.least_sum.Given as goal
 
 abbrev pub invariant-loop-number : goal.invariant-loop-number
 invariant-loop-number l = record {

@@ -1,0 +1,135 @@
+-- After round 1,024 the step is 0: prices stay where they are, and no round tells more.
+use Rattle.std.proofs.Common.{◌≡◌, ◌⊎◌, ℕ, zero, suc, ◌<◌, ◌≤◌, Bool, true, false, if◌then◌else◌, length, Option, None, Some, slice_get, inl, inr, refl, sym, subst, arith}
+use Rattle.std.proofs.lemmas.Bool.{cases_lt}
+use Rattle.std.proofs.Math.Nat.{div-eq_of_lt}
+use Rattle.flow_types.specs.declared.bound.Bound.{Bound}
+use Rattle.flow_types.specs.declared.bound.Bound.TheVariants.{AtLeast, NoPlan}
+use Rattle.flow_types.specs.declared.bound.PriceKey.{PriceKey}
+use Rattle.flow_types.specs.declared.bound.PriceKey.TheVariants as key
+use Rattle.flow_types.specs.declared.flight.Connection.{Connection}
+use Rattle.flow_types.specs.declared.parts.Parts.{Parts}
+use Rattle.flow_types.specs.declared.place.CapKind.{CapKind}
+use Rattle.flow_types.specs.declared.place.CapKind.TheVariants as kind
+use Rattle.flow_types.specs.Capacities.{capacity_of, has_kind}
+use Rattle.flow_types.specs.Valid.{IsScenario}
+use Rattle.flight_routes.specs.Prices.{ArePricesOf, PriceTable, price_at}
+use Rattle.plan_rules.specs.Cells.{Tally}
+use Rattle.plan_rules.specs.Loads.{load_at}
+use Rattle.time_windows.specs.Boxes.{Box}
+use Rattle.lagrange_bound.specs.Best.{IsAtMost, IsMostOfRounds}
+use Rattle.lagrange_bound.specs.Moves.{AreMoved, moved_by_times, moved_price}
+use Rattle.lagrange_bound.specs.Rounds.{IsRoundBound, IsRoundStep, IsRoundTable, IsTableBound, moved, moved_by_capacity}
+use Rattle.lagrange_bound.specs.Taking.{HaveTaken}
+use Rattle.lagrange_bound.specs.Work.{ArePlayed, IsBest}
+use Rattle.lagrange_bound.proofs.BestFacts.{rounds_go_on}
+use Rattle.lagrange_bound.proofs.SameFacts.{round_same}
+use Rattle.lagrange_bound.proofs.StepFacts.{round_played}
+
+moved_none : (count limit price : ℕ) → moved 0 count limit price ≡ price
+moved_none count limit price = omega arith
+
+module _ (parts : Parts) where
+  capacity_none : (kind : CapKind) (place period count price : ℕ)
+      → moved_by_capacity parts kind 0 place period count price ≡ price
+  capacity_none kind place period count price =
+      by (has_kind kind (slice_get parts.places place))
+    where
+      by : (b : Bool) → (if b then moved 0 count (capacity_of parts.places kind place period) price
+          else price) ≡ price
+      by true = moved_none count (capacity_of parts.places kind place period) price
+      by false = refl
+
+  times_none : (loads : Tally) (found : Option Connection) (period price : ℕ)
+      → moved_by_times loads 0 found period price ≡ price
+  times_none loads None period price = refl
+  times_none loads (Some connection) period price = moved_none _ _ price
+
+  price_stays : (loads : Tally) (k : PriceKey) (price : ℕ)
+      → moved_price parts loads 0 k price ≡ price
+  price_stays loads (key.Dep place period) price =
+      capacity_none kind.Dep place period (load_at loads kind.Dep place period) price
+  price_stays loads (key.Arr place period) price =
+      capacity_none kind.Arr place period (load_at loads kind.Arr place period) price
+  price_stays loads (key.Sector place period) price =
+      capacity_none kind.Sector place period (load_at loads kind.Sector place period) price
+  price_stays loads (key.Connect connection period) price =
+      times_none loads (slice_get parts.connections connection) period price
+
+  still : (loads : Tally) (table : PriceTable) → ArePricesOf parts table
+      → AreMoved parts (moved_price parts loads 0) (λ k. true) table table
+  still loads table size = record {
+    size = size;
+    each = λ k within. sym (price_stays loads k (price_at table k));
+    rise = λ k within. omega arith;
+  }
+
+  -- the prices of round 1,024 are those of each later one
+  module _ (box : Box) (valid : IsScenario parts) (table : PriceTable) (loads : Tally)
+      (size : ArePricesOf parts table)
+      (taken : HaveTaken parts box table (length parts.flights) loads)
+      (after : IsRoundTable parts box 1024 table) (last : Bound)
+      (told : IsTableBound parts box table last) where
+    step_stays : (round : ℕ) → 1024 < round → IsRoundStep parts box round table table
+    step_stays round late =
+        round_played parts box round 0 loads table table size (sym (div-eq_of_lt late)) taken
+        (still loads table size)
+
+    stands : (round : ℕ) → 1024 ≤ round → IsRoundTable parts box round table
+    stands zero late = absurd (omega (arith, late))
+    stands (suc before) late = by (cases_lt before 1024) (λ more. stands before more) where
+      by : (before < 1024) ⊎ (1024 ≤ before)
+          → (1024 ≤ before → IsRoundTable parts box before table)
+          → IsRoundTable parts box (suc before) table
+      by (inl first) goes_on =
+          let same : 1024 ≡ suc before = omega (arith, first, late) in
+          subst (λ n. IsRoundTable parts box n table) same after
+      by (inr more) goes_on =
+          (table, goes_on more, step_stays (suc before) (omega (arith, more)))
+
+    tells : (round : ℕ) → 1024 ≤ round → IsRoundBound parts box round last
+    tells round late = (table, stands round late, told)
+
+    pub most_stands : (up : Bound) → IsMostOfRounds parts box 1024 up → (rounds : ℕ)
+        → IsMostOfRounds parts box rounds up
+    most_stands up most rounds = record {
+      told = λ round within. has round (cases_lt round 1024);
+      no_more = λ round other within at. by round other at (cases_lt round 1024);
+    }
+      where
+        has : (round : ℕ) → (round < 1024) ⊎ (1024 ≤ round)
+            → (bound : Bound) × IsRoundBound parts box round bound
+        has round (inl early) = most.told round (omega (arith, early))
+        has round (inr late) = (last, tells round late)
+
+        by : (round : ℕ) (other : Bound) → IsRoundBound parts box round other
+            → (round < 1024) ⊎ (1024 ≤ round) → IsAtMost other up
+        by round other at (inl early) = most.no_more round other (omega (arith, early)) at
+        by round other at (inr late) =
+            let same = round_same parts box round other last valid at (tells round late) in
+            subst (λ b. IsAtMost b up) (sym same)
+            (most.no_more 1024 last (omega arith) (tells 1024 (omega arith)))
+
+-- so the best of 1,024 rounds is the best of more
+pub best_stands : (parts : Parts) (box : Box) (valid : IsScenario parts) (prices best : PriceTable)
+    (loads : Tally) (bound : Bound) (rounds : ℕ) → 1024 ≤ rounds
+    → ArePlayed parts box 1024 prices best loads bound → IsBest parts box rounds best bound
+best_stands parts box valid prices best loads bound rounds late played = record {
+  size = played.kept.size;
+  one = record {
+    round = played.kept.one.round;
+    within = let within = played.kept.one.within in omega (arith, within, late);
+    after = played.kept.one.after;
+  };
+  told = played.kept.told;
+  most = by bound played;
+}
+  where
+    by : (up : Bound) → ArePlayed parts box 1024 prices best loads up
+        → IsMostOfRounds parts box rounds up
+    by NoPlan none = record {
+      told = rounds_go_on parts box 1024 none.kept.told none.kept.most.told rounds;
+      no_more = λ round other within at. tt;
+    }
+    by (AtLeast least) some =
+        most_stands parts box valid prices loads some.size some.taken some.table some.last.0
+        some.last.1 (AtLeast least) some.kept.most rounds
