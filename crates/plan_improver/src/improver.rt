@@ -1,5 +1,5 @@
 //! The search for a plan that costs less.
-ghost use Rattle.std.specs.Prelude.{◌≡◌, ◌<◌, ◌^◌, ◌↔◌, IfSome, IsTrue, length};
+ghost use Rattle.std.specs.Prelude.{◌≡◌, ◌<◌, ◌^◌, ◌↔◌, IfSome, IsSome, IsTrue, length};
 ghost use Rattle.flow_types.specs.Scenario.{parts_of};
 ghost use Rattle.flight_routes.specs.Prices.{ArePricesOf};
 ghost use Rattle.flight_routes.specs.Work.{IsWorkFor};
@@ -61,7 +61,7 @@ impl Model for Improver {
 }
 
 impl Improver {
-    ghost use Rattle.std.specs.Prelude.{◌≡◌, ◌<◌, ◌^◌, IfOk, IfSome, IsTrue, length};
+    ghost use Rattle.std.specs.Prelude.{◌≡◌, ◌<◌, ◌^◌, IfOk, IfSome, IsSome, IsTrue, length};
     ghost use Rattle.flow_types.specs.Scenario.{parts_of};
     ghost use Rattle.flight_routes.specs.Prices.{ArePricesOf};
     ghost use Rattle.time_windows.specs.Held.{IsMadeFor, box_of};
@@ -125,12 +125,13 @@ impl Improver {
         Ok(if_cheaper(&mut self.loads, s, boxes, start, plan))
     }
 
-    /// The plan, where it is found to keep every rule and to be in the box, which is of the scenario
-    /// that the room was made for.
+    /// The plan, if it keeps every rule and is in the box, which is of the scenario that the room
+    /// was made for.
     pub fn if_kept(&mut self, s: &Scenario, boxes: &Boxes, plan: Plan) -> Option<Plan>
         requires made { IsSearchRoomFor (parts_of s.now) self.old }
         ensures kept { IfSome result (IsKept (parts_of s.now) (box_of boxes.now)) }
         ensures same { IfSome result (λ kept. kept ≡ plan) }
+        ensures every { IsKept (parts_of s.now) (box_of boxes.now) plan → IsSome result }
         ensures made { IsSearchRoomFor (parts_of s.now) self.new }
     {
         if_kept(&mut self.loads, s, boxes, plan)
@@ -357,6 +358,7 @@ fn if_kept(loads: &mut Loads, s: &Scenario, boxes: &Boxes, plan: Plan) -> Option
     requires { AreLoadsFor (parts_of s.now) loads.old }
     ensures kept { IfSome result (IsKept (parts_of s.now) (box_of boxes.now)) }
     ensures same { IfSome result (λ kept. kept ≡ plan) }
+    ensures every { IsKept (parts_of s.now) (box_of boxes.now) plan → IsSome result }
     ensures made { AreLoadsFor (parts_of s.now) loads.new }
 {
     match judge(loads, s, &plan) {

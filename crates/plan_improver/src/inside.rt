@@ -11,7 +11,7 @@ use time_windows::{Boxes, Window};
 /// stop. It takes no memory.
 pub fn is_in_box(boxes: &Boxes, plan: &Plan) -> bool
     requires { length plan.now < 2 ^ 32 }
-    ensures { IsTrue result → IsInBox (box_of boxes.now) plan.now }
+    ensures { IsTrue result ↔ IsInBox (box_of boxes.now) plan.now }
 {
     let trips = plan.items();
     for flight in 0..trips.len() {
@@ -24,7 +24,7 @@ pub fn is_in_box(boxes: &Boxes, plan: &Plan) -> bool
 
 // Whether the flight's trip is.
 fn is_trip_in_box(boxes: &Boxes, flight: u32, stops: &[Stop]) -> bool
-    ensures { IsTrue result → IsTripInBox (box_of boxes.now flight) stops.now }
+    ensures { IsTrue result ↔ IsTripInBox (box_of boxes.now flight) stops.now }
 {
     keeps_windows(boxes, flight, stops) && keeps_musts(boxes, flight, stops)
 }
@@ -49,8 +49,8 @@ fn is_in_window(window: Option<Window>, time: u16) -> bool
 
 // Whether each node that must be entered has a stop.
 fn keeps_musts(boxes: &Boxes, flight: u32, stops: &[Stop]) -> bool
-    ensures { IsTrue result → (node : ℕ) → (box_of boxes.now flight node).must ≡ true
-        → Any (λ stop. stop.node ≡ node) stops.now }
+    ensures { IsTrue result ↔ ((node : ℕ) → (box_of boxes.now flight node).must ≡ true
+        → Any (λ stop. stop.node ≡ node) stops.now) }
 {
     for node in 0..MOST_NODES as u16 {
         if boxes.must(flight, node) && !has_stop(stops, node) {

@@ -5,8 +5,8 @@
 //! bound from above, after Brännlund, "A generalized subgradient method with relaxation step",
 //! 1995). So no cost needs to be known.
 //!
-//! Where none is known there may be no plan, and then the values grow without end: the lead is
-//! begun anew where it is used up, and the climb goes on.
+//! Where none is known there may be no plan, and then the values grow without end: the lead grows
+//! with each gain, it is begun anew where it is used up, and the climb goes on.
 
 use crate::ascent::WEIGHT;
 
@@ -101,9 +101,16 @@ impl Pace {
         self.best = Some(value);
         self.idle = 0;
         if value >= self.goal.saturating_sub(self.lead / 2) {
-            self.lead = self.lead.saturating_mul(2).min(MOST_LEAD);
-            self.goal = value.saturating_add(self.lead);
+            self.reach(value, self.lead);
+        } else if self.cost.is_none() {
+            self.reach(value, self.lead / 8);
         }
+    }
+
+    // Leads so much further from now on.
+    fn reach(&mut self, value: i128, further: i128) {
+        self.lead = self.lead.saturating_add(further).min(MOST_LEAD);
+        self.goal = value.saturating_add(self.lead);
     }
 
     // No better one.

@@ -260,12 +260,13 @@ fn day_of(alloc: Global, text: &[u8]) -> Result<Scenario, Fail> {
     }
 }
 
-// The price of a period in the sector, if there is such a place and such a period.
-fn stay_price(s: &Scenario, prices: &Prices, place: u32, period: u16) -> Option<u64>
+// The prices of the first three periods in the sector, if there are such ones.
+fn stay_prices(s: &Scenario, prices: &Prices, place: u32) -> Option<[u64; 3]>
     requires { ArePricesOf (parts_of s.now) prices.now }
 {
-    if (place as usize) < s.places().len() && period < s.day().periods {
-        Some(prices.stay(place, period))
+    if (place as usize) < s.places().len() && s.day().periods > 2 {
+        let stays = prices.stays(place);
+        Some([stays[0], stays[1], stays[2]])
     } else {
         None
     }
@@ -278,14 +279,10 @@ fn rounds_raise_the_price_of_a_full_sector(rt: HostRuntime) -> Result<(), Fail> 
     let boxes = tight_root(&rt, alloc, &s)?;
     let mut rounds = Rounds::new(alloc, &s)?;
     assert_eq!(rt; rounds.play(&s, &boxes, 1), Bound::AtLeast(1));
-    assert_eq!(rt; stay_price(&s, rounds.prices(), 2, 0), Some(2_048));
-    assert_eq!(rt; stay_price(&s, rounds.prices(), 2, 1), Some(1_024));
-    assert_eq!(rt; stay_price(&s, rounds.prices(), 2, 2), Some(0));
+    assert!(rt; stay_prices(&s, rounds.prices(), 2) == Some([2_048, 1_024, 0]));
     assert_eq!(rt; rounds.play(&s, &boxes, 2), Bound::AtLeast(2));
-    assert_eq!(rt; stay_price(&s, rounds.prices(), 2, 0), Some(1_536));
-    assert_eq!(rt; stay_price(&s, rounds.prices(), 2, 1), Some(1_536));
-    assert_eq!(rt; stay_price(&s, rounds.prices(), 2, 2), Some(512));
-    assert_eq!(rt; stay_price(&s, rounds.prices(), 3, 0), Some(0));
+    assert!(rt; stay_prices(&s, rounds.prices(), 2) == Some([1_536, 1_536, 512]));
+    assert!(rt; stay_prices(&s, rounds.prices(), 3) == Some([0, 0, 0]));
     Ok(())
 }
 
