@@ -8,7 +8,6 @@ ghost use Rattle.dual_leaf.specs.Work.{IsRoomFor};
 
 use crate::days::DAYS;
 use crate::lines::{at_in, leaf_of, text_of};
-use crate::mixed_days::MIXED_DAYS;
 use dual_leaf::LeafWork;
 use flow_types::Scenario;
 use scenario_reader::read_scenario;
@@ -144,21 +143,9 @@ fn try_lines(rt: &impl Abort, alloc: Global, day: &[u8], lines: &str) -> Result<
 }
 
 #[test]
-fn leaves_on_the_day_of_two_flights(rt: HostRuntime) -> Result<(), Fail> {
-    try_lines(&rt, rt.alloc(), TWO_FLIGHTS, ON_TWO_FLIGHTS)
-}
-
-#[test]
-fn leaves_on_days(rt: HostRuntime) -> Result<(), Fail> {
+fn leaves_are_bounded(rt: HostRuntime) -> Result<(), Fail> {
+    try_lines(&rt, rt.alloc(), TWO_FLIGHTS, ON_TWO_FLIGHTS)?;
     for (day, lines) in DAYS {
-        try_lines(&rt, rt.alloc(), day, lines)?;
-    }
-    Ok(())
-}
-
-#[test]
-fn leaves_on_mixed_days(rt: HostRuntime) -> Result<(), Fail> {
-    for (day, lines) in MIXED_DAYS {
         try_lines(&rt, rt.alloc(), day, lines)?;
     }
     Ok(())

@@ -1,6 +1,7 @@
 //! Tests of `dual_leaf` and `relaxed_bound`: the bounds of leaves and their faults, and those of
 //! runs that end early, against what an independent program says of them; and small ones of
-//! `branch_tree` and `presolve`, of trees and of programs that have no room.
+//! `branch_tree`, `presolve` and `lagrange_bound`: of trees, of programs that have no room, and of
+//! rounds of prices.
 //!
 //! It stands above these and the reader, so that none is proved a second time with it. The
 //! clauses of `dual_leaf` say that a bound is that of its definition; the test, that the definition
@@ -22,6 +23,6 @@ mod leaves;
 #[cfg(test)]
 mod lines;
 #[cfg(test)]
-mod mixed_days;
+mod rounds;
 #[cfg(test)]
 mod trees;
