@@ -20,7 +20,7 @@ use Rattle.bytime_model.specs.declared.variables.Term.{Term}
 use Rattle.bytime_model.specs.declared.variables.Var.{Var}
 use Rattle.bytime_model.specs.declared.variables.Var.TheVariants.{By}
 use Rattle.bytime_model.specs.CostRow.{constants, cost_row, flight_constant, flight_terms, late_step, late_terms, most_late, most_wait, priced_value, steps, unless_zero, wait_step, wait_terms}
-use Rattle.bytime_model.specs.Filling.{IsWithin}
+use Rattle.exact_sums.specs.Near.{IsNear}
 use Rattle.bytime_model.specs.Rows.{over_flights, term_of}
 use Rattle.bytime_model.specs.Values.{form_value, value_at}
 use Rattle.bytime_model.proofs.FillFacts.{over_more}
@@ -301,7 +301,7 @@ terms_all parts flights number terms past are =
 -- how far from 0 a flight's constant may be
 flight_constant_near : (parts : Parts) (flight : Flight) → IsScenario parts
     → IsFlight parts.day.periods parts.places parts.tables flight
-    → IsWithin 200000000000 (flight_constant parts.tables parts.day.periods flight)
+    → IsNear 200000000000 (flight_constant parts.tables parts.day.periods flight)
 flight_constant_near parts flight valid ok =
     let periods = parts.day.periods in
     let short = valid.day.periods_to in
@@ -310,23 +310,23 @@ flight_constant_near parts flight valid ok =
     let credit = credit_within parts.tables flight.mg flight.md (most_wait periods flight)
     flight.cost valid.tables ok.cost (omega (arith, short)) in
     record {
-      down = omega (arith, ints, total.low, credit.high);
-      up = omega (arith, ints, total.high, credit.low);
+      low = omega (arith, ints, total.low, credit.high);
+      high = omega (arith, ints, total.high, credit.low);
     }
 
 pub constants_near : (parts : Parts) (flights : List Flight) → IsScenario parts
     → All (IsFlight parts.day.periods parts.places parts.tables) flights
-    → IsWithin (200000000000 * length flights)
+    → IsNear (200000000000 * length flights)
     (constants parts.tables parts.day.periods flights)
 constants_near parts [] valid all =
-    record { down = omega (arith, ints); up = omega (arith, ints) }
+    record { low = omega (arith, ints); high = omega (arith, ints) }
 constants_near parts (flight ∷ flights) valid all =
     let ok = IsFlight parts.day.periods parts.places parts.tables in
     let one = flight_constant_near parts flight valid (All-head ok flight flights all) in
     let rest = constants_near parts flights valid (All-tail ok flight flights all) in
     record {
-      down = omega (arith, ints, one.down, rest.down);
-      up = omega (arith, ints, one.up, rest.up);
+      low = omega (arith, ints, one.low, rest.low);
+      high = omega (arith, ints, one.high, rest.high);
     }
 
 -- the constants of the flights so far
@@ -354,7 +354,7 @@ constant_more parts number flight below is =
     +ℤ flight_constant parts.tables parts.day.periods f) (sym is)
 
 pub constant_near : (parts : Parts) (number : ℕ) → IsScenario parts
-    → IsWithin (2 ^ 60)
+    → IsNear (2 ^ 60)
     (constants parts.tables parts.day.periods (take number parts.flights))
 constant_near parts number valid =
     let few = valid.flights_few in
@@ -363,6 +363,6 @@ constant_near parts number valid =
     (All-take (IsFlight parts.day.periods parts.places parts.tables) number parts.flights
     valid.flights) in
     record {
-      down = omega (arith, ints, near.down, few, taken);
-      up = omega (arith, ints, near.up, few, taken);
+      low = omega (arith, ints, near.low, few, taken);
+      high = omega (arith, ints, near.high, few, taken);
     }

@@ -25,7 +25,7 @@ use Rattle.bytime_model.specs.declared.variables.Term.{Term}
 use Rattle.bytime_model.specs.declared.variables.Var.{Var}
 use Rattle.bytime_model.specs.declared.variables.Var.TheVariants.{By, Inside}
 use Rattle.bytime_model.specs.CostRow.{cost_row, flight_terms, late_step, late_step_at, late_terms, most_late, most_wait, unless_zero, wait_step, wait_step_at, wait_terms}
-use Rattle.bytime_model.specs.Filling.{IsWithin}
+use Rattle.exact_sums.specs.Near.{IsNear}
 use Rattle.bytime_model.specs.Rows.{back_term, back_terms, by_before, connect_terms, enter_terms, enters_in, last_node, leave_terms, minus_one, most_terms, node_from, occupy_terms, of_connection, of_flight, on_term, on_terms, one, over_flights, row_limit, row_terms, stay_terms, stay_terms_at, term_of, use_terms}
 use Rattle.bytime_model.specs.Values.{is_plain}
 use Rattle.bytime_model.proofs.CostFacts.{constants_near}
@@ -261,49 +261,49 @@ row_few parts (Cut i) valid = omega arith
 -- how far from 0 a step of the cost row may be
 pub late_step_near : (parts : Parts) (number delay : ℕ) (found : Option Flight)
     → IsScenario parts → slice_get parts.flights number ≡ found → delay + 1 < 65536
-    → IsWithin 200000000000 (late_step_at parts.tables found delay)
+    → IsNear 200000000000 (late_step_at parts.tables found delay)
 late_step_near parts number delay None valid is few =
-    record { down = omega (arith, ints); up = omega (arith, ints) }
+    record { low = omega (arith, ints); high = omega (arith, ints) }
 late_step_near parts number delay (Some flight) valid is few =
     let now = total_at-within parts number delay (Some flight) valid is (omega (arith, few)) in
     let next = total_at-within parts number (delay + 1) (Some flight) valid is few in
     record {
-      down = omega (arith, ints, now.low, next.high);
-      up = omega (arith, ints, now.high, next.low);
+      low = omega (arith, ints, now.low, next.high);
+      high = omega (arith, ints, now.high, next.low);
     }
 
 pub wait_step_near : (parts : Parts) (number delay : ℕ) (found : Option Flight)
     → IsScenario parts → slice_get parts.flights number ≡ found → delay + 1 < 65536
-    → IsWithin 200000000000 (wait_step_at parts.tables found delay)
+    → IsNear 200000000000 (wait_step_at parts.tables found delay)
 wait_step_near parts number delay None valid is few =
-    record { down = omega (arith, ints); up = omega (arith, ints) }
+    record { low = omega (arith, ints); high = omega (arith, ints) }
 wait_step_near parts number delay (Some flight) valid is few =
     let now = credit_at-within parts number delay (Some flight) valid is (omega (arith, few)) in
     let next = credit_at-within parts number (delay + 1) (Some flight) valid is few in
     record {
-      down = omega (arith, ints, now.high, next.low);
-      up = omega (arith, ints, now.low, next.high);
+      low = omega (arith, ints, now.high, next.low);
+      high = omega (arith, ints, now.low, next.high);
     }
 
 -- a factor of the cost row
-abbrev pub IsNear : Term → Type 0
-IsNear term = IsWithin 200000000000 term.factor
+abbrev pub IsSmallTerm : Term → Type 0
+IsSmallTerm term = IsNear 200000000000 term.factor
 
-unless_near : (factor : ℤ) (variable : Var) → IsWithin 200000000000 factor
-    → All IsNear (unless_zero factor variable)
+unless_near : (factor : ℤ) (variable : Var) → IsNear 200000000000 factor
+    → All IsSmallTerm (unless_zero factor variable)
 unless_near factor variable near = by (int_eq factor (pos 0))
   where
-    by : (b : Bool) → All IsNear (if b then [] else term_of factor variable ∷ [])
-    by true = All-nil IsNear
-    by false = All-cons IsNear (term_of factor variable) [] near (All-nil IsNear)
+    by : (b : Bool) → All IsSmallTerm (if b then [] else term_of factor variable ∷ [])
+    by true = All-nil IsSmallTerm
+    by false = All-cons IsSmallTerm (term_of factor variable) [] near (All-nil IsSmallTerm)
 
 steps_near : (step : ℕ → ℤ) (variable : ℕ → Var) (from count : ℕ)
-    → ((delay : ℕ) → delay < from + count → IsWithin 200000000000 (step delay))
-    → All IsNear (flat_map (λ delay. unless_zero (step delay) (variable delay))
+    → ((delay : ℕ) → delay < from + count → IsNear 200000000000 (step delay))
+    → All IsSmallTerm (flat_map (λ delay. unless_zero (step delay) (variable delay))
     (range_with_len from count))
-steps_near step variable from zero each = All-nil IsNear
+steps_near step variable from zero each = All-nil IsSmallTerm
 steps_near step variable from (suc count) each =
-    All-append IsNear (unless_zero (step from) (variable from))
+    All-append IsSmallTerm (unless_zero (step from) (variable from))
     (flat_map (λ delay. unless_zero (step delay) (variable delay))
     (range_with_len (from + 1) count))
     (unless_near (step from) (variable from) (each from (omega arith)))
@@ -312,11 +312,11 @@ steps_near step variable from (suc count) each =
 
 flight_near : (parts : Parts) (number : ℕ) (flight : Flight) → IsScenario parts
     → slice_get parts.flights number ≡ Some flight
-    → All IsNear (flight_terms parts.tables parts.day.periods number flight)
+    → All IsSmallTerm (flight_terms parts.tables parts.day.periods number flight)
 flight_near parts number flight valid is =
     let periods = parts.day.periods in
     let short = valid.day.periods_to in
-    All-append IsNear (late_terms parts.tables periods number flight)
+    All-append IsSmallTerm (late_terms parts.tables periods number flight)
     (wait_terms parts.tables periods number flight)
     (steps_near (late_step parts.tables flight)
     (λ delay. By number (length flight.nodes - 1) (flight.sa + delay)) 0 (most_late periods flight)
@@ -330,30 +330,30 @@ flight_near parts number flight valid is =
 flights_near : (parts : Parts) (k : ℕ) (flights : List Flight) → IsScenario parts
     → ((i : ℕ) (flight : Flight) → slice_get flights i ≡ Some flight
     → slice_get parts.flights (k + i) ≡ Some flight)
-    → All IsNear (over_flights (flight_terms parts.tables parts.day.periods) k flights)
-flights_near parts k [] valid there = All-nil IsNear
+    → All IsSmallTerm (over_flights (flight_terms parts.tables parts.day.periods) k flights)
+flights_near parts k [] valid there = All-nil IsSmallTerm
 flights_near parts k (flight ∷ flights) valid there =
     let part = flight_terms parts.tables parts.day.periods in
     let first : k + 0 ≡ k = omega arith in
-    All-append IsNear (part k flight) (over_flights part (k + 1) flights)
+    All-append IsSmallTerm (part k flight) (over_flights part (k + 1) flights)
     (flight_near parts k flight valid
     (subst (λ n. slice_get parts.flights n ≡ Some flight) first (there 0 flight refl)))
     (flights_near parts (k + 1) flights valid
     (λ i f is. subst (λ n. slice_get parts.flights n ≡ Some f) (omega arith) (there (suc i) f is)))
 
 -- no factor of the cost row is far from 0
-pub cost_terms_near : (parts : Parts) → IsScenario parts → All IsNear (cost_row parts).terms
+pub cost_terms_near : (parts : Parts) → IsScenario parts → All IsSmallTerm (cost_row parts).terms
 cost_terms_near parts valid =
     flights_near parts 0 parts.flights valid
     (λ i flight is. subst (λ n. slice_get parts.flights n ≡ Some flight) (omega arith) is)
 
 -- nor is its constant
 pub constant_small : (parts : Parts) → IsScenario parts
-    → IsWithin (2 ^ 60) (cost_row parts).constant
+    → IsNear (2 ^ 60) (cost_row parts).constant
 constant_small parts valid =
     let all = constants_near parts parts.flights valid valid.flights in
     let few = valid.flights_few in
     record {
-      down = omega (arith, ints, all.down, few);
-      up = omega (arith, ints, all.up, few);
+      low = omega (arith, ints, all.low, few);
+      high = omega (arith, ints, all.high, few);
     }

@@ -45,13 +45,3 @@ visit_terms kind.Sector time visit flight = stay_terms visit.flight flight time 
 abbrev pub visit_terms_in : CapKind → ℕ → List Flight → Visit → List Term
 visit_terms_in kind time flights visit =
     of_flight (visit_terms kind time visit) (slice_get flights visit.flight)
-
--- no further from 0 than a limit
-pub record IsWithin (limit : ℕ) (v : ℤ) : Type 0 where
-  pub down : neg_ℤ (pos limit) ≤ℤ v
-  pub up : v ≤ℤ pos limit
-
--- no further from 0 than any total or credit
-pub record IsNearZero (v : ℤ) : Type 0 where
-  pub low : neg_ℤ (pos 100000000000) ≤ℤ v
-  pub high : v ≤ℤ pos 100000000000

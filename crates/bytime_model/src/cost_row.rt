@@ -5,7 +5,7 @@ ghost use Rattle.flow_types.specs.Costs.{plan_cost};
 ghost use Rattle.flow_types.specs.Feasible.{AreTrips};
 ghost use Rattle.flow_types.specs.Scenario.{flight_at, parts_of};
 ghost use Rattle.bytime_model.specs.CostRow.{cost_row, flight_constant, flight_terms, late_step_at, late_terms, late_variable, most_late_at, most_wait_at, priced_value, unless_zero, wait_step_at, wait_terms, wait_variable};
-ghost use Rattle.bytime_model.specs.Filling.{IsNearZero, IsWithin};
+ghost use Rattle.exact_sums.specs.Near.{IsNear};
 ghost use Rattle.bytime_model.specs.declared.variables.Var.TheVariants.{By};
 ghost use Rattle.bytime_model.specs.Rows.{AreCollected, term_of};
 ghost use Rattle.bytime_model.specs.Values.{value_at};
@@ -157,8 +157,8 @@ fn term_of(factor: i64, variable: Var) -> Term
 
 // The difference of two numbers that aren't far from 0.
 fn difference(a: i64, b: i64) -> i64
-    requires a { IsNearZero a }
-    requires b { IsNearZero b }
+    requires a { IsNear 100000000000 a }
+    requires b { IsNear 100000000000 b }
     ensures { result ≡ a -ℤ b }
 {
     a - b
@@ -241,7 +241,7 @@ fn flight_constant(s: &Scenario, number: u32, flight: &Flight) -> i64
     requires { flight_at s.now number ≡ Some flight.now }
     ensures constant { result ≡ flight_constant (parts_of s.now).tables
         (parts_of s.now).day.periods flight.now }
-    ensures within { IsWithin 200000000000 result }
+    ensures within { IsNear 200000000000 result }
 {
     difference(
         s.total(number, most_late(s, number)),
@@ -251,8 +251,8 @@ fn flight_constant(s: &Scenario, number: u32, flight: &Flight) -> i64
 
 // The sum of both.
 fn plus(sum: i64, more: i64) -> i64
-    requires sum { IsWithin (2 ^ 60) sum }
-    requires more { IsWithin 200000000000 more }
+    requires sum { IsNear (2 ^ 60) sum }
+    requires more { IsNear 200000000000 more }
     ensures { result ≡ sum +ℤ more }
 {
     sum + more

@@ -13,7 +13,7 @@ use Rattle.bytime_model.proofs.FillFacts.{over_more}
 use Rattle.exact_sums.proofs.ItemFacts.{item_there}
 use Rattle.std.proofs.lemmas.Option.{get_or_from_slice_get}
 use Rattle.bytime_model.specs.CostRow.{cost_row, flight_terms, late_step_at, late_variable, most_late_at, most_wait_at, priced_value, steps, unless_zero, wait_step_at, wait_variable}
-use Rattle.bytime_model.specs.Filling.{IsWithin}
+use Rattle.exact_sums.specs.Near.{IsNear}
 use Rattle.bytime_model.specs.Values.{form_value}
 use Rattle.bytime_model.proofs.CostFacts.{steps_suc, unless-zero}
 use Rattle.bytime_model.proofs.FormFacts.{form-append}
@@ -25,8 +25,8 @@ use Rattle.dual_leaf.proofs.GrowFacts.{grows_as, grows_then}
 use Rattle.dual_leaf.proofs.SumsFacts.{abs_le}
 use Rattle.dual_leaf.proofs.TimesFacts.{times-plus}
 
-near_abs : (v : ℤ) → IsWithin 2000000000 v → unsigned_abs v ≤ 2000000000
-near_abs v near = abs_le v 2000000000 near.up near.down
+near_abs : (v : ℤ) → IsNear 2000000000 v → unsigned_abs v ≤ 2000000000
+near_abs v near = abs_le v 2000000000 near.high near.low
 
 late_near_most : (periods delay : ℕ) (found : Option Flight) → delay < most_late_at periods found
     → delay + 1 ≤ periods
@@ -140,7 +140,7 @@ pub constant_within : (parts : Parts) (weight : ℕ) → IsScenario parts → we
 constant_within parts weight valid small =
     let near = constant_near parts valid in
     let within = times-within weight (2 ^ 62) (2 ^ 42) (cost_row parts).constant
-    (omega (arith, small)) near.down near.up in
+    (omega (arith, small)) near.low near.high in
     abs_le (pos weight *ℤ (cost_row parts).constant) (2 ^ 104)
     (omega (arith, ints, within.1)) (omega (arith, ints, within.0))
 

@@ -16,7 +16,7 @@ use Rattle.flow_types.specs.declared.parts.Parts.{Parts}
 use Rattle.flow_types.specs.Costs.{credit_of, total_of, value_at}
 use Rattle.flow_types.specs.Valid.{IsFlight, IsScenario, IsTable, IsValue, is_cost}
 use Rattle.bytime_model.specs.CostRow.{constants, cost_row, flight_constant, late_step_at, most_late, most_wait, wait_step_at}
-use Rattle.bytime_model.specs.Filling.{IsWithin}
+use Rattle.exact_sums.specs.Near.{IsNear}
 
 -- a value of a table, wherever it is read
 value_near : (values : List ℤ) (d : ℕ) → All IsValue values
@@ -66,9 +66,9 @@ module _ (parts : Parts) (valid : IsScenario parts) where
   -- the steps
   pub late_near : (number delay : ℕ) (found : Option Flight)
       → slice_get parts.flights number ≡ found → delay + 1 ≤ 512
-      → IsWithin 2000000000 (late_step_at parts.tables found delay)
+      → IsNear 2000000000 (late_step_at parts.tables found delay)
   late_near number delay None is few =
-      record { down = omega (arith, ints); up = omega (arith, ints) }
+      record { low = omega (arith, ints); high = omega (arith, ints) }
   late_near number delay (Some flight) is few =
       let ok = All-item Is parts.flights number flight valid.flights is in
       let now = total_near parts.tables flight.mg flight.md delay flight.cost valid.tables ok.cost
@@ -76,15 +76,15 @@ module _ (parts : Parts) (valid : IsScenario parts) where
       let next = total_near parts.tables flight.mg flight.md (delay + 1) flight.cost valid.tables
       ok.cost few in
       record {
-        down = omega (arith, ints, now.low, next.high);
-        up = omega (arith, ints, now.high, next.low);
+        low = omega (arith, ints, now.low, next.high);
+        high = omega (arith, ints, now.high, next.low);
       }
 
   pub wait_near : (number delay : ℕ) (found : Option Flight)
       → slice_get parts.flights number ≡ found → delay + 1 ≤ 512
-      → IsWithin 2000000000 (wait_step_at parts.tables found delay)
+      → IsNear 2000000000 (wait_step_at parts.tables found delay)
   wait_near number delay None is few =
-      record { down = omega (arith, ints); up = omega (arith, ints) }
+      record { low = omega (arith, ints); high = omega (arith, ints) }
   wait_near number delay (Some flight) is few =
       let ok = All-item Is parts.flights number flight valid.flights is in
       let now = credit_near parts.tables flight.mg flight.md delay flight.cost valid.tables ok.cost
@@ -92,13 +92,13 @@ module _ (parts : Parts) (valid : IsScenario parts) where
       let next = credit_near parts.tables flight.mg flight.md (delay + 1) flight.cost valid.tables
       ok.cost few in
       record {
-        down = omega (arith, ints, now.high, next.low);
-        up = omega (arith, ints, now.low, next.high);
+        low = omega (arith, ints, now.high, next.low);
+        high = omega (arith, ints, now.low, next.high);
       }
 
   -- the constant
   flight_near : (flight : Flight) → Is flight
-      → IsWithin 2000000000 (flight_constant parts.tables parts.day.periods flight)
+      → IsNear 2000000000 (flight_constant parts.tables parts.day.periods flight)
   flight_near flight ok =
       let periods = parts.day.periods in
       let short = valid.day.periods_to in
@@ -107,26 +107,26 @@ module _ (parts : Parts) (valid : IsScenario parts) where
       let credit = credit_near parts.tables flight.mg flight.md (most_wait periods flight)
       flight.cost valid.tables ok.cost (omega (arith, short)) in
       record {
-        down = omega (arith, ints, total.low, credit.high);
-        up = omega (arith, ints, total.high, credit.low);
+        low = omega (arith, ints, total.low, credit.high);
+        high = omega (arith, ints, total.high, credit.low);
       }
 
   constants_near : (flights : List Flight) → All Is flights
-      → IsWithin (2000000000 * length flights) (constants parts.tables parts.day.periods flights)
-  constants_near [] all = record { down = omega (arith, ints); up = omega (arith, ints) }
+      → IsNear (2000000000 * length flights) (constants parts.tables parts.day.periods flights)
+  constants_near [] all = record { low = omega (arith, ints); high = omega (arith, ints) }
   constants_near (flight ∷ flights) all =
       let one = flight_near flight (All-head Is flight flights all) in
       let rest = constants_near flights (All-tail Is flight flights all) in
       record {
-        down = omega (arith, ints, one.down, rest.down);
-        up = omega (arith, ints, one.up, rest.up);
+        low = omega (arith, ints, one.low, rest.low);
+        high = omega (arith, ints, one.high, rest.high);
       }
 
-  pub constant_near : IsWithin (2 ^ 42) (cost_row parts).constant
+  pub constant_near : IsNear (2 ^ 42) (cost_row parts).constant
   constant_near =
       let all = constants_near parts.flights valid.flights in
       let few = valid.flights_few in
       record {
-        down = omega (arith, ints, all.down, few);
-        up = omega (arith, ints, all.up, few);
+        low = omega (arith, ints, all.low, few);
+        high = omega (arith, ints, all.high, few);
       }

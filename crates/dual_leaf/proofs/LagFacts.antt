@@ -22,7 +22,8 @@ use Rattle.time_windows.specs.Boxes.{Box}
 use Rattle.branch_tree.specs.declared.leaf.Multiplier.{Multiplier}
 use Rattle.dual_leaf.specs.declared.fault.LeafFault.{LeafFault}
 use Rattle.dual_leaf.specs.Lag.{ArePricedBy, IsFirstUnpriceable, IsSetBy, is_key, is_priceable, key_of, set_by, set_on}
-use Rattle.dual_leaf.specs.Leaf.{IsBoundOn, IsTableSaid}
+use Rattle.dual_leaf.specs.Leaf.{IsTableSaid}
+use Rattle.time_windows.specs.Plans.{IsBoundIn}
 
 pub set-more : (rows : List Multiplier) (m : Multiplier) (at : PriceKey) (price : ℕ)
     → set_by (rows ++ m ∷ []) at price ≡ set_on (key_of m.row) m.value at (set_by rows at price)
@@ -123,17 +124,20 @@ priced-small parts rows table is few = λ at there.
 -- what a table says is true of all plans in the box
 pub table-sound : (parts : Parts) (box : Box) (weight : ℕ) (table : PriceTable)
     (answer : Result Bound LeafFault) → IsScenario parts
-    → IsTableSaid parts box weight table answer → IfOk answer (IsBoundOn parts box)
+    → IsTableSaid parts box weight table answer → IfOk answer (IsBoundIn parts box)
 table-sound parts box weight table answer valid (inl lack) =
-    subst (λ z. IfOk z (IsBoundOn parts box)) (sym lack.none) (λ plan feasible inside.
-    none-inside parts box lack.lacks.number plan lack.lacks.within lack.lacks.none feasible inside)
+    subst (λ z. IfOk z (IsBoundIn parts box)) (sym lack.none) (λ plan kept.
+    none-inside parts box lack.lacks.number plan lack.lacks.within lack.lacks.none kept.feasible
+    kept.inside)
 table-sound parts box weight table (Err fault) valid (inr is) = tt
-table-sound parts box weight table (Ok NoPlan) valid (inr is) = λ plan feasible inside.
-    let le = value-below parts box weight table is.value plan valid is.priced feasible inside in
+table-sound parts box weight table (Ok NoPlan) valid (inr is) = λ plan kept.
+    let le = value-below parts box weight table is.value plan valid is.priced kept.feasible
+    kept.inside in
     let zero_of = ap (λ w. pos w *ℤ plan_cost parts.tables parts.flights plan) is.said.0
     ∙ zero-*ℤ (plan_cost parts.tables parts.flights plan) in
     omega (arith, ints, le, zero_of, is.said.1)
-table-sound parts box weight table (Ok (AtLeast least)) valid (inr is) = λ plan feasible inside.
-    let le = value-below parts box weight table is.value plan valid is.priced feasible inside in
+table-sound parts box weight table (Ok (AtLeast least)) valid (inr is) = λ plan kept.
+    let le = value-below parts box weight table is.value plan valid is.priced kept.feasible
+    kept.inside in
     let turned = *ℤ_comm (pos weight) (plan_cost parts.tables parts.flights plan) in
     is.said.1.below (plan_cost parts.tables parts.flights plan) (omega (arith, ints, le, turned))

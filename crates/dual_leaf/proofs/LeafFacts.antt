@@ -14,7 +14,8 @@ use Rattle.time_windows.specs.Boxes.{Box, IsBoxOf, IsClosedMust, IsInBox}
 use Rattle.branch_tree.specs.declared.leaf.Leaf.{Leaf}
 use Rattle.branch_tree.specs.declared.leaf.Leaf.TheVariants.{Dual, Empty, Lag, Unit as UnitLeaf}
 use Rattle.branch_tree.specs.declared.leaf.Multiplier.{Multiplier}
-use Rattle.dual_leaf.specs.Leaf.{IsBoundOn, IsCostIn, IsDualAnswer, IsLagAnswer, IsLeafBound, IsUnitBox}
+use Rattle.dual_leaf.specs.Leaf.{IsCostIn, IsDualAnswer, IsLagAnswer, IsLeafBound, IsUnitBox}
+use Rattle.time_windows.specs.Plans.{IsBoundIn}
 use Rattle.dual_leaf.proofs.LagFacts.{table-sound}
 use Rattle.dual_leaf.proofs.OptionFacts.{no_plan_by}
 use Rattle.dual_leaf.proofs.SoundFacts.{dual_sound}
@@ -34,34 +35,35 @@ same_plan parts box plan other valid unit feasible inside other_feasible other_i
     (trip_in parts box other other_feasible other_inside k y at))
 
 unit_sound : (parts : Parts) (box : Box) (bound : Bound) → IsScenario parts → IsUnitBox box
-    → IsCostIn parts box bound → IsBoundOn parts box bound
+    → IsCostIn parts box bound → IsBoundIn parts box bound
 unit_sound parts box NoPlan valid unit cost = cost
-unit_sound parts box (AtLeast least) valid unit (plan, feasible, inside, is) =
-    λ other other_feasible other_inside.
+unit_sound parts box (AtLeast least) valid unit (plan, kept, is) =
+    λ other other_kept.
     let same = ap (plan_cost parts.tables parts.flights)
-    (same_plan parts box plan other valid unit feasible inside other_feasible other_inside) in
+    (same_plan parts box plan other valid unit kept.feasible kept.inside other_kept.feasible
+    other_kept.inside) in
     omega (arith, ints, same, is)
 
 empty_sound : (parts : Parts) (box : Box) (bound : Bound) → IsBoxOf parts box → bound ≡ NoPlan
-    → (f n : ℕ) → IsClosedMust (box f n) → IsBoundOn parts box bound
+    → (f n : ℕ) → IsClosedMust (box f n) → IsBoundIn parts box bound
 empty_sound parts box bound made is f n closed =
-    subst (IsBoundOn parts box) (sym is) (no_plan_by parts box f n made closed)
+    subst (IsBoundIn parts box) (sym is) (no_plan_by parts box f n made closed)
 
 dual_bound : (parts : Parts) (box : Box) (weight : ℕ) (rows : List Multiplier) (bound : Bound)
     → IsScenario parts → IsBoxOf parts box → IsDualAnswer parts box weight rows (Ok bound)
-    → IsBoundOn parts box bound
+    → IsBoundIn parts box bound
 dual_bound parts box weight rows bound valid made (inl is) =
     dual_sound parts box weight rows bound valid made is
 dual_bound parts box weight rows bound valid made (inr fault) = absurd fault
 
 lag_bound : (parts : Parts) (box : Box) (weight : ℕ) (rows : List Multiplier) (bound : Bound)
-    → IsScenario parts → IsLagAnswer parts box weight rows (Ok bound) → IsBoundOn parts box bound
+    → IsScenario parts → IsLagAnswer parts box weight rows (Ok bound) → IsBoundIn parts box bound
 lag_bound parts box weight rows bound valid (inl is) =
     table-sound parts box weight is.table (Ok bound) valid is.said
 lag_bound parts box weight rows bound valid (inr fault) = absurd fault
 
 pub leaf_bounds : (parts : Parts) (box : Box) (leaf : Leaf) (bound : Bound) → IsScenario parts
-    → IsBoxOf parts box → IsLeafBound parts box leaf (Ok bound) → IsBoundOn parts box bound
+    → IsBoxOf parts box → IsLeafBound parts box leaf (Ok bound) → IsBoundIn parts box bound
 leaf_bounds parts box Empty bound valid made (is, (f, n, closed)) =
     empty_sound parts box bound made is f n closed
 leaf_bounds parts box UnitLeaf bound valid made (unit, cost) =

@@ -11,6 +11,7 @@ use Rattle.flow_types.specs.Feasible.{IsFeasible}
 use Rattle.time_windows.specs.declared.access.Access.{Access}
 use Rattle.time_windows.specs.declared.access.Window.{Window}
 use Rattle.time_windows.specs.Boxes.{Box, IsBoxOf, IsClosedMust, IsInBox, IsInWindow, IsWindowWithin, root_box}
+use Rattle.time_windows.specs.Plans.{HasNoPlan}
 use Rattle.time_windows.proofs.PlanFacts.{planned}
 use Rattle.dual_leaf.specs.declared.options.Kind.{Kind}
 use Rattle.dual_leaf.specs.declared.options.Kind.TheVariants.{ClosedMust, NotOne}
@@ -45,16 +46,15 @@ module _ (parts : Parts) (box : Box) (of : IsBoxOf parts box) where
 
 -- no plan stops at a node that is closed
 pub no_plan_by : (parts : Parts) (box : Box) (f n : ℕ) → IsBoxOf parts box
-    → IsClosedMust (box f n) → (plan : List (List Stop)) → IsFeasible parts plan
-    → IsInBox box plan → ⊥
-no_plan_by parts box f n of shut plan feasible inside =
+    → IsClosedMust (box f n) → HasNoPlan parts box
+no_plan_by parts box f n of shut plan kept =
     elim (cases_lt f (length parts.flights)) as (λ _. ⊥) [
       | inr past ↦ beyond_flights parts box of ClosedMust f n past shut
       | inl below ↦
           let flight = item_there parts.flights f below in
-          let at = planned parts.day.periods parts.flights plan f flight.0 feasible.trips flight.1
-          in
-          let trip = inside f at.trip at.is in
+          let at = planned parts.day.periods parts.flights plan f flight.0 kept.feasible.trips
+          flight.1 in
+          let trip = kept.inside f at.trip at.is in
           stops_at at.trip (trip.musts n shut.must) trip.windows
     ]
   where

@@ -24,7 +24,8 @@ use Rattle.bytime_model.proofs.ValidFacts.{flown, row_kept}
 use Rattle.branch_tree.specs.declared.leaf.Multiplier.{Multiplier}
 use Rattle.plan_rules.proofs.CountFacts.{stays_at-once}
 use Rattle.dual_leaf.specs.Dual.{AreKnown, IsChoice, IsDualValue, dual_at, excess, excesses}
-use Rattle.dual_leaf.specs.Leaf.{IsBoundOn, IsDualBound, IsLive, IsSaid}
+use Rattle.dual_leaf.specs.Leaf.{IsDualBound, IsLive, IsSaid}
+use Rattle.time_windows.specs.Plans.{IsBoundIn}
 use Rattle.dual_leaf.specs.declared.fault.LeafFault.{LeafFault}
 use Rattle.dual_leaf.proofs.TimesFacts.{times-down}
 
@@ -84,18 +85,20 @@ module _ (parts : Parts) (scenario : IsScenario parts) (box : Box) (made : IsBox
 
 pub dual_sound : (parts : Parts) (box : Box) (weight : ℕ) (rows : List Multiplier) (bound : Bound)
     → IsScenario parts → IsBoxOf parts box → IsDualBound parts box weight rows (Ok bound)
-    → IsBoundOn parts box bound
-dual_sound parts box weight rows NoPlan scenario made is = λ plan feasible inside.
+    → IsBoundIn parts box bound
+dual_sound parts box weight rows NoPlan scenario made is = λ plan kept.
     let le = is.least.below (value_at parts.flights plan)
-    (plan_is parts scenario box made plan feasible inside) in
-    let cost = dual_le parts scenario box made plan feasible inside weight rows is.known in
+    (plan_is parts scenario box made plan kept.feasible kept.inside) in
+    let cost = dual_le parts scenario box made plan kept.feasible kept.inside weight rows is.known
+    in
     let zero_of = ap (λ w. pos w *ℤ plan_cost parts.tables parts.flights plan) is.said.0
     ∙ zero-*ℤ (plan_cost parts.tables parts.flights plan) in
     absurd (omega (arith, ints, le, cost, zero_of, is.said.1))
-dual_sound parts box weight rows (AtLeast least) scenario made is = λ plan feasible inside.
+dual_sound parts box weight rows (AtLeast least) scenario made is = λ plan kept.
     let le = is.least.below (value_at parts.flights plan)
-    (plan_is parts scenario box made plan feasible inside) in
-    let cost = dual_le parts scenario box made plan feasible inside weight rows is.known in
+    (plan_is parts scenario box made plan kept.feasible kept.inside) in
+    let cost = dual_le parts scenario box made plan kept.feasible kept.inside weight rows is.known
+    in
     let turned = *ℤ_comm (pos weight) (plan_cost parts.tables parts.flights plan) in
     is.said.1.below (plan_cost parts.tables parts.flights plan)
     (omega (arith, ints, le, cost, turned))
@@ -103,7 +106,7 @@ dual_sound parts box weight rows (AtLeast least) scenario made is = λ plan feas
 pub if_sound : (parts : Parts) (box : Box) (weight : ℕ) (rows : List Multiplier)
     (answer : Result Bound LeafFault) → IsScenario parts → IsBoxOf parts box → IsLive box
     → AreKnown parts rows → (value : ℤ) → IsDualValue parts box weight rows value
-    → IsSaid weight value answer → IfOk answer (IsBoundOn parts box)
+    → IsSaid weight value answer → IfOk answer (IsBoundIn parts box)
 if_sound parts box weight rows (Ok bound) scenario made live known value least said =
     dual_sound parts box weight rows bound scenario made
     (record { live = live; known = known; value = value; least = least; said = said })

@@ -19,13 +19,16 @@ use Rattle.time_windows.specs.Boxes.{Box, IsInBox}
 use Rattle.time_windows.proofs.PlanFacts.{planned, planned_flight}
 use Rattle.flight_routes.specs.Fits.{Fits, IsTripThatFits}
 use Rattle.flight_routes.specs.Inside.{IsTripIn}
-use Rattle.greedy_plan.specs.FirstBound.{IsLeastSum, IsNear, plus}
+use Rattle.greedy_plan.specs.FirstBound.{IsLeastSum}
+use Rattle.exact_sums.specs.Near.{IsNear}
+use Rattle.exact_sums.specs.Sums.{plus}
 use Rattle.greedy_plan.specs.Greedy.{AreChosen, IsChosen, with_rest}
 use Rattle.greedy_plan.proofs.BoundFacts.{is_bound, sum_more, sum_none}
 use Rattle.greedy_plan.proofs.FeasibleFacts.{chosen_more, chosen_none, greedy_feasible, loads_none, one_more}
-use Rattle.dual_leaf.specs.Leaf.{IsBoundOn, IsCostIn, IsUnitBox}
-use Rattle.priced_plans.specs.PricedBound.{IsNearBound}
-use Rattle.dual_leaf.specs.UnitSums.{IsNext, IsNextTrip, IsSoFar, IsSumOf, bound_of}
+use Rattle.dual_leaf.specs.Leaf.{IsCostIn, IsUnitBox}
+use Rattle.time_windows.specs.Plans.{IsBoundIn}
+use Rattle.flow_types.specs.Bounds.{IsNearBound, bound_of}
+use Rattle.dual_leaf.specs.UnitSums.{IsNext, IsNextTrip, IsSoFar, IsSumOf}
 use Rattle.dual_leaf.proofs.SumsFacts.{abs_le}
 use Rattle.dual_leaf.proofs.UnitBoxFacts.{one_trip}
 use Rattle.dual_leaf.proofs.UnitFitFacts.{trip_fits}
@@ -87,7 +90,9 @@ module _ (parts : Parts) (valid : IsScenario parts) (box : Box) (unit : IsUnitBo
       → ((stops : List Stop)
       → IsTripThatFits parts box (with_rest parts.flights trips) number stops → ⊥)
       → IsCostIn parts box NoPlan
-  stuck trips number count within chosen none plan feasible inside =
+  stuck trips number count within chosen none plan kept =
+      let feasible = kept.feasible in
+      let inside = kept.inside in
       let flight = item_there parts.flights number within in
       let at = planned parts.day.periods parts.flights plan number flight.0 feasible.trips flight.1
       in
@@ -191,7 +196,7 @@ module _ (parts : Parts) (valid : IsScenario parts) (box : Box) (unit : IsUnitBo
       → ((trips : List (List Stop)) → length trips ≡ count
       → AreLoads parts (with_rest parts.flights trips) old
       → IsNext parts box trips count new cost)
-      → IfSome cost (IsNear (2 ^ 100))
+      → IfSome cost (IsNear (2 ^ 120))
   next_near count old new None cost within some before next = absurd (let e : ⊥ = cc in e)
   next_near count old new (Some sum) None within some before next = tt
   next_near count old new (Some sum) (Some cost) within some before next =
@@ -209,18 +214,21 @@ module _ (parts : Parts) (valid : IsScenario parts) (box : Box) (unit : IsUnitBo
   whole_cost count loads None all is = is
   whole_cost count loads (Some sum) all is = (
     is.trips,
-    greedy_feasible parts box is.trips
-        (record { chosen = is.chosen; whole = is.count_is ∙ all }),
-    λ f trip at. (is.chosen f trip at).inside.inside.inside,
+    record {
+      feasible = greedy_feasible parts box is.trips
+          (record { chosen = is.chosen; whole = is.count_is ∙ all });
+      inside = λ f trip at. (is.chosen f trip at).inside.inside.inside;
+    },
     is.sum_is,
   )
 
   pub whole_sound : (count : ℕ) (loads : Tally) (sum : Option ℤ) → count ≡ length parts.flights
-      → IsSoFar parts box count loads sum → IsBoundOn parts box (bound_of sum)
+      → IsSoFar parts box count loads sum → IsBoundIn parts box (bound_of sum)
   whole_sound count loads None all is = is
-  whole_sound count loads (Some sum) all is = λ plan feasible inside.
+  whole_sound count loads (Some sum) all is = λ plan kept.
       is_bound parts box (AtLeast sum)
-      (subst (λ n. IsLeastSum parts box n sum) all is.least) plan feasible.trips inside
+      (subst (λ n. IsLeastSum parts box n sum) all is.least) plan
+      (record { trips = kept.feasible.trips; inside = kept.inside })
 
   pub whole_near : (count : ℕ) (loads : Tally) (sum : Option ℤ) → count ≡ length parts.flights
       → IsSoFar parts box count loads sum → IsNearBound (bound_of sum)

@@ -7,10 +7,12 @@ use Rattle.flow_types.specs.declared.plan.Stop.{Stop}
 use Rattle.flow_types.specs.Costs.{plan_cost}
 use Rattle.flow_types.specs.Feasible.{IsFeasible}
 use Rattle.flight_routes.specs.Prices.{PriceTable}
-use Rattle.priced_plans.specs.PricedBound.{IsNearBound, IsRoundedUp}
+use Rattle.priced_plans.specs.PricedBound.{IsRoundedUp}
+use Rattle.flow_types.specs.Bounds.{IsNearBound, IsNearer}
 use Rattle.priced_plans.specs.Values.{IsPricedValue}
 use Rattle.priced_plans.specs.Valuing.{LacksTrip}
-use Rattle.time_windows.specs.Boxes.{Box, IsClosedMust, IsInBox, options_of}
+use Rattle.time_windows.specs.Boxes.{Box, IsClosedMust, options_of}
+use Rattle.time_windows.specs.Plans.{HasNoPlan, IsPlanIn}
 use Rattle.time_windows.specs.Tight.{IsEarlierNode, IsFirstClosed}
 use Rattle.branch_tree.specs.declared.leaf.Leaf.{Leaf}
 use Rattle.branch_tree.specs.declared.leaf.Leaf.TheVariants.{Dual, Empty, Lag, Unit as UnitLeaf}
@@ -38,10 +40,8 @@ IsUnitBox box = (f n : ℕ) → options_of (box f n) ≡ 1
 
 -- what the plan in the box costs that keeps every rule, or that there is none
 abbrev pub IsCostIn : Parts → Box → Bound → Type 0
-IsCostIn parts box NoPlan =
-    (plan : List (List Stop)) → IsFeasible parts plan → IsInBox box plan → ⊥
-IsCostIn parts box (AtLeast cost) =
-    (plan : List (List Stop)) × IsFeasible parts plan × IsInBox box plan
+IsCostIn parts box NoPlan = HasNoPlan parts box
+IsCostIn parts box (AtLeast cost) = (plan : List (List Stop)) × IsPlanIn parts box plan
     × (plan_cost parts.tables parts.flights plan ≡ cost)
 
 -- the first node that must be entered and is closed, or else the first without exactly one choice
@@ -130,16 +130,9 @@ IsLeafBound parts box UnitLeaf answer = IsUnitBound parts box answer
 IsLeafBound parts box (Dual weight rows) answer = IsDualAnswer parts box weight rows answer
 IsLeafBound parts box (Lag weight rows) answer = IsLagAnswer parts box weight rows answer
 
--- no plan in the box that keeps every rule costs less; there is none below NoPlan
-abbrev pub IsBoundOn : Parts → Box → Bound → Type 0
-IsBoundOn parts box NoPlan = IsCostIn parts box NoPlan
-IsBoundOn parts box (AtLeast least) = (plan : List (List Stop)) → IsFeasible parts plan
-    → IsInBox box plan → least ≤ℤ plan_cost parts.tables parts.flights plan
-
 -- not too far from 0, though prices may be large beside the weight
 abbrev pub IsNearPriced : Bound → Type 0
-IsNearPriced NoPlan = Unit {0}
-IsNearPriced (AtLeast least) = unsigned_abs least < 2 ^ 124
+IsNearPriced bound = IsNearer (2 ^ 124) bound
 
 -- nearer where the leaf isn't one of prices
 abbrev pub IsNearOf : Leaf → Bound → Type 0

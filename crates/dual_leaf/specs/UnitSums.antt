@@ -9,7 +9,8 @@ use Rattle.plan_rules.specs.Cells.{Tally}
 use Rattle.plan_rules.specs.Loads.{AreLoads}
 use Rattle.time_windows.specs.Boxes.{Box}
 use Rattle.flight_routes.specs.Fits.{IsTripThatFits}
-use Rattle.greedy_plan.specs.FirstBound.{IsLeastSum, IsNear}
+use Rattle.greedy_plan.specs.FirstBound.{IsLeastSum}
+use Rattle.exact_sums.specs.Near.{IsNear}
 use Rattle.greedy_plan.specs.Greedy.{AreChosen, IsChosen, with_rest}
 use Rattle.dual_leaf.specs.Leaf.{IsCostIn}
 
@@ -37,11 +38,6 @@ pub record IsSumOf (parts : Parts) (box : Box) (count : ℕ) (loads : Tally)
   pub sum_is : plan_cost parts.tables parts.flights trips ≡ sum
   pub least : IsLeastSum parts box count sum
   pub near : IsNear (count * 200000000000) sum
-
--- the bound that a sum says, if there is one
-abbrev pub bound_of : Option ℤ → Bound
-bound_of None = NoPlan
-bound_of (Some sum) = AtLeast sum
 
 -- that, or there is no plan
 abbrev pub IsSoFar : Parts → Box → ℕ → Tally → Option ℤ → Type 0

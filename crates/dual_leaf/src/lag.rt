@@ -8,7 +8,8 @@ ghost use Rattle.time_windows.specs.Held.{IsMadeFor, box_of};
 ghost use Rattle.bytime_model.specs.Rows.{is_capacity};
 ghost use Rattle.branch_tree.specs.Leaves.{HasRange};
 ghost use Rattle.dual_leaf.specs.Lag.{ArePriceable, ArePricedBy, IsFirstUnpriceable, IsSetBy, is_priceable, key_of};
-ghost use Rattle.dual_leaf.specs.Leaf.{IsBoundOn, IsLagAnswer, IsLive, IsNearPriced, IsTableSaid};
+ghost use Rattle.dual_leaf.specs.Leaf.{IsLagAnswer, IsLive, IsNearPriced, IsTableSaid};
+ghost use Rattle.time_windows.specs.Plans.{IsBoundIn};
 
 use crate::bound::said;
 use crate::fault::LeafFault;
@@ -133,7 +134,7 @@ pub fn lag_said(
     requires live { IsLive (box_of boxes.now) }
     requires range { HasRange weight rows.now }
     ensures bound { IsLagAnswer (parts_of s.now) (box_of boxes.now) weight rows.now result }
-    ensures sound { IfOk result (IsBoundOn (parts_of s.now) (box_of boxes.now)) }
+    ensures sound { IfOk result (IsBoundIn (parts_of s.now) (box_of boxes.now)) }
     ensures near { IfOk result IsNearPriced }
     ensures work { IsWorkFor (parts_of s.now) work.new }
     ensures prices { ArePricesOf (parts_of s.now) prices.new }

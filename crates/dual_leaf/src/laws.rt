@@ -1,7 +1,8 @@
 //! What the bound of a leaf means.
 ghost use Rattle.std.specs.Prelude.{Ok};
 ghost use Rattle.branch_tree.specs.declared.leaf.Leaf.{Leaf};
-ghost use Rattle.dual_leaf.specs.Leaf.{IsBoundOn, IsLeafBound};
+ghost use Rattle.dual_leaf.specs.Leaf.{IsLeafBound};
+ghost use Rattle.time_windows.specs.Plans.{IsBoundIn};
 ghost use Rattle.flow_types.specs.Valid.{IsScenario};
 ghost use Rattle.flow_types.specs.declared.bound.Bound.{Bound};
 ghost use Rattle.flow_types.specs.declared.parts.Parts.{Parts};
@@ -11,5 +12,5 @@ ghost use Rattle.time_windows.specs.Boxes.{Box, IsBoxOf};
 /// out.
 pub fn leaf_bounds_are_bounds()
     ensures { (parts : Parts) (box : Box) (leaf : Leaf) (bound : Bound) → IsScenario parts
-        → IsBoxOf parts box → IsLeafBound parts box leaf (Ok bound) → IsBoundOn parts box bound }
+        → IsBoxOf parts box → IsLeafBound parts box leaf (Ok bound) → IsBoundIn parts box bound }
 {}

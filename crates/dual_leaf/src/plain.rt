@@ -4,8 +4,9 @@ ghost use Rattle.flow_types.specs.Scenario.{parts_of};
 ghost use Rattle.flight_routes.specs.Work.{IsWorkFor};
 ghost use Rattle.plan_rules.specs.Loads.{IsMadeFor as AreLoadsFor};
 ghost use Rattle.time_windows.specs.Held.{IsMadeFor, box_of};
-ghost use Rattle.dual_leaf.specs.Leaf.{IsBoundOn, IsEmptyBound, IsUnitBound};
-ghost use Rattle.priced_plans.specs.PricedBound.{IsNearBound};
+ghost use Rattle.dual_leaf.specs.Leaf.{IsEmptyBound, IsUnitBound};
+ghost use Rattle.time_windows.specs.Plans.{IsBoundIn};
+ghost use Rattle.flow_types.specs.Bounds.{IsNearBound};
 
 use crate::fault::LeafFault;
 use crate::options::{first_closed, first_other};
@@ -20,7 +21,7 @@ use time_windows::Boxes;
 pub fn empty_bound(s: &Scenario, boxes: &Boxes) -> Result<Bound, LeafFault>
     requires { IsMadeFor (parts_of s.now) boxes.now }
     ensures bound { IsEmptyBound (box_of boxes.now) result }
-    ensures sound { IfOk result (IsBoundOn (parts_of s.now) (box_of boxes.now)) }
+    ensures sound { IfOk result (IsBoundIn (parts_of s.now) (box_of boxes.now)) }
     ensures near { IfOk result IsNearBound }
 {
     match first_closed(s, boxes) {
@@ -41,7 +42,7 @@ pub fn unit_bound(
     requires work { IsWorkFor (parts_of s.now) work.old }
     requires loads { AreLoadsFor (parts_of s.now) loads.old }
     ensures bound { IsUnitBound (parts_of s.now) (box_of boxes.now) result }
-    ensures sound { IfOk result (IsBoundOn (parts_of s.now) (box_of boxes.now)) }
+    ensures sound { IfOk result (IsBoundIn (parts_of s.now) (box_of boxes.now)) }
     ensures near { IfOk result IsNearBound }
     ensures work { IsWorkFor (parts_of s.now) work.new }
     ensures loads { AreLoadsFor (parts_of s.now) loads.new }

@@ -1,16 +1,17 @@
 //! What the one plan costs that may be in a box where each node has one option.
-ghost use Rattle.std.specs.Prelude.{◌≡◌, ◌+◌, ◌<◌, ◌^◌, IfSome, List, length};
+ghost use Rattle.std.specs.Prelude.{◌≡◌, ◌+◌, ◌<◌, List, length};
 ghost use Rattle.flow_types.specs.declared.plan.Stop.{Stop};
 ghost use Rattle.flow_types.specs.Scenario.{parts_of};
 ghost use Rattle.flight_routes.specs.Work.{IsWorkFor};
 ghost use Rattle.plan_rules.specs.Loads.{AreLoads, IsMadeFor as AreLoadsFor};
 ghost use Rattle.time_windows.specs.Held.{IsMadeFor, box_of};
-ghost use Rattle.greedy_plan.specs.FirstBound.{IsNear, plus};
 ghost use Rattle.greedy_plan.specs.Greedy.{with_rest};
-ghost use Rattle.dual_leaf.specs.Leaf.{IsBoundOn, IsCostIn, IsUnitBox};
-ghost use Rattle.priced_plans.specs.PricedBound.{IsNearBound};
-ghost use Rattle.dual_leaf.specs.UnitSums.{IsNext, IsSoFar, bound_of};
+ghost use Rattle.dual_leaf.specs.Leaf.{IsCostIn, IsUnitBox};
+ghost use Rattle.time_windows.specs.Plans.{IsBoundIn};
+ghost use Rattle.flow_types.specs.Bounds.{IsNearBound};
+ghost use Rattle.dual_leaf.specs.UnitSums.{IsNext, IsSoFar};
 
+use exact_sums::plus;
 use flight_routes::Work;
 use flow_types::{Bound, Scenario};
 use plan_rules::Loads;
@@ -26,7 +27,7 @@ pub fn unit_cost(work: &mut Work, loads: &mut Loads, s: &Scenario, boxes: &Boxes
     requires work { IsWorkFor (parts_of s.now) work.old }
     requires loads { AreLoadsFor (parts_of s.now) loads.old }
     ensures cost { IsCostIn (parts_of s.now) (box_of boxes.now) result }
-    ensures sound { IsBoundOn (parts_of s.now) (box_of boxes.now) result }
+    ensures sound { IsBoundIn (parts_of s.now) (box_of boxes.now) result }
     ensures near { IsNearBound result }
     ensures work { IsWorkFor (parts_of s.now) work.new }
     ensures loads { AreLoadsFor (parts_of s.now) loads.new }
@@ -36,17 +37,7 @@ pub fn unit_cost(work: &mut Work, loads: &mut Loads, s: &Scenario, boxes: &Boxes
     for number in 0..s.flights().len() {
         sum = with_next(work, loads, s, boxes, number as u32, sum);
     }
-    bound_of(sum)
-}
-
-// The bound that the sum says.
-fn bound_of(sum: Option<i128>) -> Bound
-    ensures { result ≡ bound_of sum }
-{
-    match sum {
-        None => Bound::NoPlan,
-        Some(cost) => Bound::AtLeast(cost),
-    }
+    Bound::of(sum)
 }
 
 // The sum of the costs with that of the next flight's trip.
@@ -98,19 +89,4 @@ fn add_next(
         loads.add(s, flight, work.trip());
     }
     cost
-}
-
-// The sum of both, where both are there.
-fn plus(sum: Option<i128>, cost: Option<i128>) -> Option<i128>
-    requires sum { IfSome sum (IsNear (2 ^ 100)) }
-    requires cost { IfSome cost (IsNear (2 ^ 100)) }
-    ensures { result ≡ plus sum cost }
-{
-    match sum {
-        None => None,
-        Some(sum) => match cost {
-            None => None,
-            Some(cost) => Some(sum + cost),
-        },
-    }
 }

@@ -8,8 +8,9 @@ ghost use Rattle.time_windows.specs.Tight.{IsTight};
 ghost use Rattle.bytime_model.specs.Visits.{AreVisitsOf};
 ghost use Rattle.branch_tree.specs.Leaves.{HasRange};
 ghost use Rattle.dual_leaf.specs.Columns.{AreColumnsOf};
-ghost use Rattle.dual_leaf.specs.Leaf.{IsBoundOn, IsDualAnswer, IsLagAnswer, IsNearPriced};
-ghost use Rattle.priced_plans.specs.PricedBound.{IsNearBound};
+ghost use Rattle.dual_leaf.specs.Leaf.{IsDualAnswer, IsLagAnswer, IsNearPriced};
+ghost use Rattle.time_windows.specs.Plans.{IsBoundIn};
+ghost use Rattle.flow_types.specs.Bounds.{IsNearBound};
 
 use crate::bound::said;
 use crate::columns::Columns;
@@ -63,7 +64,8 @@ impl LeafWork {
     ghost use Rattle.time_windows.specs.Held.{IsMadeFor, box_of};
     ghost use Rattle.time_windows.specs.Tight.{IsTight};
     ghost use Rattle.branch_tree.specs.Leaves.{IsInRange};
-    ghost use Rattle.dual_leaf.specs.Leaf.{IsBoundOn, IsLeafBound, IsNearOf};
+    ghost use Rattle.dual_leaf.specs.Leaf.{IsLeafBound, IsNearOf};
+    ghost use Rattle.time_windows.specs.Plans.{IsBoundIn};
     ghost use Rattle.dual_leaf.specs.Work.{IsRoomFor};
 
     /// Room for the leaves of the scenario: 20 bytes for each variable that the tight root box
@@ -118,7 +120,7 @@ impl LeafWork {
         requires tight { IsTight (parts_of s.now) (box_of boxes.now) }
         requires range { IsInRange leaf.now }
         ensures bound { IsLeafBound (parts_of s.now) (box_of boxes.now) leaf.now result }
-        ensures sound { IfOk result (IsBoundOn (parts_of s.now) (box_of boxes.now)) }
+        ensures sound { IfOk result (IsBoundIn (parts_of s.now) (box_of boxes.now)) }
         ensures near { IfOk result (IsNearOf leaf.now) }
         ensures made { IsRoomFor (parts_of s.now) self.new }
     {
@@ -166,7 +168,7 @@ fn dual_bound(
     requires tight { IsTight (parts_of s.now) (box_of boxes.now) }
     requires range { HasRange weight rows.now }
     ensures bound { IsDualAnswer (parts_of s.now) (box_of boxes.now) weight rows.now result }
-    ensures sound { IfOk result (IsBoundOn (parts_of s.now) (box_of boxes.now)) }
+    ensures sound { IfOk result (IsBoundIn (parts_of s.now) (box_of boxes.now)) }
     ensures near { IfOk result IsNearBound }
     ensures positions { length sums.new.factors ≡ columns.now.count }
 {
@@ -193,7 +195,7 @@ fn lag_bound(
     requires boxes { IsMadeFor (parts_of s.now) boxes.now }
     requires range { HasRange weight rows.now }
     ensures bound { IsLagAnswer (parts_of s.now) (box_of boxes.now) weight rows.now result }
-    ensures sound { IfOk result (IsBoundOn (parts_of s.now) (box_of boxes.now)) }
+    ensures sound { IfOk result (IsBoundIn (parts_of s.now) (box_of boxes.now)) }
     ensures near { IfOk result IsNearPriced }
     ensures work { IsWorkFor (parts_of s.now) work.new }
     ensures prices { ArePricesOf (parts_of s.now) prices.new }

@@ -3,3 +3,4 @@ pub mod ShortLists
 pub mod SumFacts
 pub mod ProductFacts
 pub mod LeastFacts
+pub mod NearFacts

@@ -13,7 +13,8 @@ use Rattle.time_windows.specs.Boxes.{IsInWindow, IsProper}
 use Rattle.exact_sums.specs.Leasts.{IsFirstLeast, IsLeast, IsLeastAt, lesser}
 use Rattle.exact_sums.proofs.LeastFacts.{least_of_two, value_of}
 use Rattle.flight_routes.specs.Early.{AreAhead, AreEnds, IsLess, IsNoMore, cut_at, cut_row, cut_window}
-use Rattle.flight_routes.specs.Rates.{IsPassage, IsValueWithin, IsWay, IsWayOn, Rates, value_or_zero, way_cost, whole_cost}
+use Rattle.flight_routes.specs.Rates.{IsPassage, IsWay, IsWayOn, Rates, value_or_zero, way_cost, whole_cost}
+use Rattle.exact_sums.specs.Near.{IsNear}
 use Rattle.flight_routes.specs.Ready.{AreRising, IsReady}
 use Rattle.flight_routes.specs.TripOrder.{IsNoLater}
 use Rattle.flight_routes.specs.Ways.{both_of}
@@ -128,20 +129,20 @@ no_more_second (Some a) (Some b) v more =
     let two = least_of_two a b in omega (arith, ints, more, two.1)
 
 -- the lesser of two small numbers is small
-pub lesser_within : (most : ℕ) (a b : Option ℤ) → IfSome a (IsValueWithin most)
-    → IfSome b (IsValueWithin most) → IfSome (lesser a b) (IsValueWithin most)
+pub lesser_within : (most : ℕ) (a b : Option ℤ) → IfSome a (IsNear most)
+    → IfSome b (IsNear most) → IfSome (lesser a b) (IsNear most)
 lesser_within most None b one two = two
 lesser_within most (Some a) None one two = one
 lesser_within most (Some a) (Some b) one two =
     let least = least_of_two a b in
     by least.2
   where
-    by : (int_min a b ≡ a) ⊎ (int_min a b ≡ b) → IsValueWithin most (int_min a b)
-    by (inl is) = subst (IsValueWithin most) (sym is) one
-    by (inr is) = subst (IsValueWithin most) (sym is) two
+    by : (int_min a b ≡ a) ⊎ (int_min a b ≡ b) → IsNear most (int_min a b)
+    by (inl is) = subst (IsNear most) (sym is) one
+    by (inr is) = subst (IsNear most) (sym is) two
 
-pub small_wider : (a : Option ℤ) → IfSome a (IsValueWithin (2 ^ 110))
-    → IfSome a (IsValueWithin (2 ^ 120))
+pub small_wider : (a : Option ℤ) → IfSome a (IsNear (2 ^ 110))
+    → IfSome a (IsNear (2 ^ 120))
 small_wider None within = tt
 small_wider (Some a) within =
     record { low = omega (arith, ints, within.low); high = omega (arith, ints, within.high) }

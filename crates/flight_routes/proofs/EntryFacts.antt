@@ -6,7 +6,8 @@ use Rattle.time_windows.specs.declared.access.Window.{Window}
 use Rattle.exact_sums.specs.Leasts.{IsLeast, lesser, raised}
 use Rattle.exact_sums.proofs.LeastFacts.{least_either, least_none, least_one, least_same}
 use Rattle.flight_routes.specs.Entries.{IsEntry, IsMove, IsOfferedFrom, Offers, entered_of, entry_cost, kept_of, offered_of}
-use Rattle.flight_routes.specs.Rates.{IsClear, IsValueWithin, value_or_zero}
+use Rattle.flight_routes.specs.Rates.{IsClear, value_or_zero}
+use Rattle.exact_sums.specs.Near.{IsNear}
 
 -- nothing is offered
 pub lesser_none : (a : Option ℤ) → a ≡ lesser a None
@@ -23,8 +24,8 @@ some_is None v is = cc
 some_is (Some w) v is = refl
 
 -- a value that is there, or zero, is within its bound
-pub some_within : {most : ℕ} (o : Option ℤ) → IfSome o (IsValueWithin most)
-    → IsValueWithin most (value_or_zero o)
+pub some_within : {most : ℕ} (o : Option ℤ) → IfSome o (IsNear most)
+    → IsNear most (value_or_zero o)
 some_within None within = record { low = omega (arith, ints); high = omega (arith, ints) }
 some_within (Some v) within = within
 

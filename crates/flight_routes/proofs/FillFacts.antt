@@ -12,7 +12,7 @@ use Rattle.time_windows.specs.declared.ends.End.TheVariants.{Arrival, Departure}
 use Rattle.flight_routes.specs.Filling.{IsFitTable, OnlyClear, OnlyEnd, OnlyPaid}
 use Rattle.flight_routes.specs.FitTimes.{IsClearAt, IsFirstFull}
 use Rattle.flight_routes.specs.RateLists.{RateLists, rates_of}
-use Rattle.flight_routes.specs.Rates.{IsValueWithin}
+use Rattle.exact_sums.specs.Near.{IsNear}
 use Rattle.flight_routes.specs.Ready.{AreWindows}
 
 -- the last period of a window is one of the day
@@ -100,8 +100,8 @@ fit_table_more node old new few above only here table = record {
   clear = λ n within.
       subst (λ p. IsClearAt p n (rates_of new)) (sym only.periods)
       (clear_by node old new few only here table.clear n within (cases_eq n node));
-  leaves = subst (λ costs. (t : ℕ) → IfSome (get_or costs t None) (IsValueWithin (2 ^ 110)))
+  leaves = subst (λ costs. (t : ℕ) → IfSome (get_or costs t None) (IsNear (2 ^ 110)))
       (sym only.leaves) table.leaves;
-  arrives = subst (λ costs. (t : ℕ) → IfSome (get_or costs t None) (IsValueWithin (2 ^ 110)))
+  arrives = subst (λ costs. (t : ℕ) → IfSome (get_or costs t None) (IsNear (2 ^ 110)))
       (sym only.arrives) table.arrives;
 }

@@ -13,7 +13,8 @@ use Rattle.time_windows.specs.Boxes.{IsInWindow}
 use Rattle.exact_sums.specs.Leasts.{IsLeast, raised}
 use Rattle.exact_sums.proofs.LeastFacts.{least_along, least_either, least_same, least_through}
 use Rattle.flight_routes.specs.Entries.{IsMoveBy, Offers, cell_at, entry_cost}
-use Rattle.flight_routes.specs.Rates.{IsPassage, IsValueWithin, IsWay, IsWayOn, PassesNoMust, Rates, value_or_zero, way_cost, whole_cost}
+use Rattle.flight_routes.specs.Rates.{IsPassage, IsWay, IsWayOn, PassesNoMust, Rates, value_or_zero, way_cost, whole_cost}
+use Rattle.exact_sums.specs.Near.{IsNear}
 use Rattle.flight_routes.specs.Ready.{AreSmall, IsUpward}
 use Rattle.flight_routes.specs.Ways.{AreCells, HasLegsFrom, IsCell, IsPassageAmong, IsPassageBy, IsStart, IsWayAmong, IsWayBy, entered_cost, start_cost, stop_at}
 use Rattle.flight_routes.proofs.EntryFacts.{no_none, some_is, some_within}
@@ -67,7 +68,7 @@ module _ (flight : Flight) (row : ℕ → Access) (rates : Rates) (upward : IsUp
       )
 
   within_by : (small : AreSmall rates) (node t : ℕ) (cell : Option ℤ)
-      → IsCell flight row rates node t cell → IfSome cell (IsValueWithin (2 ^ 111))
+      → IsCell flight row rates node t cell → IfSome cell (IsNear (2 ^ 111))
   within_by small node t None cell = tt
   within_by small node t (Some v) cell =
       let way = way_within small (stop_at node t) cell.reached.0 cell.reached.1 in
@@ -80,7 +81,7 @@ module _ (flight : Flight) (row : ℕ → Access) (rates : Rates) (upward : IsUp
   -- nor is a cell
   pub cells_within : (small : AreSmall rates) (from : ℕ) (cells : List (Option ℤ))
       → AreCells flight row rates from cells → (n u : ℕ) → from ≤ n → n < length flight.nodes
-      → IsInWindow (row n).window u → IfSome (cell_at cells n u) (IsValueWithin (2 ^ 111))
+      → IsInWindow (row n).window u → IfSome (cell_at cells n u) (IsNear (2 ^ 111))
   cells_within small from cells are n u after inside within =
       within_by small n u (cell_at cells n u) (are.each n u after inside within)
 
@@ -127,8 +128,8 @@ module _ (flight : Flight) (row : ℕ → Access) (rates : Rates) (upward : IsUp
       (λ way on. (way, on, omega (arith, ints))) (λ way on. (way, on, omega (arith, ints)))
 
   entered_by : (small : AreSmall rates) (node t : ℕ) (least : Option ℤ)
-      → IfSome (raised (neg_ℤ (rates.paid node t)) least) (IsValueWithin (2 ^ 111))
-      → IfSome least (IsValueWithin (2 ^ 112))
+      → IfSome (raised (neg_ℤ (rates.paid node t)) least) (IsNear (2 ^ 111))
+      → IfSome least (IsNear (2 ^ 112))
   entered_by small node t None within = tt
   entered_by small node t (Some v) within =
       let paid = small.paid node t in
@@ -140,7 +141,7 @@ module _ (flight : Flight) (row : ℕ → Access) (rates : Rates) (upward : IsUp
   -- so it is small too
   pub entered_within : (small : AreSmall rates) (node t : ℕ) (least : Option ℤ)
       → IsLeast (IsWayOn flight row rates (stop_at node t)) (entered_cost rates (stop_at node t))
-      least → IfSome least (IsValueWithin (2 ^ 112))
+      least → IfSome least (IsNear (2 ^ 112))
   entered_within small node t least is =
       entered_by small node t least
       (within_by small node t (raised (neg_ℤ (rates.paid node t)) least)

@@ -23,7 +23,8 @@ use Rattle.flight_routes.specs.Fits.{FitsAs, IsTripThatFits}
 use Rattle.flight_routes.specs.Inside.{IsTripIn}
 use Rattle.flight_routes.specs.Prices.{PriceTable, priced_cost, priced_cost_of}
 use Rattle.flight_routes.specs.RateLists.{IsBlank, RateLists, place_of, rates_of}
-use Rattle.flight_routes.specs.Rates.{AreClear, IsValueWithin, IsWay, Rates, whole_cost}
+use Rattle.flight_routes.specs.Rates.{AreClear, IsWay, Rates, whole_cost}
+use Rattle.exact_sums.specs.Near.{IsNear}
 use Rattle.flight_routes.specs.Ready.{AreRising, AreWindows, IsReady, IsUpward, row_of}
 use Rattle.flight_routes.specs.TripOrder.{IsNoLater}
 use Rattle.flight_routes.specs.TripRates.{AreTripRates}
@@ -209,9 +210,9 @@ free_is lists table n t =
     (cases_lt (place_of n t) (most_nodes * most_periods))
 
 free_small : (lists : RateLists) → IsFitTable lists → (n t : ℕ)
-    → IsValueWithin (2 ^ 100) ((rates_of lists).paid n t)
+    → IsNear (2 ^ 100) ((rates_of lists).paid n t)
 free_small lists table n t =
-    subst (IsValueWithin (2 ^ 100)) (sym (free_is lists table n t))
+    subst (IsNear (2 ^ 100)) (sym (free_is lists table n t))
     (record { low = omega (arith, ints); high = omega (arith, ints) })
 
 -- what is paid at a node never falls
@@ -315,9 +316,9 @@ match_first P Q cost price IsNoLater (Some l) Empty chosen said is = said chosen
 
 -- a new table serves for both
 blank_small : (costs : List (Option ℤ)) → costs ≡ replicate most_periods None → (t : ℕ)
-    → IfSome (get_or costs t None) (IsValueWithin (2 ^ 110))
+    → IfSome (get_or costs t None) (IsNear (2 ^ 110))
 blank_small costs is t =
-    subst (λ (c : Option ℤ). IfSome c (IsValueWithin (2 ^ 110)))
+    subst (λ (c : Option ℤ). IfSome c (IsNear (2 ^ 110)))
     (sym (ap (λ xs. get_or xs t None) is
     ∙ read_replicate most_periods t (no_cost) (cases_lt t most_periods))) tt
   where
@@ -338,9 +339,9 @@ blank_clear clear is k =
     ∙ read_replicate (most_nodes * most_periods) k most_periods
     (cases_lt k (most_nodes * most_periods))
 
-nothing_small : (value : ℤ) → value ≡ pos 0 → IsValueWithin (2 ^ 100) value
+nothing_small : (value : ℤ) → value ≡ pos 0 → IsNear (2 ^ 100) value
 nothing_small value is =
-    subst (IsValueWithin (2 ^ 100)) (sym is)
+    subst (IsNear (2 ^ 100)) (sym is)
     (record { low = omega (arith, ints); high = omega (arith, ints) })
 
 pub blank_price : (periods : ℕ) (lists : RateLists) → IsBlank periods lists → IsPriceTable lists

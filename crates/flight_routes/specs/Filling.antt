@@ -5,7 +5,8 @@ use Rattle.time_windows.specs.declared.ends.End.{End}
 use Rattle.time_windows.specs.declared.ends.End.TheVariants.{Arrival, Departure}
 use Rattle.flight_routes.specs.FitTimes.{IsClearAt}
 use Rattle.flight_routes.specs.RateLists.{RateLists, rates_of}
-use Rattle.flight_routes.specs.Rates.{IsValueWithin, rate_at}
+use Rattle.flight_routes.specs.Rates.{rate_at}
+use Rattle.exact_sums.specs.Near.{IsNear}
 
 -- what leaving costs, and nothing else
 pub record OnlyLeaves (old new : RateLists) : Type 0 where
@@ -53,17 +54,17 @@ pub record OnlyClear (node : ℕ) (old new : RateLists) : Type 0 where
 
 -- what leaving, arriving or staying costs is small
 abbrev pub AreLeavesSmall : RateLists → Type 0
-AreLeavesSmall lists = (t : ℕ) → IfSome ((rates_of lists).leaves t) (IsValueWithin (2 ^ 110))
+AreLeavesSmall lists = (t : ℕ) → IfSome ((rates_of lists).leaves t) (IsNear (2 ^ 110))
 
 abbrev pub AreArrivesSmall : RateLists → Type 0
-AreArrivesSmall lists = (t : ℕ) → IfSome ((rates_of lists).arrives t) (IsValueWithin (2 ^ 110))
+AreArrivesSmall lists = (t : ℕ) → IfSome ((rates_of lists).arrives t) (IsNear (2 ^ 110))
 
 abbrev pub AreSmallAt : End → RateLists → Type 0
 AreSmallAt end lists =
-    (t : ℕ) → IfSome (rate_at end (rates_of lists) t) (IsValueWithin (2 ^ 110))
+    (t : ℕ) → IfSome (rate_at end (rates_of lists) t) (IsNear (2 ^ 110))
 
 abbrev pub ArePaidSmall : RateLists → Type 0
-ArePaidSmall lists = (n t : ℕ) → IsValueWithin (2 ^ 100) ((rates_of lists).paid n t)
+ArePaidSmall lists = (n t : ℕ) → IsNear (2 ^ 100) ((rates_of lists).paid n t)
 
 -- A table for prices: no time before the first sector costs anything, every node is clear, and what
 -- it holds is small.

@@ -71,8 +71,3 @@ IsClear periods clear = (t : ℕ) → t + 1 < periods
 
 abbrev pub AreClear : ℕ → Rates → Type 0
 AreClear periods rates = (n : ℕ) → IsClear periods (rates.clear n)
-
--- no further from zero than this
-pub record IsValueWithin (most : ℕ) (value : ℤ) : Type 0 where
-  pub low : neg_ℤ (pos most) ≤ℤ value
-  pub high : value ≤ℤ pos most

@@ -5,13 +5,14 @@ use Rattle.flow_types.specs.Limits.{most_nodes, most_periods}
 use Rattle.flow_types.specs.Routes.{IsLeg}
 use Rattle.time_windows.specs.declared.access.Access.{Access}
 use Rattle.time_windows.specs.Boxes.{IsInWindow, IsProper, closed}
-use Rattle.flight_routes.specs.Rates.{AreClear, IsValueWithin, Rates}
+use Rattle.flight_routes.specs.Rates.{AreClear, Rates}
+use Rattle.exact_sums.specs.Near.{IsNear}
 
 -- sums of them fit in 128 bits
 pub record AreSmall (rates : Rates) : Type 0 where
-  pub leaves : (t : ℕ) → IfSome (rates.leaves t) (IsValueWithin (2 ^ 110))
-  pub arrives : (t : ℕ) → IfSome (rates.arrives t) (IsValueWithin (2 ^ 110))
-  pub paid : (n t : ℕ) → IsValueWithin (2 ^ 100) (rates.paid n t)
+  pub leaves : (t : ℕ) → IfSome (rates.leaves t) (IsNear (2 ^ 110))
+  pub arrives : (t : ℕ) → IfSome (rates.arrives t) (IsNear (2 ^ 110))
+  pub paid : (n t : ℕ) → IsNear (2 ^ 100) (rates.paid n t)
 
 -- what a row of accesses says of a node
 abbrev pub row_of : List Access → ℕ → Access

@@ -1,7 +1,7 @@
 //! Costs that may be missing.
-ghost use Rattle.std.specs.Prelude.{◌≡◌, ◌^◌, ◌↔◌, true, None, IfSome, pos, neg_ℤ};
+ghost use Rattle.std.specs.Prelude.{◌≡◌, ◌^◌, ◌↔◌, true, None, IfSome, neg_ℤ};
 ghost use Rattle.exact_sums.specs.Leasts.{lesser, raised};
-ghost use Rattle.flight_routes.specs.Rates.{IsValueWithin};
+ghost use Rattle.exact_sums.specs.Near.{IsNear};
 ghost use Rattle.flight_routes.specs.Ways.{both_of};
 
 use std::marker::Model;
@@ -30,10 +30,10 @@ impl Model for Cost {
 }
 
 impl Cost {
-    ghost use Rattle.std.specs.Prelude.{◌≡◌, ◌^◌, ◌↔◌, IsSome, IsTrue, true, None, IfSome, pos, neg_ℤ};
+    ghost use Rattle.std.specs.Prelude.{◌≡◌, ◌^◌, ◌↔◌, IsSome, IsTrue, true, None, IfSome, neg_ℤ};
     ghost use Rattle.exact_sums.specs.Leasts.{lesser, raised};
     ghost use Rattle.flight_routes.specs.Early.{IsLess};
-    ghost use Rattle.flight_routes.specs.Rates.{IsValueWithin};
+    ghost use Rattle.exact_sums.specs.Near.{IsNear};
     ghost use Rattle.flight_routes.specs.Ways.{both_of};
 
     /// No cost.
@@ -45,7 +45,7 @@ impl Cost {
 
     /// The cost, if there is one.
     pub fn new(cost: Option<i128>) -> Cost
-        requires { IfSome cost (IsValueWithin (2 ^ 120)) }
+        requires { IfSome cost (IsNear (2 ^ 120)) }
         ensures { result ≡ cost }
     {
         match cost {
@@ -78,8 +78,8 @@ impl Cost {
 
     /// The cost and so much more.
     pub fn plus(self, more: i128) -> Cost
-        requires cost { IfSome self (IsValueWithin (2 ^ 120)) }
-        requires more { IsValueWithin (2 ^ 100) more }
+        requires cost { IfSome self (IsNear (2 ^ 120)) }
+        requires more { IsNear (2 ^ 100) more }
         ensures { result ≡ raised more self }
     {
         if self.value < NONE {
@@ -93,8 +93,8 @@ impl Cost {
 
     /// The cost and so much less.
     pub fn minus(self, less: i128) -> Cost
-        requires cost { IfSome self (IsValueWithin (2 ^ 120)) }
-        requires less { IsValueWithin (2 ^ 100) less }
+        requires cost { IfSome self (IsNear (2 ^ 120)) }
+        requires less { IsNear (2 ^ 100) less }
         ensures { result ≡ raised (neg_ℤ less) self }
     {
         if self.value < NONE {
@@ -108,8 +108,8 @@ impl Cost {
 
     /// The sum of two, where both are there.
     pub fn and(self, other: Cost) -> Cost
-        requires cost { IfSome self (IsValueWithin (2 ^ 120)) }
-        requires other { IfSome other (IsValueWithin (2 ^ 120)) }
+        requires cost { IfSome self (IsNear (2 ^ 120)) }
+        requires other { IfSome other (IsNear (2 ^ 120)) }
         ensures { result ≡ both_of self other }
     {
         if self.value < NONE {

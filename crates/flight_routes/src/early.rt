@@ -6,7 +6,8 @@ ghost use Rattle.flow_types.specs.Limits.{most_nodes, most_periods};
 ghost use Rattle.flow_types.specs.Trips.{arrival_from};
 ghost use Rattle.flight_routes.specs.Early.{AreAhead, AreEnds, IsLess, IsNoMore, ahead_in, cut_at, cut_window};
 ghost use Rattle.flight_routes.specs.RateLists.{rates_of};
-ghost use Rattle.flight_routes.specs.Rates.{IsValueWithin, IsWay, value_or_zero, whole_cost};
+ghost use Rattle.flight_routes.specs.Rates.{IsWay, value_or_zero, whole_cost};
+ghost use Rattle.exact_sums.specs.Near.{IsNear};
 ghost use Rattle.flight_routes.specs.Ready.{AreRising, AreSmall, AreWindows, IsReady, row_of};
 ghost use Rattle.flight_routes.specs.TripOrder.{IsNoLater};
 
@@ -61,7 +62,7 @@ fn leave_in(rates: &RateTable, window: Window, time: u16) -> Cost
     requires end { window.hi < most_periods }
     requires small { AreSmall (rates_of rates.now) }
     ensures rate { time ≤ window.hi → result ≡ (rates_of rates.now).leaves time }
-    ensures small { IfSome result (IsValueWithin (2 ^ 110)) }
+    ensures small { IfSome result (IsNear (2 ^ 110)) }
 {
     if time <= window.hi {
         rates.leaves_at(time)
@@ -75,7 +76,7 @@ fn arrive_in(rates: &RateTable, window: Window, time: u16) -> Cost
     requires time { time < most_periods }
     requires small { AreSmall (rates_of rates.now) }
     ensures rate { window.lo ≤ time → result ≡ (rates_of rates.now).arrives time }
-    ensures small { IfSome result (IsValueWithin (2 ^ 110)) }
+    ensures small { IfSome result (IsNear (2 ^ 110)) }
 {
     if window.lo <= time {
         rates.arrives_at(time)

@@ -6,7 +6,8 @@ ghost use Rattle.flow_types.specs.Routes.{IsLeg};
 ghost use Rattle.time_windows.specs.Boxes.{IsInWindow};
 ghost use Rattle.flight_routes.specs.Entries.{IsMoveBy, Offers, cell_at, entry_cost};
 ghost use Rattle.flight_routes.specs.RateLists.{paid_in, rates_of};
-ghost use Rattle.flight_routes.specs.Rates.{IsValueWithin, IsWayOn};
+ghost use Rattle.flight_routes.specs.Rates.{IsWayOn};
+ghost use Rattle.exact_sums.specs.Near.{IsNear};
 ghost use Rattle.flight_routes.specs.Ready.{AreRates, AreWindows, IsReady, row_of};
 ghost use Rattle.flight_routes.specs.Ways.{AreCells, HasLegsFrom, IsCell, IsLimit, entered_cost, stop_at};
 
@@ -41,7 +42,7 @@ fn relax_leg(
     requires day { AreRates rates.now.periods (rates_of rates.now) }
     requires windows { AreWindows rates.now.periods (row_of accesses.now) }
     requires costs { (n u : ℕ) → node < n → n < nodes → IsInWindow (row_of accesses.now n).window u
-        → IfSome (cell_at cells.now n u) (IsValueWithin (2 ^ 111)) }
+        → IfSome (cell_at cells.now n u) (IsNear (2 ^ 111)) }
     ensures { (t : ℕ) → window.lo ≤ t → t ≤ window.hi → Offers
         (IsMoveBy (row_of accesses.now) (rates_of rates.now) cells.now leg node t)
         (entry_cost ((rates_of rates.now).paid node) (cell_at cells.now leg.to))
@@ -126,9 +127,9 @@ fn lower_row(paid: &[i128], window: Window, row: &mut [Cost])
     requires paid { length paid.now ≡ most_periods }
     requires row { length row.old ≡ most_periods }
     requires end { window.hi < most_periods }
-    requires small { (t : ℕ) → IsValueWithin (2 ^ 100) (paid_in paid.now t) }
+    requires small { (t : ℕ) → IsNear (2 ^ 100) (paid_in paid.now t) }
     requires costs { (t : ℕ) → window.lo ≤ t → t ≤ window.hi
-        → IfSome (slice_index_or row.old t None) (IsValueWithin (2 ^ 112)) }
+        → IfSome (slice_index_or row.old t None) (IsNear (2 ^ 112)) }
     ensures { (t : ℕ) → window.lo ≤ t → t ≤ window.hi → slice_index_or row.new t None
         ≡ raised (neg_ℤ (paid_in paid.now t)) (slice_index_or row.old t None) }
 {

@@ -1,5 +1,5 @@
 //! The rates of a flight beside the trips of others, at which only trips that fit are ways.
-ghost use Rattle.std.specs.Prelude.{◌≡◌, ◌≤◌, ◌<◌, ◌+◌, ◌^◌, ◌↔◌, ◌⊎◌, ℕ, IfSome, IsTrue, List, None, Some, length, option_map, slice_get, ℤ, pos, ◌-ℤ◌};
+ghost use Rattle.std.specs.Prelude.{◌≡◌, ◌≤◌, ◌<◌, ◌+◌, ◌^◌, ◌↔◌, ◌⊎◌, ℕ, IfSome, IsTrue, List, None, Some, length, option_map, slice_get, pos, ◌-ℤ◌};
 ghost use Rattle.flow_types.specs.declared.flight.Flight.{Flight};
 ghost use Rattle.flow_types.specs.declared.place.CapKind.TheVariants as kind;
 ghost use Rattle.flow_types.specs.declared.plan.Stop.{Stop};
@@ -13,7 +13,8 @@ ghost use Rattle.flight_routes.specs.Filling.{AreSmallAt, IsFitTable, OnlyClear,
 ghost use Rattle.flight_routes.specs.FitRates.{AreFitRates, IsGiven};
 ghost use Rattle.flight_routes.specs.FitTimes.{HasSpace, IsClearAt, IsFirstFull, IsFreeAt, IsInTimeAt, fit_value};
 ghost use Rattle.flight_routes.specs.RateLists.{rates_of};
-ghost use Rattle.flight_routes.specs.Rates.{IsValueWithin, rate_at};
+ghost use Rattle.flight_routes.specs.Rates.{rate_at};
+ghost use Rattle.exact_sums.specs.Near.{IsNear};
 ghost use Rattle.flight_routes.specs.Ready.{AreWindows, row_of};
 ghost use Rattle.time_windows.specs.Turns.{AreTurnsOf};
 
@@ -39,7 +40,7 @@ fn has_space(s: &Scenario, loads: &Loads, kind: CapKind, place: u32, time: u16) 
 // The same cost in 128 bits.
 fn widened(cost: Option<i64>) -> Option<i128>
     ensures value { result ≡ cost }
-    ensures within { IfSome result (IsValueWithin (2 ^ 110)) }
+    ensures within { IfSome result (IsNear (2 ^ 110)) }
 {
     match cost {
         None => None,
@@ -50,7 +51,7 @@ fn widened(cost: Option<i64>) -> Option<i128>
 // What is paid back for the cost.
 fn negated(cost: Option<i64>) -> Option<i128>
     ensures value { result ≡ option_map (λ value. pos 0 -ℤ value) cost }
-    ensures within { IfSome result (IsValueWithin (2 ^ 110)) }
+    ensures within { IfSome result (IsNear (2 ^ 110)) }
 {
     match cost {
         None => None,
@@ -73,7 +74,7 @@ fn value_at(s: &Scenario, flight: u32, end: End, time: u16) -> Option<i128>
     requires { flight < length (parts_of s.now).flights }
     ensures value { result
         ≡ Some (fit_value end (parts_of s.now).tables (flight_at s.now flight) time) }
-    ensures within { IfSome result (IsValueWithin (2 ^ 110)) }
+    ensures within { IfSome result (IsNear (2 ^ 110)) }
 {
     match end {
         End::Departure => negated(credit_then(s, flight, time)),
@@ -89,7 +90,7 @@ fn fit_at(s: &Scenario, flight: u32, end: End, time: u16, bound: u32, loads: &Lo
     ensures given { IsGiven result
         (IsFreeAt end (parts_of s.now) loads.now (flight_at s.now flight) bound time)
         (fit_value end (parts_of s.now).tables (flight_at s.now flight) time) }
-    ensures within { IfSome result (IsValueWithin (2 ^ 110)) }
+    ensures within { IfSome result (IsNear (2 ^ 110)) }
 {
     if !is_in_time(end, bound, time) {
         return None;

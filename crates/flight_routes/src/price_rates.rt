@@ -9,7 +9,8 @@ ghost use Rattle.flight_routes.specs.Filling.{ArePaidSmall, AreSmallAt, IsPriceT
 ghost use Rattle.flight_routes.specs.PriceRates.{end_cost, end_value};
 ghost use Rattle.flight_routes.specs.Prices.{ArePricesOf, price_in, summed};
 ghost use Rattle.flight_routes.specs.RateLists.{rates_of};
-ghost use Rattle.flight_routes.specs.Rates.{IsValueWithin, rate_at};
+ghost use Rattle.flight_routes.specs.Rates.{rate_at};
+ghost use Rattle.exact_sums.specs.Near.{IsNear};
 ghost use Rattle.flight_routes.specs.Ready.{AreWindows, row_of};
 ghost use Rattle.flight_routes.specs.TripRates.{AreTripRates};
 ghost use Rattle.time_windows.specs.Turns.{AreTurnsOf};
@@ -25,9 +26,9 @@ use time_windows::{Access, End, Turns, Window};
 // A weight times a cost.
 fn weighted(weight: u64, cost: Option<i64>) -> Option<i128>
     requires weight { weight < 2 ^ 62 }
-    requires cost { IfSome cost (IsValueWithin 100000000000) }
+    requires cost { IfSome cost (IsNear 100000000000) }
     ensures value { result ≡ option_map (λ value. pos weight *ℤ value) cost }
-    ensures within { IfSome result (IsValueWithin (2 ^ 100)) }
+    ensures within { IfSome result (IsNear (2 ^ 100)) }
 {
     match cost {
         None => None,
@@ -38,9 +39,9 @@ fn weighted(weight: u64, cost: Option<i64>) -> Option<i128>
 // What is paid, less a cost.
 fn less(paid: u128, cost: Option<i128>) -> Option<i128>
     requires paid { paid < 2 ^ 100 }
-    requires cost { IfSome cost (IsValueWithin (2 ^ 100)) }
+    requires cost { IfSome cost (IsNear (2 ^ 100)) }
     ensures value { result ≡ option_map (λ value. pos paid -ℤ value) cost }
-    ensures within { IfSome result (IsValueWithin (2 ^ 110)) }
+    ensures within { IfSome result (IsNear (2 ^ 110)) }
 {
     match cost {
         None => None,
@@ -50,10 +51,10 @@ fn less(paid: u128, cost: Option<i128>) -> Option<i128>
 
 // A cost and what is paid, less what is paid back.
 fn more(cost: Option<i128>, paid: u64, back: u128) -> Option<i128>
-    requires cost { IfSome cost (IsValueWithin (2 ^ 100)) }
+    requires cost { IfSome cost (IsNear (2 ^ 100)) }
     requires back { back < 2 ^ 100 }
     ensures value { result ≡ option_map (λ value. value +ℤ (pos paid -ℤ pos back)) cost }
-    ensures within { IfSome result (IsValueWithin (2 ^ 110)) }
+    ensures within { IfSome result (IsNear (2 ^ 110)) }
 {
     match cost {
         None => None,
@@ -80,7 +81,7 @@ fn end_value(
     requires later { later ≤ most_connections * 2 ^ 71 }
     ensures value { result ≡ Some (end_value end weight prices.now (parts_of s.now)
         (flight_at s.now flight) time later) }
-    ensures within { IfSome result (IsValueWithin (2 ^ 110)) }
+    ensures within { IfSome result (IsNear (2 ^ 110)) }
 {
     let details = &s.flights()[flight as usize];
     match end {

@@ -3,7 +3,7 @@ ghost use Rattle.std.specs.Prelude.{◌≡◌, ◌*◌, ◌<◌, None, IfOk, pos
 ghost use Rattle.exact_sums.specs.Leasts.{raised};
 ghost use Rattle.flow_types.specs.Limits.{most_nodes, most_periods};
 ghost use Rattle.flight_routes.specs.RateLists.{part_of, place_of};
-ghost use Rattle.flight_routes.specs.Rates.{IsValueWithin};
+ghost use Rattle.exact_sums.specs.Near.{IsNear};
 
 use crate::cost::Cost;
 use flow_types::{MOST_PERIODS, OutOfMemory};
@@ -71,11 +71,12 @@ pub fn part_of<T>(items: &[T], node: u16) -> &[T]
 }
 
 impl RateTable {
-    ghost use Rattle.std.specs.Prelude.{◌≡◌, ◌<◌, ◌≤◌, ◌^◌, IfOk, IfSome, length, neg_ℤ};
+    ghost use Rattle.std.specs.Prelude.{◌≡◌, ◌<◌, ◌≤◌, ◌^◌, IfOk, IfSome, length};
     ghost use Rattle.exact_sums.specs.Leasts.{raised};
     ghost use Rattle.flow_types.specs.Limits.{most_nodes, most_periods};
     ghost use Rattle.flight_routes.specs.RateLists.{IsBlank, part_of, rates_of};
-    ghost use Rattle.flight_routes.specs.Rates.{IsValueWithin, rate_at};
+    ghost use Rattle.flight_routes.specs.Rates.{rate_at};
+    ghost use Rattle.exact_sums.specs.Near.{IsNear};
 
     /// Rates of a day of so many periods: no period to leave or to arrive in, nothing paid, and
     /// every node clear.
@@ -157,8 +158,8 @@ impl RateTable {
     pub fn with_paid(&self, node: u16, time: u16, cost: Cost) -> Cost
         requires node { node < most_nodes }
         requires time { time < most_periods }
-        requires paid { IsValueWithin (2 ^ 100) ((rates_of self.now).paid node time) }
-        requires cost { IfSome cost (IsValueWithin (2 ^ 120)) }
+        requires paid { IsNear (2 ^ 100) ((rates_of self.now).paid node time) }
+        requires cost { IfSome cost (IsNear (2 ^ 120)) }
         ensures { result ≡ raised ((rates_of self.now).paid node time) cost }
     {
         cost.plus(self.paid[place_of(node, time)])

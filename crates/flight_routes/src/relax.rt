@@ -8,7 +8,8 @@ ghost use Rattle.exact_sums.specs.Leasts.{IsLeast, raised};
 ghost use Rattle.flow_types.specs.Limits.{most_delay, most_nodes, most_periods};
 ghost use Rattle.flight_routes.specs.Entries.{IsEntry, IsMove, Offers, cell_at, cell_in, entered_of, entry_cost, kept_of, offered_of};
 ghost use Rattle.flight_routes.specs.RateLists.{clear_in, paid_in};
-ghost use Rattle.flight_routes.specs.Rates.{IsClear, IsValueWithin};
+ghost use Rattle.flight_routes.specs.Rates.{IsClear};
+ghost use Rattle.exact_sums.specs.Near.{IsNear};
 
 use crate::cost::Cost;
 use crate::rates::place_of;
@@ -42,8 +43,8 @@ pub fn entry_at(paid: &[i128], cells: &[Cost], time: u16) -> Cost
     requires paid { length paid.now ≡ most_periods }
     requires cells { length cells.now ≡ most_periods }
     requires time { time < most_periods }
-    requires small { IsValueWithin (2 ^ 100) (paid_in paid.now time) }
-    requires cost { IfSome (cell_in cells.now time) (IsValueWithin (2 ^ 111)) }
+    requires small { IsNear (2 ^ 100) (paid_in paid.now time) }
+    requires cost { IfSome (cell_in cells.now time) (IsNear (2 ^ 111)) }
     ensures { result ≡ raised (paid_in paid.now time) (cell_in cells.now time) }
 {
     cells[usize::from(time)].plus(paid[usize::from(time)])
@@ -55,9 +56,9 @@ fn entered_of(paid: &[i128], cells: &[Cost], next: Window, time: u16) -> Cost
     requires cells { length cells.now ≡ most_periods }
     requires time { time < most_periods }
     requires hi { time ≤ next.hi }
-    requires small { (t : ℕ) → IsValueWithin (2 ^ 100) (paid_in paid.now t) }
+    requires small { (t : ℕ) → IsNear (2 ^ 100) (paid_in paid.now t) }
     requires costs { (u : ℕ) → next.lo ≤ u → u ≤ next.hi
-        → IfSome (cell_in cells.now u) (IsValueWithin (2 ^ 111)) }
+        → IfSome (cell_in cells.now u) (IsNear (2 ^ 111)) }
     ensures { result ≡ entered_of (paid_in paid.now) (cell_in cells.now) next time }
 {
     if next.lo <= time {
@@ -104,9 +105,9 @@ fn wait_from(
     requires hi { time ≤ next.hi }
     requires last { next.hi < most_periods }
     requires kept { IsClear (next.hi + 1) (clear_in clear.now) }
-    requires small { (t : ℕ) → IsValueWithin (2 ^ 100) (paid_in paid.now t) }
+    requires small { (t : ℕ) → IsNear (2 ^ 100) (paid_in paid.now t) }
     requires costs { (u : ℕ) → next.lo ≤ u → u ≤ next.hi
-        → IfSome (cell_in cells.now u) (IsValueWithin (2 ^ 111)) }
+        → IfSome (cell_in cells.now u) (IsNear (2 ^ 111)) }
     requires wait { IsLeast (IsEntry (clear_in clear.now) (cell_in cells.now) next (time + 1))
         (entry_cost (paid_in paid.now) (cell_in cells.now)) wait }
     ensures { IsLeast (IsEntry (clear_in clear.now) (cell_in cells.now) next time)
@@ -152,9 +153,9 @@ pub fn relax(
     requires proper { window.lo ≤ window.hi }
     requires end { window.hi < most_periods }
     requires kept { IsClear (next.hi + 1) (clear_in clear.now) }
-    requires small { (t : ℕ) → IsValueWithin (2 ^ 100) (paid_in paid.now t) }
+    requires small { (t : ℕ) → IsNear (2 ^ 100) (paid_in paid.now t) }
     requires costs { (u : ℕ) → next.lo ≤ u → u ≤ next.hi
-        → IfSome (cell_in cells.now u) (IsValueWithin (2 ^ 111)) }
+        → IfSome (cell_in cells.now u) (IsNear (2 ^ 111)) }
     ensures { (t : ℕ) → window.lo ≤ t → t ≤ window.hi → Offers
         (IsMove (clear_in clear.now) (cell_in cells.now) next least t)
         (entry_cost (paid_in paid.now) (cell_in cells.now))

@@ -4,7 +4,8 @@ ghost use Rattle.exact_sums.specs.Leasts.{IsLeast};
 ghost use Rattle.flow_types.specs.Limits.{most_nodes, most_periods};
 ghost use Rattle.flight_routes.specs.Entries.{cell_at};
 ghost use Rattle.flight_routes.specs.RateLists.{rates_of};
-ghost use Rattle.flight_routes.specs.Rates.{IsValueWithin, IsWay, whole_cost};
+ghost use Rattle.flight_routes.specs.Rates.{IsWay, whole_cost};
+ghost use Rattle.exact_sums.specs.Near.{IsNear};
 ghost use Rattle.flight_routes.specs.Ready.{IsReady, row_of};
 ghost use Rattle.flight_routes.specs.Ways.{AreCells, IsStart, both_of, start_cost};
 
@@ -19,8 +20,8 @@ use time_windows::{Access, Window};
 pub fn start_of(rates: &RateTable, cells: &[Cost], time: u16) -> Cost
     requires length { length cells.now ≡ most_nodes * most_periods }
     requires time { time < most_periods }
-    requires leaves { IfSome ((rates_of rates.now).leaves time) (IsValueWithin (2 ^ 110)) }
-    requires cell { IfSome (cell_at cells.now 0 time) (IsValueWithin (2 ^ 111)) }
+    requires leaves { IfSome ((rates_of rates.now).leaves time) (IsNear (2 ^ 110)) }
+    requires cell { IfSome (cell_at cells.now 0 time) (IsNear (2 ^ 111)) }
     ensures { result ≡ both_of ((rates_of rates.now).leaves time) (cell_at cells.now 0 time) }
 {
     rates.leaves_at(time).and(cell_at(cells, 0, time))

@@ -1,13 +1,14 @@
 //! The first of the least ways of a flight.
-ghost use Rattle.std.specs.Prelude.{◌≡◌, ◌*◌, ◌+◌, ◌≤◌, ◌<◌, ◌^◌, ◌↔◌, true, ℕ, Some, IfSome, IsSome, length, vec_capacity, neg_ℤ};
-ghost use Rattle.exact_sums.specs.Leasts.{IsFirstLeast, IsLeast, raised};
+ghost use Rattle.std.specs.Prelude.{◌≡◌, ◌*◌, ◌+◌, ◌≤◌, ◌<◌, ◌^◌, ℕ, Some, IfSome, IsSome, length, vec_capacity};
+ghost use Rattle.exact_sums.specs.Leasts.{IsFirstLeast, IsLeast};
 ghost use Rattle.flow_types.specs.Limits.{most_delay, most_nodes, most_periods};
 ghost use Rattle.flow_types.specs.Routes.{IsLeg};
 ghost use Rattle.time_windows.specs.Boxes.{IsInWindow};
 ghost use Rattle.flight_routes.specs.Entries.{cell_at, cell_in};
 ghost use Rattle.flight_routes.specs.Firsts.{IsFirst, IsFirstAt, IsFirstTime, IsEntryAt, IsFirstTimeAt, IsKeptMove, IsKeptStart, IsNext, IsNextBy, earlier, key_of};
 ghost use Rattle.flight_routes.specs.RateLists.{paid_in, rates_of};
-ghost use Rattle.flight_routes.specs.Rates.{IsValueWithin, IsWay, whole_cost};
+ghost use Rattle.flight_routes.specs.Rates.{IsWay, whole_cost};
+ghost use Rattle.exact_sums.specs.Near.{IsNear};
 ghost use Rattle.flight_routes.specs.Ready.{AreRates, AreWindows, IsReady, row_of};
 ghost use Rattle.flight_routes.specs.TripOrder.{IsNoLater};
 ghost use Rattle.flight_routes.specs.Ways.{AreCells, IsLimit};
@@ -49,9 +50,9 @@ fn first_cost(paid: &[i128], cells: &[Cost], first: u16, last: u16, wanted: Cost
     requires paid { length paid.now ≡ most_periods }
     requires cells { length cells.now ≡ most_periods }
     requires last { last < most_periods }
-    requires small { (t : ℕ) → IsValueWithin (2 ^ 100) (paid_in paid.now t) }
+    requires small { (t : ℕ) → IsNear (2 ^ 100) (paid_in paid.now t) }
     requires costs { (u : ℕ) → first ≤ u → u ≤ last
-        → IfSome (cell_in cells.now u) (IsValueWithin (2 ^ 111)) }
+        → IfSome (cell_in cells.now u) (IsNear (2 ^ 111)) }
     ensures { IsFirstTime (IsEntryAt (paid_in paid.now) (cell_in cells.now) first last wanted)
         result }
 {
@@ -78,11 +79,11 @@ fn first_entry(
     requires least { leg.least ≤ most_delay }
     requires from { from < most_periods }
     requires last { next.hi < most_periods }
-    requires paid { (n t : ℕ) → IsValueWithin (2 ^ 100) ((rates_of rates.now).paid n t) }
+    requires paid { (n t : ℕ) → IsNear (2 ^ 100) ((rates_of rates.now).paid n t) }
     requires costs { (u : ℕ) → next.lo ≤ u → u ≤ next.hi
-        → IfSome (cell_at cells.now leg.to u) (IsValueWithin (2 ^ 111)) }
+        → IfSome (cell_at cells.now leg.to u) (IsNear (2 ^ 111)) }
     requires some { IsSome value }
-    requires value { IfSome value (IsValueWithin (2 ^ 111)) }
+    requires value { IfSome value (IsNear (2 ^ 111)) }
     ensures { IsFirstTime (IsKeptMove (rates_of rates.now) (cell_at cells.now leg.to) next leg.from
         leg.least from value) result }
 {
@@ -113,9 +114,9 @@ fn first_by(
     requires day { AreRates rates.now.periods (rates_of rates.now) }
     requires windows { AreWindows rates.now.periods (row_of accesses.now) }
     requires costs { (n u : ℕ) → n < nodes → IsInWindow (row_of accesses.now n).window u
-        → IfSome (cell_at cells.now n u) (IsValueWithin (2 ^ 111)) }
+        → IfSome (cell_at cells.now n u) (IsNear (2 ^ 111)) }
     requires some { IsSome value }
-    requires value { IfSome value (IsValueWithin (2 ^ 111)) }
+    requires value { IfSome value (IsNear (2 ^ 111)) }
     ensures { IsFirst (IsNextBy leg (row_of accesses.now) (rates_of rates.now) cells.now stop value)
         result }
 {

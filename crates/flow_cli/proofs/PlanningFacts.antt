@@ -8,17 +8,17 @@ use Rattle.flow_types.specs.declared.bound.Bound.{Bound}
 use Rattle.flow_types.specs.declared.bound.Bound.TheVariants.{AtLeast, NoPlan}
 use Rattle.flow_types.specs.declared.parts.Parts.{Parts}
 use Rattle.flow_types.specs.declared.plan.Stop.{Stop}
-use Rattle.flow_types.specs.Bounds.{IsBound}
+use Rattle.flow_types.specs.Bounds.{IsBound, bound_of}
 use Rattle.flow_types.specs.Costs.{plan_cost}
 use Rattle.flow_types.specs.Feasible.{AreTrips, IsFeasible}
 use Rattle.flow_types.specs.Valid.{IsScenario}
 use Rattle.time_windows.specs.Boxes.{Box, IsInBox, root_box}
 use Rattle.time_windows.specs.Tight.{IsTightened}
 use Rattle.time_windows.proofs.BoxFacts.{in_box_same}
-use Rattle.dual_leaf.specs.Leaf.{IsBoundOn}
+use Rattle.time_windows.specs.Plans.{IsBoundIn, IsPlanIn}
 use Rattle.tree_search.specs.Budgets.{options_in}
 use Rattle.tree_search.specs.Nodes.{cost_of, cutoff_after}
-use Rattle.tree_search.specs.Records.{IsClosed, IsPlanIn, IsSearchRecord, bound_of_cost}
+use Rattle.tree_search.specs.Records.{IsClosed, IsSearchRecord}
 use Rattle.tree_search.specs.declared.found.Budget.{Budget}
 use Rattle.tree_search.specs.declared.found.Found.{Found}
 use Rattle.flow_cli.specs.declared.status.Status.{Status}
@@ -37,17 +37,19 @@ record_of_day parts box budget found same is =
 pub bound_of_day : (parts : Parts) (box : Box) (bound : Bound) → IsScenario parts
     → ((parts : Parts) (plan : List (List Stop)) → IsScenario parts
     → AreTrips parts.day.periods parts.flights plan → IsInBox (root_box parts) plan)
-    → ((f n : ℕ) → box f n ≡ root_box parts f n) → IsBoundOn parts box bound
+    → ((f n : ℕ) → box f n ≡ root_box parts f n) → IsBoundIn parts box bound
     → IsBound parts bound
 bound_of_day parts box bound valid rooted same is = of bound is
   where
-    inside : (plan : List (List Stop)) → IsFeasible parts plan → IsInBox box plan
-    inside plan feasible =
-        in_box_same (root_box parts) box plan same (rooted parts plan valid feasible.trips)
+    kept : (plan : List (List Stop)) → IsFeasible parts plan → IsPlanIn parts box plan
+    kept plan feasible = record {
+      feasible = feasible;
+      inside = in_box_same (root_box parts) box plan same (rooted parts plan valid feasible.trips);
+    }
 
-    of : (bound : Bound) → IsBoundOn parts box bound → IsBound parts bound
-    of NoPlan is = λ plan feasible. is plan feasible (inside plan feasible)
-    of (AtLeast least) is = λ plan feasible. is plan feasible (inside plan feasible)
+    of : (bound : Bound) → IsBoundIn parts box bound → IsBound parts bound
+    of NoPlan is = λ plan feasible. is plan (kept plan feasible)
+    of (AtLeast least) is = λ plan feasible. is plan (kept plan feasible)
 
 -- what holds of each item holds of one that is there
 holds_at : {A : Type 0} (P : A → Type 0) (xs : List A) (k : ℕ) → All P xs
@@ -83,7 +85,7 @@ cutoff_is parts (plan ∷ plans) =
     one_less n = omega arith
 
 -- a plan that costs the bound isn't open, nor is it where there is no plan
-shut : (cost : Option ℤ) → status_of cost (bound_of_cost cost) ≡ OpenGap → ⊥
+shut : (cost : Option ℤ) → status_of cost (bound_of cost) ≡ OpenGap → ⊥
 shut None gap = let e : Infeasible ≡ OpenGap = gap in cc
 shut (Some cost) gap =
     let e : Done ≡ OpenGap =
@@ -94,7 +96,7 @@ closed_is_shut : (parts : Parts) (found : Found) → IsClosed parts found → Is
 closed_is_shut parts found closed gap =
     shut (last_cost parts found)
     (subst (λ bound. status_of (last_cost parts found) bound ≡ OpenGap)
-    (closed ∙ ap bound_of_cost (cutoff_is parts found.plans)) gap)
+    (closed ∙ ap bound_of (cutoff_is parts found.plans)) gap)
 
 -- what is open spent its budget
 pub spent_of_day : (parts : Parts) (box : Box) (budget : Budget) (found : Found)

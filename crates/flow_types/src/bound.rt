@@ -9,6 +9,57 @@ pub enum Bound {
     AtLeast(i128),
 }
 
+impl Bound {
+    ghost use Rattle.std.specs.Prelude.{◌≡◌, true, false};
+    ghost use Rattle.flow_types.specs.Bounds.{IsAtMost, bound_of, is_reached, lesser};
+
+    /// The bound of a least cost; that there is no plan, where there is none.
+    pub fn of(least: Option<i128>) -> Bound
+        ensures { result ≡ bound_of least }
+    {
+        match least {
+            None => Bound::NoPlan,
+            Some(least) => Bound::AtLeast(least),
+        }
+    }
+
+    /// Whether it is above the other one. That there is no plan is above every number.
+    pub fn is_above(self, other: Bound) -> bool
+        ensures above { result ≡ true → IsAtMost other self }
+        ensures strictly { result ≡ true → IsAtMost self other → ⊥ }
+        ensures not { result ≡ false → IsAtMost self other }
+    {
+        match (self, other) {
+            (_, Bound::NoPlan) => false,
+            (Bound::NoPlan, Bound::AtLeast(_)) => true,
+            (Bound::AtLeast(first), Bound::AtLeast(second)) => first > second,
+        }
+    }
+
+    /// Whether nothing is left to be gained below the cutoff, the cost of a known plan: there is no
+    /// plan, or none that costs less. Where no plan is known, a number leaves something.
+    pub fn is_reached(self, cutoff: Option<i64>) -> bool
+        ensures { result ≡ is_reached cutoff self }
+    {
+        match (cutoff, self) {
+            (_, Bound::NoPlan) => true,
+            (None, Bound::AtLeast(_)) => false,
+            (Some(cutoff), Bound::AtLeast(least)) => i128::from(cutoff) <= least,
+        }
+    }
+
+    /// The lesser of two.
+    pub fn lesser(self, other: Bound) -> Bound
+        ensures { result ≡ lesser self other }
+    {
+        match (self, other) {
+            (Bound::NoPlan, other) => other,
+            (first, Bound::NoPlan) => first,
+            (Bound::AtLeast(first), Bound::AtLeast(second)) => Bound::AtLeast(first.min(second)),
+        }
+    }
+}
+
 /// A capacity in a period, or a connection from a period on.
 #[derive(Clone, Copy, Debug, PartialEq, Eq)]
 pub enum PriceKey {

@@ -4,7 +4,7 @@ use Rattle.std.specs.List.{range_with_len}
 use Rattle.std.proofs.lemmas.Int.{ints}
 use Rattle.std.proofs.lemmas.Option.{get_or_from_slice_get}
 use Rattle.exact_sums.specs.Leasts.{IsLeast, IsLeastAt}
-use Rattle.exact_sums.specs.Sums.{total}
+use Rattle.exact_sums.specs.Sums.{total, plus}
 use Rattle.exact_sums.proofs.ItemFacts.{item_there}
 use Rattle.exact_sums.proofs.SumFacts.{total-push}
 use Rattle.exact_sums.proofs.LeastFacts.{least_said}
@@ -25,7 +25,10 @@ use Rattle.flight_routes.specs.Prices.{AreFree, PriceTable, priced_cost}
 use Rattle.flight_routes.proofs.FreeFacts.{free_cost}
 use Rattle.flight_routes.proofs.TripFacts.{in_day}
 use Rattle.time_windows.specs.Boxes.{Box, IsInBox}
-use Rattle.greedy_plan.specs.FirstBound.{HasNoTrip, IsBoundIn, IsFirstBound, IsLeastSum, IsNear, plus}
+use Rattle.time_windows.specs.Plans.{AreTripsIn}
+use Rattle.flow_types.specs.Bounds.{IsLowerBound}
+use Rattle.greedy_plan.specs.FirstBound.{HasNoTrip, IsFirstBound, IsLeastSum}
+use Rattle.exact_sums.specs.Near.{IsNear}
 
 -- a range from the front, and one more at the end
 range_more : (from n : ℕ)
@@ -126,9 +129,10 @@ module _ (parts : Parts) (box : Box) where
       zero_plus : (k : ℕ) → 0 + k ≡ k
       zero_plus k = omega arith
 
-  pub is_bound : (bound : Bound) → IsFirstBound parts box bound → IsBoundIn parts box bound
-  is_bound NoPlan is = none_bound is.0 is.1
-  is_bound (AtLeast least) is = least_bound least is
+  pub is_bound : (bound : Bound) → IsFirstBound parts box bound
+      → IsLowerBound parts (AreTripsIn parts box) bound
+  is_bound NoPlan is = λ plan are. none_bound is.0 is.1 plan are.trips are.inside
+  is_bound (AtLeast least) is = λ plan are. least_bound least is plan are.trips are.inside
 
 -- how far from zero a trip costs
 arrives_in_day : (periods : ℕ) (flight : Flight) (stop : Stop) (rest : List Stop) → 1 ≤ periods
@@ -224,7 +228,7 @@ part_more parts box count table (Some sum) (Some cost) valid free within before 
     one_more n = omega arith
 
 pub part_near : (parts : Parts) (box : Box) (count : ℕ) (sum : Option ℤ) → count ≤ 2000
-    → IsPartSum parts box count sum → IfSome sum (IsNear (2 ^ 100))
+    → IsPartSum parts box count sum → IfSome sum (IsNear (2 ^ 120))
 part_near parts box count None few is = tt
 part_near parts box count (Some sum) few is = record {
   low = omega (arith, ints, is.near.low, few);
@@ -234,7 +238,7 @@ part_near parts box count (Some sum) few is = record {
 pub cost_small : (parts : Parts) (box : Box) (count : ℕ) (table : PriceTable) (cost : Option ℤ)
     → IsScenario parts → AreFree table
     → IsLeast (IsTripIn parts box count) (priced_cost 1 table parts count) cost
-    → IfSome cost (IsNear (2 ^ 100))
+    → IfSome cost (IsNear (2 ^ 120))
 cost_small parts box count table None valid free is = tt
 cost_small parts box count table (Some cost) valid free is =
     let near = least_near parts box count cost valid

@@ -28,22 +28,3 @@ IsLeastSum parts box (suc number) sum =
 abbrev pub IsFirstBound : Parts → Box → Bound → Type 0
 IsFirstBound parts box NoPlan = (number : ℕ) × HasNoTrip parts box number
 IsFirstBound parts box (AtLeast least) = IsLeastSum parts box (length parts.flights) least
-
--- the sum of two costs, where both are there
-abbrev pub plus : Option ℤ → Option ℤ → Option ℤ
-plus None cost = None
-plus (Some sum) None = None
-plus (Some sum) (Some cost) = Some (sum +ℤ cost)
-
--- no further from zero than this
-pub record IsNear (limit : ℕ) (value : ℤ) : Type 0 where
-  pub low : neg_ℤ (pos limit) ≤ℤ value
-  pub high : value ≤ℤ pos limit
-
--- no plan in the box costs less, one trip for each flight; there is none below NoPlan
-abbrev pub IsBoundIn : Parts → Box → Bound → Type 0
-IsBoundIn parts box NoPlan = (plan : List (List Stop))
-    → AreTrips parts.day.periods parts.flights plan → IsInBox box plan → ⊥
-IsBoundIn parts box (AtLeast least) = (plan : List (List Stop))
-    → AreTrips parts.day.periods parts.flights plan → IsInBox box plan
-    → least ≤ℤ plan_cost parts.tables parts.flights plan

@@ -1,5 +1,5 @@
 //! The bound that goes with the greedy plan.
-ghost use Rattle.std.specs.Prelude.{◌≡◌, ◌^◌, IfOk, IfSome};
+ghost use Rattle.std.specs.Prelude.{IfOk};
 ghost use Rattle.flow_types.specs.Scenario.{parts_of};
 ghost use Rattle.flow_types.specs.declared.bound.Bound.{Bound};
 ghost use Rattle.flow_types.specs.declared.parts.Parts.{Parts};
@@ -7,8 +7,11 @@ ghost use Rattle.flight_routes.specs.Prices.{AreFree, ArePricesOf};
 ghost use Rattle.flight_routes.specs.Work.{IsWorkFor};
 ghost use Rattle.time_windows.specs.Boxes.{Box};
 ghost use Rattle.time_windows.specs.Held.{IsMadeFor, box_of};
-ghost use Rattle.greedy_plan.specs.FirstBound.{IsBoundIn, IsFirstBound, IsNear, plus};
+ghost use Rattle.flow_types.specs.Bounds.{IsLowerBound};
+ghost use Rattle.time_windows.specs.Plans.{AreTripsIn};
+ghost use Rattle.greedy_plan.specs.FirstBound.{IsFirstBound};
 
+use exact_sums::plus;
 use flight_routes::{Prices, Work};
 use flow_types::{Bound, OutOfMemory, Scenario};
 use std::alloc::Global;
@@ -40,30 +43,12 @@ fn bound_of(s: &Scenario, boxes: &Boxes, work: &mut Work, prices: &Prices) -> Bo
     for number in 0..s.flights().len() {
         sum = plus(sum, work.least_trip(s, boxes, number as u32, 1, prices));
     }
-    match sum {
-        None => Bound::NoPlan,
-        Some(least) => Bound::AtLeast(least),
-    }
-}
-
-// The sum of both, where both are there.
-fn plus(sum: Option<i128>, cost: Option<i128>) -> Option<i128>
-    requires sum { IfSome sum (IsNear (2 ^ 100)) }
-    requires cost { IfSome cost (IsNear (2 ^ 100)) }
-    ensures { result ≡ plus sum cost }
-{
-    match sum {
-        None => None,
-        Some(sum) => match cost {
-            None => None,
-            Some(cost) => Some(sum + cost),
-        },
-    }
+    Bound::of(sum)
 }
 
 /// No plan in the box, with one trip for each flight, costs less than the bound, whether or not it
 /// keeps the rules of places and connections. None is there where the bound is that no plan exists.
 pub fn first_bounds_are_bounds()
     ensures { (parts : Parts) (box : Box) (bound : Bound) → IsFirstBound parts box bound
-        → IsBoundIn parts box bound }
+        → IsLowerBound parts (AreTripsIn parts box) bound }
 {}

@@ -67,7 +67,8 @@ impl PlanWork {
     /// trips. It keeps every rule. Where no trip of a flight fits, it is stuck there.
     ///
     /// The box is one of the scenario that the room was made for. It takes memory for the plan
-    /// alone; time as a least trip for each flight.
+    /// alone; time as a least trip for each flight. The room keeps nothing that a caller sees, so
+    /// it is as good as before also after want of memory.
     pub fn first_plan(
         &mut self,
         alloc: Global,

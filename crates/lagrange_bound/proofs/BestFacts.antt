@@ -16,7 +16,8 @@ use Rattle.plan_rules.specs.Cells.{Tally}
 use Rattle.time_windows.specs.Boxes.{Box}
 use Rattle.priced_plans.specs.Keys.{ArePlaced}
 use Rattle.priced_plans.specs.Valuing.{LacksTrip}
-use Rattle.lagrange_bound.specs.Best.{HaveBounds, IsAtMost, IsMostOfRounds}
+use Rattle.lagrange_bound.specs.Best.{HaveBounds, IsMostOfRounds}
+use Rattle.flow_types.specs.Bounds.{IsAtMost}
 use Rattle.lagrange_bound.specs.Rounds.{IsMovedBy, IsRoundBound, IsRoundStep, IsRoundTable, IsTableBound, moved, step_of}
 use Rattle.lagrange_bound.specs.Taking.{HaveTaken}
 use Rattle.lagrange_bound.specs.Work.{AreLow, ArePlayed, AreTakenFor, IsBest}

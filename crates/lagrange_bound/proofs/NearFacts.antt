@@ -21,11 +21,11 @@ use Rattle.flow_types.proofs.CostFacts.{credit_at-within, total_at-within}
 use Rattle.flow_types.proofs.PlaceFacts.{has_kind-within}
 use Rattle.flight_routes.specs.Inside.{IsTripIn}
 use Rattle.flight_routes.specs.Prices.{PriceTable, price_at, price_in, priced_cost, priced_cost_of, stay_price, stays_price, summed, turns_back, turns_paid}
-use Rattle.flight_routes.specs.Rates.{IsValueWithin}
+use Rattle.exact_sums.specs.Near.{IsNear}
 use Rattle.flight_routes.proofs.TripFacts.{in_day}
 use Rattle.time_windows.specs.Boxes.{Box}
 use Rattle.priced_plans.specs.Values.{IsPricedSum}
-use Rattle.priced_plans.specs.Valuing.{plus}
+use Rattle.exact_sums.specs.Sums.{plus}
 use Rattle.plan_rules.specs.Cells.{Tally}
 use Rattle.plan_rules.specs.Loads.{AreLoads, no_trips}
 use Rattle.priced_plans.specs.Keys.{IsKeyFor}
@@ -141,9 +141,9 @@ module _ (parts : Parts) (table : PriceTable) (valid : IsScenario parts)
       let more = back_low number arrives (k + 1) connections (omega (arith, within)) in
       omega (arith, first, more)
 
-  times_near : (cost : ℤ) (more less : ℕ) → IsValueWithin 200000000000 cost
+  times_near : (cost : ℤ) (more less : ℕ) → IsNear 200000000000 cost
       → more ≤ 2 ^ 83 → less ≤ 2 ^ 83
-      → IsValueWithin (2 ^ 84) (pos 1024 *ℤ cost +ℤ (pos more -ℤ pos less))
+      → IsNear (2 ^ 84) (pos 1024 *ℤ cost +ℤ (pos more -ℤ pos less))
   times_near (pos cost) more less near few back =
       let high = near.high in
       record { low = omega (arith, ints, high, few, back); high = omega (arith, ints, high, few) }
@@ -152,7 +152,7 @@ module _ (parts : Parts) (table : PriceTable) (valid : IsScenario parts)
       record { low = omega (arith, ints, low, few, back); high = omega (arith, ints, low, few) }
 
   trip_near : (box : Box) (number : ℕ) (stops : List Stop) → IsTripIn parts box number stops
-      → IsValueWithin (2 ^ 84) (priced_cost 1024 table parts number stops)
+      → IsNear (2 ^ 84) (priced_cost 1024 table parts number stops)
   trip_near box number [] is = absurd is.trip
   trip_near box number (stop ∷ rest) is =
       let flight = is.flight in
@@ -166,7 +166,7 @@ module _ (parts : Parts) (table : PriceTable) (valid : IsScenario parts)
       valid is.there (omega (arith, arrives, valid.day.periods_to)) in
       let saved = credit_at-within parts number (stop.time - flight.sd) (Some flight) valid
       is.there (omega (arith, leaves, valid.day.periods_to)) in
-      let near : IsValueWithin 200000000000
+      let near : IsNear 200000000000
       (times_cost parts.tables flight stop.time (arrival_from stop rest)) = record {
         low = omega (arith, ints, paid.low, saved.high);
         high = omega (arith, ints, paid.high, saved.low);
@@ -177,7 +177,7 @@ module _ (parts : Parts) (table : PriceTable) (valid : IsScenario parts)
       (has_kind-within kind.Arr parts.places flight.to good.destination, arrives) in
       let turns = paid_low number stop.time 0 parts.connections (omega arith) in
       let back = back_low number (arrival_from stop rest) 0 parts.connections (omega arith) in
-      subst (λ (f : Option Flight). IsValueWithin (2 ^ 84)
+      subst (λ (f : Option Flight). IsNear (2 ^ 84)
       (priced_cost_of 1024 table parts number f (stop ∷ rest))) (sym is.there)
       (times_near (times_cost parts.tables flight stop.time (arrival_from stop rest))
       (price_in table.departures flight.from stop.time + stays_price table flight stop rest
@@ -199,14 +199,14 @@ module _ (parts : Parts) (table : PriceTable) (valid : IsScenario parts)
 
   pub least_near : (box : Box) (number : ℕ) (least : ℤ)
       → IsLeastAt (IsTripIn parts box number) (priced_cost 1024 table parts number) least
-      → IsValueWithin (2 ^ 84) least
+      → IsNear (2 ^ 84) least
   least_near box number least at =
-      subst (IsValueWithin (2 ^ 84)) at.reached.2
+      subst (IsNear (2 ^ 84)) at.reached.2
       (trip_near box number at.reached.0 at.reached.1)
 
   pub cost_near : (box : Box) (number : ℕ) (cost : Option ℤ)
       → IsLeast (IsTripIn parts box number) (priced_cost 1024 table parts number) cost
-      → IfSome cost (IsValueWithin (2 ^ 84))
+      → IfSome cost (IsNear (2 ^ 84))
   cost_near box number None is = tt
   cost_near box number (Some least) is = least_near box number least is
 
@@ -247,7 +247,7 @@ sum_none parts box table loads counted = record {
 
 pub sum_near : (parts : Parts) (box : Box) (table : PriceTable) (number : ℕ) (loads : Tally)
     (sum : Option ℤ) → number ≤ 2000 → IsTakenSum parts box table number loads sum
-    → IfSome sum (IsValueWithin (2 ^ 100))
+    → IfSome sum (IsNear (2 ^ 100))
 sum_near parts box table number loads None few is = tt
 sum_near parts box table number loads (Some sum) few is =
     let low = is.near.low in

@@ -16,7 +16,8 @@ use Rattle.flight_routes.specs.Prices.{ArePricesOf, PriceTable, price_at}
 use Rattle.plan_rules.specs.Cells.{Tally}
 use Rattle.plan_rules.specs.Loads.{load_at}
 use Rattle.time_windows.specs.Boxes.{Box}
-use Rattle.lagrange_bound.specs.Best.{IsAtMost, IsMostOfRounds}
+use Rattle.lagrange_bound.specs.Best.{IsMostOfRounds}
+use Rattle.flow_types.specs.Bounds.{IsAtMost}
 use Rattle.lagrange_bound.specs.Moves.{AreMoved, moved_by_times, moved_price}
 use Rattle.lagrange_bound.specs.Rounds.{IsRoundBound, IsRoundStep, IsRoundTable, IsTableBound, moved, moved_by_capacity}
 use Rattle.lagrange_bound.specs.Taking.{HaveTaken}

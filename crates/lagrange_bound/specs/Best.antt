@@ -1,17 +1,11 @@
 -- The best of so many rounds: the prices whose bound is the greatest.
 use Rattle.std.specs.Prelude.{ℕ, ◌≤◌, ◌≤ℤ◌}
 use Rattle.flow_types.specs.declared.bound.Bound.{Bound}
-use Rattle.flow_types.specs.declared.bound.Bound.TheVariants.{AtLeast, NoPlan}
+use Rattle.flow_types.specs.Bounds.{IsAtMost}
 use Rattle.flow_types.specs.declared.parts.Parts.{Parts}
 use Rattle.flight_routes.specs.Prices.{PriceTable}
 use Rattle.time_windows.specs.Boxes.{Box}
 use Rattle.lagrange_bound.specs.Rounds.{IsRoundBound, IsRoundTable}
-
--- the first bound is no more than the second; that there is no plan is above all numbers
-abbrev pub IsAtMost : Bound → Bound → Type 0
-IsAtMost first NoPlan = Unit {0}
-IsAtMost NoPlan (AtLeast second) = ⊥
-IsAtMost (AtLeast first) (AtLeast second) = first ≤ℤ second
 
 -- the prices after one of so many rounds
 pub record IsOneOfRounds (parts : Parts) (box : Box) (rounds : ℕ) (table : PriceTable)

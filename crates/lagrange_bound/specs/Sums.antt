@@ -9,10 +9,3 @@ use Rattle.lagrange_bound.specs.Rounds.{cost_weight}
 abbrev pub less : Option ℤ → ℕ → Option ℤ
 less None paid = None
 less (Some sum) paid = Some (sum -ℤ pos paid)
-
--- what a value tells
-abbrev pub IsBoundOf : Option ℤ → Bound → Type 0
-IsBoundOf None NoPlan = Unit {0}
-IsBoundOf None (AtLeast least) = ⊥
-IsBoundOf (Some value) NoPlan = ⊥
-IsBoundOf (Some value) (AtLeast least) = IsRoundedUp value cost_weight least

@@ -3,7 +3,7 @@ use Rattle.std.specs.Prelude.{◌≡◌, ◌≤◌, ◌<◌, ◌*◌, ◌^◌, �
 use Rattle.flow_types.specs.declared.parts.Parts.{Parts}
 use Rattle.flow_types.specs.declared.plan.Stop.{Stop}
 use Rattle.flight_routes.specs.Prices.{PriceTable}
-use Rattle.flight_routes.specs.Rates.{IsValueWithin}
+use Rattle.exact_sums.specs.Near.{IsNear}
 use Rattle.plan_rules.specs.Cells.{Tally}
 use Rattle.plan_rules.specs.Loads.{AreLoads}
 use Rattle.time_windows.specs.Boxes.{Box}
@@ -28,7 +28,7 @@ pub record IsSumOf (parts : Parts) (box : Box) (table : PriceTable) (number : �
     (sum : ℤ) : Type 0 where
   pub trips : HaveTaken parts box table number loads
   pub priced : IsPricedSum parts box cost_weight table number sum
-  pub near : IsValueWithin (number * 2 ^ 84) sum
+  pub near : IsNear (number * 2 ^ 84) sum
 
 -- nothing once a flight has no trip
 abbrev pub IsTakenSum : Parts → Box → PriceTable → ℕ → Tally → Option ℤ → Type 0

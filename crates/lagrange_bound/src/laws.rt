@@ -5,7 +5,7 @@ ghost use Rattle.flow_types.specs.declared.bound.Bound.{Bound};
 ghost use Rattle.flow_types.specs.declared.parts.Parts.{Parts};
 ghost use Rattle.time_windows.specs.Boxes.{Box};
 ghost use Rattle.lagrange_bound.specs.Rounds.{IsRoundBound};
-ghost use Rattle.priced_plans.specs.PricedBound.{BoundsFeasible};
+ghost use Rattle.time_windows.specs.Plans.{IsBoundIn};
 
 use priced_plans::priced_bounds_are_bounds;
 
@@ -13,7 +13,7 @@ use priced_plans::priced_bounds_are_bounds;
 /// exists, none is there.
 pub fn round_bounds_are_bounds()
     ensures { (parts : Parts) (box : Box) (round : ℕ) (bound : Bound) → IsScenario parts
-        → IsRoundBound parts box round bound → BoundsFeasible parts box bound }
+        → IsRoundBound parts box round bound → IsBoundIn parts box bound }
 {
     priced_bounds_are_bounds();
 }

@@ -43,5 +43,5 @@ mod values;
 
 pub use laws::{round_bounds_are_bounds, round_bounds_are_the_same};
 pub use moves::is_by;
-pub use rounds::{Rounds, is_above};
+pub use rounds::Rounds;
 pub use taking::COST_WEIGHT;

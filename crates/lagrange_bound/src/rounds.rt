@@ -1,24 +1,23 @@
 //! Prices that are found in rounds, and the best of them.
-ghost use Rattle.std.specs.Prelude.{◌≡◌, ◌≤◌, ◌<◌, ◌+◌, length, true, false};
+ghost use Rattle.std.specs.Prelude.{◌≡◌, ◌<◌, ◌+◌, length};
 ghost use Rattle.flow_types.specs.Scenario.{parts_of};
 ghost use Rattle.flight_routes.specs.Prices.{AreFree, ArePricesOf};
 ghost use Rattle.flight_routes.specs.Work.{IsWorkFor};
 ghost use Rattle.plan_rules.specs.Loads.{IsMadeFor as AreLoadsFor};
 ghost use Rattle.time_windows.specs.Boxes.{Box};
 ghost use Rattle.time_windows.specs.Held.{IsMadeFor, box_of};
-ghost use Rattle.lagrange_bound.specs.Best.{IsAtMost};
-ghost use Rattle.priced_plans.specs.PricedBound.{IsNearBound};
+ghost use Rattle.flow_types.specs.Bounds.{IsNearBound};
 ghost use Rattle.lagrange_bound.specs.Rounds.{IsRoundStep, IsTableBound};
 ghost use Rattle.lagrange_bound.specs.Taking.{HaveTaken};
 ghost use Rattle.lagrange_bound.specs.Work.{AreLow, ArePlayed, AreTakenFor, IsBest, most_rounds};
 
 use crate::moves::move_prices;
-use crate::taking::take_trips;
-use crate::values::{bound_of, value_of};
+use crate::taking::{COST_WEIGHT, take_trips};
+use crate::values::value_of;
 use flight_routes::{Prices, Work};
 use flow_types::{Bound, OutOfMemory, Scenario};
 use plan_rules::Loads;
-use priced_plans::priced_bounds_are_bounds;
+use priced_plans::{priced_bounds_are_bounds, told_by};
 use std::alloc::Global;
 use std::marker::Model;
 use time_windows::Boxes;
@@ -50,11 +49,12 @@ impl Model for Rounds {
 }
 
 impl Rounds {
-    ghost use Rattle.std.specs.Prelude.{◌≡◌, ◌≤◌, IfOk};
+    ghost use Rattle.std.specs.Prelude.{◌≡◌, IfOk};
     ghost use Rattle.flow_types.specs.Scenario.{parts_of};
     ghost use Rattle.flight_routes.specs.Prices.{AreFree};
     ghost use Rattle.time_windows.specs.Held.{IsMadeFor, box_of};
-    ghost use Rattle.priced_plans.specs.PricedBound.{BoundsFeasible, IsNearBound};
+    ghost use Rattle.time_windows.specs.Plans.{IsBoundIn};
+    ghost use Rattle.flow_types.specs.Bounds.{IsNearBound};
     ghost use Rattle.priced_plans.specs.Keys.{ArePlaced};
     ghost use Rattle.lagrange_bound.specs.Best.{IsMostOfRounds, IsOneOfRounds};
     ghost use Rattle.lagrange_bound.specs.Rounds.{IsTableBound};
@@ -86,7 +86,7 @@ impl Rounds {
         ensures one { IsOneOfRounds (parts_of s.now) (box_of boxes.now) rounds self.new.best }
         ensures told { IsTableBound (parts_of s.now) (box_of boxes.now) self.new.best result }
         ensures least { IsMostOfRounds (parts_of s.now) (box_of boxes.now) rounds result }
-        ensures sound { BoundsFeasible (parts_of s.now) (box_of boxes.now) result }
+        ensures sound { IsBoundIn (parts_of s.now) (box_of boxes.now) result }
         ensures near { IsNearBound result }
         ensures placed { ArePlaced (parts_of s.now) self.new.best }
         ensures made { IsRoomFor (parts_of s.now) self.new }
@@ -173,7 +173,7 @@ fn play_round(
 {
     move_on(s, loads, played, prices);
     let told = tell(s, boxes, prices, work, loads);
-    if is_above(told, bound) {
+    if told.is_above(bound) {
         best.copy_from(prices);
         told
     } else {
@@ -211,18 +211,5 @@ fn tell(s: &Scenario, boxes: &Boxes, prices: &Prices, work: &mut Work, loads: &m
 {
     loads.clear();
     let sum = take_trips(s, boxes, prices, work, loads);
-    bound_of(value_of(s, prices, sum))
-}
-
-/// Whether the first bound is above the second; that there is no plan is above all numbers.
-pub fn is_above(first: Bound, second: Bound) -> bool
-    ensures above { result ≡ true → IsAtMost second first }
-    ensures strictly { result ≡ true → IsAtMost first second → ⊥ }
-    ensures not { result ≡ false → IsAtMost first second }
-{
-    match (first, second) {
-        (_, Bound::NoPlan) => false,
-        (Bound::NoPlan, Bound::AtLeast(_)) => true,
-        (Bound::AtLeast(first), Bound::AtLeast(second)) => first > second,
-    }
+    told_by(value_of(s, prices, sum), COST_WEIGHT)
 }

@@ -1,19 +1,19 @@
 //! The least trips under prices, flight by flight.
-ghost use Rattle.std.specs.Prelude.{◌≡◌, ◌≤◌, ◌<◌, ◌+◌, ◌^◌, IfSome, length};
+ghost use Rattle.std.specs.Prelude.{◌≤◌, ◌<◌, ◌+◌, ◌^◌, IfSome, length};
 ghost use Rattle.exact_sums.specs.Leasts.{IsLeast};
 ghost use Rattle.flow_types.specs.declared.bound.PriceKey.{PriceKey};
 ghost use Rattle.flow_types.specs.Scenario.{parts_of};
 ghost use Rattle.flight_routes.specs.Inside.{IsTripIn};
 ghost use Rattle.flight_routes.specs.Prices.{ArePricesOf, price_at, priced_cost};
-ghost use Rattle.flight_routes.specs.Rates.{IsValueWithin};
+ghost use Rattle.exact_sums.specs.Near.{IsNear};
 ghost use Rattle.flight_routes.specs.Work.{IsWorkFor};
 ghost use Rattle.plan_rules.specs.Loads.{AreLoads, IsMadeFor as AreLoadsFor, no_trips};
 ghost use Rattle.time_windows.specs.Held.{IsMadeFor, box_of};
 ghost use Rattle.priced_plans.specs.Keys.{IsKeyFor};
 ghost use Rattle.lagrange_bound.specs.Rounds.{cost_weight};
 ghost use Rattle.lagrange_bound.specs.Taking.{HaveTaken, IsTakenSum};
-ghost use Rattle.priced_plans.specs.Valuing.{plus};
 
+use exact_sums::plus;
 use flight_routes::{Prices, Work};
 use flow_types::Scenario;
 use plan_rules::Loads;
@@ -54,21 +54,6 @@ fn take_trip(
     }
 }
 
-// The sum of both, where both are there.
-fn plus(sum: Option<i128>, cost: Option<i128>) -> Option<i128>
-    requires sum { IfSome sum (IsValueWithin (2 ^ 100)) }
-    requires cost { IfSome cost (IsValueWithin (2 ^ 84)) }
-    ensures { result ≡ plus sum cost }
-{
-    match sum {
-        None => None,
-        Some(sum) => match cost {
-            None => None,
-            Some(cost) => Some(sum + cost),
-        },
-    }
-}
-
 /// Takes the least trip of each flight, and answers what they cost together with their prices;
 /// nothing where a flight has none.
 pub fn take_trips(
@@ -86,7 +71,7 @@ pub fn take_trips(
     requires loads { AreLoads (parts_of s.now) (no_trips (parts_of s.now)) loads.old }
     ensures sum { IsTakenSum (parts_of s.now) (box_of boxes.now) prices.now
         (length (parts_of s.now).flights) loads.new result }
-    ensures near { IfSome result (IsValueWithin (2 ^ 100)) }
+    ensures near { IfSome result (IsNear (2 ^ 100)) }
     ensures work { IsWorkFor (parts_of s.now) work.new }
     ensures made { AreLoadsFor (parts_of s.now) loads.new }
 {

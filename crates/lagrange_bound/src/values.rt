@@ -2,22 +2,20 @@
 ghost use Rattle.std.specs.Prelude.{◌≡◌, ◌≤◌, ◌^◌, IfSome};
 ghost use Rattle.flow_types.specs.Scenario.{parts_of};
 ghost use Rattle.flight_routes.specs.Prices.{ArePricesOf};
-ghost use Rattle.flight_routes.specs.Rates.{IsValueWithin};
+ghost use Rattle.exact_sums.specs.Near.{IsNear};
 ghost use Rattle.priced_plans.specs.Values.{limit_price};
-ghost use Rattle.priced_plans.specs.PricedBound.{IsNearBound};
-ghost use Rattle.lagrange_bound.specs.Sums.{IsBoundOf, less};
+ghost use Rattle.lagrange_bound.specs.Sums.{less};
 
-use crate::taking::COST_WEIGHT;
 use flight_routes::Prices;
-use flow_types::{Bound, Scenario};
-use priced_plans::{limit_price, rounded_up};
+use flow_types::Scenario;
+use priced_plans::limit_price;
 
 // So much less.
 fn less(sum: Option<i128>, paid: u128) -> Option<i128>
-    requires sum { IfSome sum (IsValueWithin (2 ^ 100)) }
+    requires sum { IfSome sum (IsNear (2 ^ 100)) }
     requires paid { paid ≤ 2 ^ 122 }
     ensures value { result ≡ less sum paid }
-    ensures near { IfSome result (IsValueWithin (2 ^ 123)) }
+    ensures near { IfSome result (IsNear (2 ^ 123)) }
 {
     match sum {
         None => None,
@@ -28,22 +26,9 @@ fn less(sum: Option<i128>, paid: u128) -> Option<i128>
 /// The value of prices, once the least trips under them are added up; nothing where one is missing.
 pub fn value_of(s: &Scenario, prices: &Prices, sum: Option<i128>) -> Option<i128>
     requires prices { ArePricesOf (parts_of s.now) prices.now }
-    requires sum { IfSome sum (IsValueWithin (2 ^ 100)) }
+    requires sum { IfSome sum (IsNear (2 ^ 100)) }
     ensures value { result ≡ less sum (limit_price (parts_of s.now) prices.now) }
-    ensures near { IfSome result (IsValueWithin (2 ^ 123)) }
+    ensures near { IfSome result (IsNear (2 ^ 123)) }
 {
     less(sum, limit_price(s, prices))
-}
-
-/// What a value tells: that, divided by the weight and rounded up; that no plan exists where there
-/// is none.
-pub fn bound_of(value: Option<i128>) -> Bound
-    requires near { IfSome value (IsValueWithin (2 ^ 123)) }
-    ensures told { IsBoundOf value result }
-    ensures near { IsNearBound result }
-{
-    match value {
-        None => Bound::NoPlan,
-        Some(value) => Bound::AtLeast(rounded_up(value, COST_WEIGHT)),
-    }
 }

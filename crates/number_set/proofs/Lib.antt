@@ -1,2 +1,3 @@
 pub mod BitFacts
+pub mod FewFacts
 pub mod SetFacts

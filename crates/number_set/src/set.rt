@@ -2,8 +2,7 @@
 ghost use Rattle.std.specs.Prelude.{◌≡◌, ◌<◌, ◌/◌, ◌%◌, ◌+◌, ◌*◌, IfOk, replicate};
 
 use crate::bits::{first_bit, first_in, put};
-use flow_types::OutOfMemory;
-use std::alloc::Global;
+use std::alloc::{AllocError, Global};
 use std::marker::Model;
 
 /// A set of numbers below a bound. Contracts see it as the bound and its words,
@@ -32,7 +31,7 @@ impl NumberSet {
 
     /// A set with no numbers, which has room for those below the bound. It takes a bit for each.
     #[tactic(auto, using(crate::proofs::SetFacts::none_kept, crate::proofs::SetFacts::none_new))]
-    pub fn new(alloc: Global, bound: u32) -> Result<NumberSet, OutOfMemory>
+    pub fn new(alloc: Global, bound: u32) -> Result<NumberSet, AllocError>
         ensures bound { IfOk result (λ s. s.bound ≡ bound) }
         ensures none { IfOk result (λ s. (k : ℕ) → has s k ≡ false) }
     {
@@ -91,7 +90,7 @@ impl NumberSet {
 }
 
 // So many words without bits.
-fn zeros(alloc: Global, count: usize) -> Result<Vec<u64>, OutOfMemory>
+fn zeros(alloc: Global, count: usize) -> Result<Vec<u64>, AllocError>
     ensures { IfOk result (λ words. words.items ≡ replicate count 0) }
 {
     Ok(vec![in alloc; 0; count]?)

@@ -9,11 +9,6 @@ use Rattle.plan_rules.specs.declared.judging.Verdict.{Verdict}
 use Rattle.plan_rules.specs.declared.judging.Verdict.TheVariants.{Breaks, Keeps}
 use Rattle.time_windows.specs.Boxes.{Box, IsInBox}
 
--- a plan that keeps every rule and is in the box
-pub record IsKept (parts : Parts) (box : Box) (plan : List (List Stop)) : Type 0 where
-  pub feasible : IsFeasible parts plan
-  pub inside : IsInBox box plan
-
 -- It keeps every rule and is in the box; and where the other one keeps every rule too, it costs
 -- less.
 pub record IsCheaper (parts : Parts) (box : Box) (start plan : List (List Stop)) : Type 0 where

@@ -5,7 +5,8 @@ ghost use Rattle.flight_routes.specs.Prices.{ArePricesOf};
 ghost use Rattle.flight_routes.specs.Work.{IsWorkFor};
 ghost use Rattle.plan_rules.specs.Loads.{IsMadeFor as AreLoadsFor};
 ghost use Rattle.time_windows.specs.Held.{IsMadeFor, box_of};
-ghost use Rattle.plan_improver.specs.Cheaper.{IsCheaper, IsKept, IsLess};
+ghost use Rattle.plan_improver.specs.Cheaper.{IsCheaper, IsLess};
+ghost use Rattle.time_windows.specs.Plans.{IsPlanIn};
 
 use crate::choosing::Chosen;
 use crate::draft::{Choice, add_trips, choices_of, extra_of, plan_of};
@@ -65,7 +66,8 @@ impl Improver {
     ghost use Rattle.flow_types.specs.Scenario.{parts_of};
     ghost use Rattle.flight_routes.specs.Prices.{ArePricesOf};
     ghost use Rattle.time_windows.specs.Held.{IsMadeFor, box_of};
-    ghost use Rattle.plan_improver.specs.Cheaper.{IsCheaper, IsKept};
+    ghost use Rattle.plan_improver.specs.Cheaper.{IsCheaper};
+    ghost use Rattle.time_windows.specs.Plans.{IsPlanIn};
     ghost use Rattle.plan_improver.specs.Work.{IsFilledFor, IsSearchRoomFor};
 
     /// Room for the plans of the scenario.
@@ -92,7 +94,8 @@ impl Improver {
     /// The box and the prices are of the scenario that the room was made for. What it is given
     /// tells the plan, whatever was searched before. It takes memory for the stops of three plans
     /// while it runs, and for the plan; time for forty trials a flight, fewer on long days with
-    /// many legs, each as 24 least trips at the most and a look at each flight.
+    /// many legs, each as 24 least trips at the most and a look at each flight. The room keeps
+    /// nothing that a caller sees, so it is as good as before also after want of memory.
     ///
     /// Large neighbourhood search (Shaw, "Using constraint programming and local search methods to
     /// solve vehicle routing problems", 1998).
@@ -129,9 +132,9 @@ impl Improver {
     /// was made for.
     pub fn if_kept(&mut self, s: &Scenario, boxes: &Boxes, plan: Plan) -> Option<Plan>
         requires made { IsSearchRoomFor (parts_of s.now) self.old }
-        ensures kept { IfSome result (IsKept (parts_of s.now) (box_of boxes.now)) }
+        ensures kept { IfSome result (IsPlanIn (parts_of s.now) (box_of boxes.now)) }
         ensures same { IfSome result (λ kept. kept ≡ plan) }
-        ensures every { IsKept (parts_of s.now) (box_of boxes.now) plan → IsSome result }
+        ensures every { IsPlanIn (parts_of s.now) (box_of boxes.now) plan → IsSome result }
         ensures made { IsSearchRoomFor (parts_of s.now) self.new }
     {
         if_kept(&mut self.loads, s, boxes, plan)
@@ -356,9 +359,9 @@ fn if_cheaper(
 // The plan, if it keeps every rule and is in the box.
 fn if_kept(loads: &mut Loads, s: &Scenario, boxes: &Boxes, plan: Plan) -> Option<Plan>
     requires { AreLoadsFor (parts_of s.now) loads.old }
-    ensures kept { IfSome result (IsKept (parts_of s.now) (box_of boxes.now)) }
+    ensures kept { IfSome result (IsPlanIn (parts_of s.now) (box_of boxes.now)) }
     ensures same { IfSome result (λ kept. kept ≡ plan) }
-    ensures every { IsKept (parts_of s.now) (box_of boxes.now) plan → IsSome result }
+    ensures every { IsPlanIn (parts_of s.now) (box_of boxes.now) plan → IsSome result }
     ensures made { AreLoadsFor (parts_of s.now) loads.new }
 {
     match judge(loads, s, &plan) {

@@ -19,9 +19,8 @@ use Rattle.time_windows.specs.Boxes.{Box}
 use Rattle.bytime_model.specs.declared.variables.Term.{Term}
 use Rattle.bytime_model.specs.declared.variables.Var.{Var}
 use Rattle.bytime_model.specs.declared.variables.Var.TheVariants.{By}
-use Rattle.bytime_model.specs.CostRow.{Priced, cost_row, flight_terms, late_step, late_terms, most_late, most_wait, steps, wait_step, wait_terms}
-use Rattle.bytime_model.specs.CostRow.{unless_zero as priced_unless}
-use Rattle.bytime_model.specs.Filling.{IsWithin}
+use Rattle.bytime_model.specs.CostRow.{Priced, cost_row, flight_terms, late_step, late_terms, most_late, most_wait, steps, wait_step, wait_terms, unless_zero as priced_unless}
+use Rattle.exact_sums.specs.Near.{IsNear}
 use Rattle.bytime_model.specs.Rows.{over_flights, term_of}
 use Rattle.bytime_model.proofs.SmallFacts.{constant_small, cost_terms_near}
 use Rattle.dual_leaf.specs.Columns.{IsThere}
@@ -47,9 +46,9 @@ module _ (parts : Parts) (row : Priced) (terms : List Term) (is : row ≡ cost_r
       subst (λ list. All (λ (term : Term). IsThere parts.flights term.variable) list) (sym all_are)
       (cost_there parts)
 
-  near_abs : (z : ℤ) → IsWithin 200000000000 z → unsigned_abs z ≤ most_factor
+  near_abs : (z : ℤ) → IsNear 200000000000 z → unsigned_abs z ≤ most_factor
   near_abs z near =
-      let down = near.down in let up = near.up in omega (arith, ints, down, up)
+      let low = near.low in let high = near.high in omega (arith, ints, low, high)
 
   pub terms_small : IsScenario parts → All (λ term. unsigned_abs term.factor ≤ most_factor) terms
   terms_small scenario =
@@ -214,8 +213,8 @@ module _ (parts : Parts) (box : Box) (row : Priced) (gathered : Gathered) (terms
     pub values_small : sum_by unsigned_abs values < 2 ^ 62
     values_small = let size = small in let same = values_size in omega (arith, size, same)
 
-    abs_near : (z : ℤ) → IsWithin (2 ^ 60) z → unsigned_abs z ≤ 2 ^ 60
-    abs_near z near = let down = near.down in let up = near.up in omega (arith, ints, down, up)
+    abs_near : (z : ℤ) → IsNear (2 ^ 60) z → unsigned_abs z ≤ 2 ^ 60
+    abs_near z near = let low = near.low in let high = near.high in omega (arith, ints, low, high)
 
     constant_abs : unsigned_abs row.constant ≤ 2 ^ 60
     constant_abs =

@@ -1,4 +1,5 @@
--- Prices that a climb moves. No public clause cites these but `IsGood`.
+-- Prices that a climb moves, and which prices are good: of the scenario, each where a capacity
+-- of its kind or a connection is, and below 2^62.
 use Rattle.std.specs.Prelude.{◌≡◌, true, List, All}
 use Rattle.flow_types.specs.declared.bound.PriceKey.{PriceKey}
 use Rattle.flow_types.specs.declared.parts.Parts.{Parts}

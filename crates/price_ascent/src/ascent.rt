@@ -6,7 +6,8 @@ ghost use Rattle.flight_routes.specs.Prices.{AreAlike, AreFree};
 ghost use Rattle.flight_routes.specs.Work.{IsWorkFor};
 ghost use Rattle.plan_rules.specs.Loads.{IsMadeFor as AreLoadsFor};
 ghost use Rattle.time_windows.specs.Held.{IsMadeFor, box_of};
-ghost use Rattle.priced_plans.specs.PricedBound.{IsNearBound, IsPricedBound};
+ghost use Rattle.priced_plans.specs.PricedBound.{IsPricedBound};
+ghost use Rattle.flow_types.specs.Bounds.{IsNearBound};
 ghost use Rattle.price_ascent.specs.Slopes.{AreSlopesFor, IsGood};
 ghost use Rattle.price_ascent.specs.Work.{climb_weight, is_positive};
 
@@ -74,7 +75,9 @@ impl Ascent {
     ghost use Rattle.flight_routes.specs.Prices.{AreFree};
     ghost use Rattle.time_windows.specs.Held.{IsMadeFor, box_of};
     ghost use Rattle.priced_plans.specs.Keys.{ArePlaced};
-    ghost use Rattle.priced_plans.specs.PricedBound.{BoundsFeasible, IsNearBound, IsPricedBound};
+    ghost use Rattle.priced_plans.specs.PricedBound.{IsPricedBound};
+    ghost use Rattle.time_windows.specs.Plans.{IsBoundIn};
+    ghost use Rattle.flow_types.specs.Bounds.{IsNearBound};
     ghost use Rattle.price_ascent.specs.Work.{HasNone, IsAscentRoomFor, climb_weight};
 
     /// Room for the climbs of the scenario, with prices of 0.
@@ -94,8 +97,9 @@ impl Ascent {
     /// and keeps the best prices. Answers what they tell (`tell`).
     ///
     /// The first steps aim at such a part of what is missing to the cost, if one is known of a
-    /// plan, from 1 on. It ends where the bound is the cost or more, and where no step gains any
-    /// more.
+    /// plan, from 1 on. It ends early where a flight has no trip, and where the value reaches the
+    /// cost, or is past all costs where none is known; and with a known cost also where what is
+    /// left to aim at is used up.
     ///
     /// The room and the box are of the scenario. It takes no memory, and for each step the time of
     /// a least trip for each flight and of a look at each price that may rise.
@@ -111,7 +115,7 @@ impl Ascent {
         requires boxes { IsMadeFor (parts_of s.now) boxes.now }
         ensures told { IsPricedBound (parts_of s.now) (box_of boxes.now) climb_weight
             self.new.best result }
-        ensures sound { BoundsFeasible (parts_of s.now) (box_of boxes.now) result }
+        ensures sound { IsBoundIn (parts_of s.now) (box_of boxes.now) result }
         ensures near { IsNearBound result }
         ensures placed { ArePlaced (parts_of s.now) self.new.best }
         ensures made { IsAscentRoomFor (parts_of s.now) self.new }
@@ -140,7 +144,7 @@ impl Ascent {
         ensures same { self.new.best ≡ self.old.best }
         ensures told { IsPricedBound (parts_of s.now) (box_of boxes.now) climb_weight
             self.new.best result }
-        ensures sound { BoundsFeasible (parts_of s.now) (box_of boxes.now) result }
+        ensures sound { IsBoundIn (parts_of s.now) (box_of boxes.now) result }
         ensures near { IsNearBound result }
         ensures placed { ArePlaced (parts_of s.now) self.new.best }
         ensures made { IsAscentRoomFor (parts_of s.now) self.new }
@@ -192,7 +196,8 @@ impl Ascent {
     /// that cost less than this, if something is given; of several those that cost the least. That
     /// they are a plan that keeps every rule no clause says.
     ///
-    /// It takes memory for the plan, and the time of a least trip for each flight.
+    /// It takes memory for the plan, and the time of a least trip for each flight. The kept prices
+    /// stay; after want of memory all that is told of the last climb does.
     pub fn plan(
         &mut self,
         alloc: Global,
@@ -202,6 +207,7 @@ impl Ascent {
     ) -> Result<Option<Plan>, OutOfMemory>
         requires made { IsAscentRoomFor (parts_of s.now) self.old }
         requires boxes { IsMadeFor (parts_of s.now) boxes.now }
+        ensures same { self.new.best ≡ self.old.best }
         ensures made { IsAscentRoomFor (parts_of s.now) self.new }
     {
         if !is_below(self.plan_cost, below.map(weighted)) {

@@ -20,11 +20,12 @@ use Rattle.flow_types.proofs.CostFacts.{credit_at-within, total_at-within}
 use Rattle.flow_types.proofs.PlaceFacts.{has_kind-within}
 use Rattle.flight_routes.specs.Inside.{IsTripIn}
 use Rattle.flight_routes.specs.Prices.{ArePricesOf, PriceTable, price_in, priced_cost, priced_cost_of, stay_price, stays_price, summed, turns_back, turns_paid}
-use Rattle.flight_routes.specs.Rates.{IsValueWithin}
+use Rattle.exact_sums.specs.Near.{IsNear}
 use Rattle.flight_routes.proofs.TripFacts.{in_day, step_up}
 use Rattle.time_windows.specs.Boxes.{Box}
 use Rattle.priced_plans.specs.Values.{IsPricedSum}
-use Rattle.priced_plans.specs.Valuing.{AreSmall, LacksTrip, plus}
+use Rattle.priced_plans.specs.Valuing.{AreSmall, LacksTrip}
+use Rattle.exact_sums.specs.Sums.{plus}
 
 -- a sum of so many numbers, none of them greater than this
 range-few : (f : ℕ → ℕ) (most from n : ℕ)
@@ -157,7 +158,7 @@ module _ (parts : Parts) (table : PriceTable) (valid : IsScenario parts)
     near_by : (number : ℕ) (flight : Flight) (stops : List Stop)
         → slice_get parts.flights number ≡ Some flight
         → IsTrip parts.day.periods flight stops
-        → IsValueWithin (2 ^ 101) (priced_cost_of weight table parts number (Some flight) stops)
+        → IsNear (2 ^ 101) (priced_cost_of weight table parts number (Some flight) stops)
     near_by number flight [] there trip = absurd trip
     near_by number flight (stop ∷ rest) there trip =
         let is = All-item (IsFlight parts.day.periods parts.places parts.tables) parts.flights
@@ -195,21 +196,21 @@ module _ (parts : Parts) (table : PriceTable) (valid : IsScenario parts)
         }
 
     trip-near : (number : ℕ) (stops : List Stop) → IsTripIn parts box number stops
-        → IsValueWithin (2 ^ 101) (priced_cost weight table parts number stops)
+        → IsNear (2 ^ 101) (priced_cost weight table parts number stops)
     trip-near number stops is =
-        subst (λ f. IsValueWithin (2 ^ 101) (priced_cost_of weight table parts number f stops))
+        subst (λ f. IsNear (2 ^ 101) (priced_cost_of weight table parts number f stops))
         (sym is.there) (near_by number is.flight stops is.there is.trip)
 
     least-near : (number : ℕ) (least : ℤ)
         → IsLeastAt (IsTripIn parts box number) (priced_cost weight table parts number) least
-        → IsValueWithin (2 ^ 101) least
+        → IsNear (2 ^ 101) least
     least-near number least at =
-        subst (IsValueWithin (2 ^ 101)) at.reached.2
+        subst (IsNear (2 ^ 101)) at.reached.2
         (trip-near number at.reached.0 at.reached.1)
 
     pub least_small : (number : ℕ) (least : Option ℤ)
         → IsLeast (IsTripIn parts box number) (priced_cost weight table parts number) least
-        → IfSome least (IsValueWithin (2 ^ 120))
+        → IfSome least (IsNear (2 ^ 120))
     least_small number None is = tt
     least_small number (Some least) is =
         let near = least-near number least is in
@@ -219,7 +220,7 @@ module _ (parts : Parts) (table : PriceTable) (valid : IsScenario parts)
 pub record IsSumTo (parts : Parts) (box : Box) (weight : ℕ) (table : PriceTable) (count : ℕ)
     (sum : ℤ) : Type 0 where
   pub is : IsPricedSum parts box weight table count sum
-  pub near : IsValueWithin (count * 2 ^ 101) sum
+  pub near : IsNear (count * 2 ^ 101) sum
 
 -- the sum so far, where each flight so far has a trip
 abbrev pub IsPartSum : Parts → Box → ℕ → PriceTable → ℕ → Option ℤ → Type 0

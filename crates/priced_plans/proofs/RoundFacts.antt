@@ -14,9 +14,10 @@ use Rattle.flow_types.specs.declared.parts.Parts.{Parts}
 use Rattle.flow_types.specs.Costs.{plan_cost}
 use Rattle.flow_types.specs.Valid.{IsScenario}
 use Rattle.flight_routes.specs.Prices.{PriceTable}
-use Rattle.flight_routes.specs.Rates.{IsValueWithin}
+use Rattle.exact_sums.specs.Near.{IsNear}
 use Rattle.time_windows.specs.Boxes.{Box}
-use Rattle.priced_plans.specs.PricedBound.{BoundsFeasible, IsPricedBound, IsRoundedUp}
+use Rattle.priced_plans.specs.PricedBound.{IsPricedBound, IsRoundedUp}
+use Rattle.time_windows.specs.Plans.{IsBoundIn}
 use Rattle.priced_plans.proofs.ValueFacts.{none-inside, value-below}
 
 -- what the code takes a number for
@@ -111,7 +112,7 @@ pub below_small : (size w : ℕ) → size < 2 ^ 126 → unsigned_abs (neg_ℤ (p
 below_small size w small = let le = div-le_self size w in omega (arith, ints, le, small)
 
 -- the size of a number that is near
-pub size_small : (value : ℤ) → IsValueWithin (2 ^ 123) value → unsigned_abs value < 2 ^ 126
+pub size_small : (value : ℤ) → IsNear (2 ^ 123) value → unsigned_abs value < 2 ^ 126
 size_small (pos n) near = omega (arith, ints, near.high)
 size_small (negsuc n) near = omega (arith, ints, near.low)
 
@@ -137,11 +138,11 @@ rounded_near (negsuc v) (negsuc n) w weight is =
     let reached = is.reached in
     omega (arith, ints, reached, down, more)
 
-near_within : (value : ℤ) → IsValueWithin (2 ^ 123) value → unsigned_abs value < 2 ^ 124
+near_within : (value : ℤ) → IsNear (2 ^ 123) value → unsigned_abs value < 2 ^ 124
 near_within (pos n) near = let up = near.high in omega (arith, ints, up)
 near_within (negsuc n) near = let down = near.low in omega (arith, ints, down)
 
-pub rounded_within : (value up : ℤ) (weight : ℕ) → 0 < weight → IsValueWithin (2 ^ 123) value
+pub rounded_within : (value up : ℤ) (weight : ℕ) → 0 < weight → IsNear (2 ^ 123) value
     → IsRoundedUp value weight up → unsigned_abs up < 2 ^ 124
 rounded_within value up weight some near rounded =
     let small = near_within value near in
@@ -149,7 +150,7 @@ rounded_within value up weight some near rounded =
     omega (arith, small, le)
 
 -- and much nearer to 0 with a weight of at least 2^10
-pub rounded_closer : (value up : ℤ) (w : ℕ) → IsValueWithin (2 ^ 123) value
+pub rounded_closer : (value up : ℤ) (w : ℕ) → IsNear (2 ^ 123) value
     → IsRoundedUp value w up → 2 ^ 10 ≤ w → unsigned_abs up < 2 ^ 115
 rounded_closer value (pos n) w near is heavy =
     let more : 2 ^ 113 * 2 ^ 10 ≤ 2 ^ 113 * w = mul-le-mul_left (2 ^ 113) heavy in
@@ -166,10 +167,11 @@ rounded_closer value (negsuc n) w near is heavy =
 -- a bound that prices tell is one of the feasible plans
 pub bound-below : (parts : Parts) (box : Box) (weight : ℕ) (table : PriceTable) (bound : Bound)
     → IsScenario parts → IsPricedBound parts box weight table bound
-    → BoundsFeasible parts box bound
-bound-below parts box weight table NoPlan valid is = λ plan feasible inside.
-    none-inside parts box is.number plan is.within is.none feasible inside
-bound-below parts box weight table (AtLeast least) valid is = λ plan feasible inside.
-    let below = value-below parts box weight table is.0 plan valid is.1 feasible inside in
+    → IsBoundIn parts box bound
+bound-below parts box weight table NoPlan valid is = λ plan kept.
+    none-inside parts box is.number plan is.within is.none kept.feasible kept.inside
+bound-below parts box weight table (AtLeast least) valid is = λ plan kept.
+    let below = value-below parts box weight table is.0 plan valid is.1 kept.feasible kept.inside
+    in
     let cost = plan_cost parts.tables parts.flights plan in
     is.2.below cost (subst (λ z. is.0 ≤ℤ z) (*ℤ_comm (pos weight) cost) below)

@@ -172,9 +172,9 @@ value_is = record {
 
 -- so no plan that keeps every rule costs less than 1, and one costs that
 bound_is : BoundsPlans two all_open 1 (pos 1)
-bound_is = λ plan feasible inside.
+bound_is = λ plan kept.
     value-below two all_open 1 table (pos 1) plan
-    (two_flights-valid 1 9 9 (omega arith) (omega arith) (omega arith)) value_is feasible inside
+    (two_flights-valid 1 9 9 (omega arith) (omega arith) (omega arith)) value_is kept.feasible kept.inside
 
 best_costs : plan_cost two.tables two.flights (plan_with (trip_at 1 3)) ≡ pos 1
 best_costs = refl

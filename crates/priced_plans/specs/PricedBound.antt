@@ -1,5 +1,5 @@
 -- The bound that the value of prices tells.
-use Rattle.std.specs.Prelude.{ℕ, List, ℤ, pos, ◌*ℤ◌, ◌≤ℤ◌, ◌<◌, ◌^◌, unsigned_abs}
+use Rattle.std.specs.Prelude.{ℕ, Option, None, Some, List, ℤ, pos, ◌*ℤ◌, ◌≤ℤ◌, ◌<◌, ◌^◌, unsigned_abs}
 use Rattle.flow_types.specs.declared.bound.Bound.{Bound}
 use Rattle.flow_types.specs.declared.bound.Bound.TheVariants.{AtLeast, NoPlan}
 use Rattle.flow_types.specs.declared.parts.Parts.{Parts}
@@ -8,7 +8,8 @@ use Rattle.flow_types.specs.Costs.{plan_cost}
 use Rattle.flow_types.specs.Feasible.{IsFeasible}
 use Rattle.flight_routes.specs.Prices.{PriceTable}
 use Rattle.time_windows.specs.Boxes.{Box, IsInBox}
-use Rattle.priced_plans.specs.Values.{HasNoPlan, IsPricedValue}
+use Rattle.priced_plans.specs.Values.{IsPricedValue}
+use Rattle.time_windows.specs.Plans.{HasNoPlan}
 use Rattle.priced_plans.specs.Valuing.{LacksTrip}
 
 -- the value divided by the weight and rounded up: the least number that is no less
@@ -16,19 +17,15 @@ pub record IsRoundedUp (value : ℤ) (weight : ℕ) (least : ℤ) : Type 0 where
   pub reached : value ≤ℤ (least *ℤ pos weight)
   pub below : (c : ℤ) → value ≤ℤ (c *ℤ pos weight) → least ≤ℤ c
 
+-- what a value tells: NoPlan where there is none, else that, rounded up so
+abbrev pub IsBoundOf : ℕ → Option ℤ → Bound → Type 0
+IsBoundOf weight None NoPlan = Unit {0}
+IsBoundOf weight None (AtLeast least) = ⊥
+IsBoundOf weight (Some value) NoPlan = ⊥
+IsBoundOf weight (Some value) (AtLeast least) = IsRoundedUp value weight least
+
 -- NoPlan where a flight has no trip in the box, else the value of the prices, rounded up so
 abbrev pub IsPricedBound : Parts → Box → ℕ → PriceTable → Bound → Type 0
 IsPricedBound parts box weight table NoPlan = LacksTrip parts box
 IsPricedBound parts box weight table (AtLeast least) =
     (value : ℤ) × IsPricedValue parts box weight table value × IsRoundedUp value weight least
-
--- not too far from 0
-abbrev pub IsNearBound : Bound → Type 0
-IsNearBound NoPlan = Unit {0}
-IsNearBound (AtLeast least) = unsigned_abs least < 2 ^ 115
-
--- no feasible plan in the box costs less; there is none below NoPlan
-abbrev pub BoundsFeasible : Parts → Box → Bound → Type 0
-BoundsFeasible parts box NoPlan = HasNoPlan parts box
-BoundsFeasible parts box (AtLeast least) = (plan : List (List Stop)) → IsFeasible parts plan
-    → IsInBox box plan → least ≤ℤ plan_cost parts.tables parts.flights plan

@@ -12,11 +12,11 @@ use Rattle.flow_types.specs.declared.plan.Stop.{Stop}
 use Rattle.flow_types.specs.Capacities.{capacity_of, has_kind}
 use Rattle.flow_types.specs.Costs.{plan_cost}
 use Rattle.flow_types.specs.Counts.{arrivals_at, departures_at, occupancy_at, one_if}
-use Rattle.flow_types.specs.Feasible.{IsFeasible}
 use Rattle.flow_types.specs.Trips.{arrival_from}
 use Rattle.flight_routes.specs.Inside.{IsTripIn}
 use Rattle.flight_routes.specs.Prices.{Block, PriceTable, price_in, priced_cost, trip_price}
-use Rattle.time_windows.specs.Boxes.{Box, IsInBox}
+use Rattle.time_windows.specs.Boxes.{Box}
+use Rattle.time_windows.specs.Plans.{IsPlanIn}
 
 -- what the trips of these flights pay, less what they are paid back; the first has this number
 abbrev pub plan_price : PriceTable → Parts → ℕ → List Flight → List (List Stop) → ℤ
@@ -109,9 +109,5 @@ pub record IsPricedValue (parts : Parts) (box : Box) (weight : ℕ) (table : Pri
 -- the cost of a feasible plan in the box, times the weight, is no less than the value
 abbrev pub BoundsPlans : Parts → Box → ℕ → ℤ → Type 0
 BoundsPlans parts box weight value =
-    (plan : List (List Stop)) → IsFeasible parts plan → IsInBox box plan
+    (plan : List (List Stop)) → IsPlanIn parts box plan
     → value ≤ℤ (pos weight *ℤ plan_cost parts.tables parts.flights plan)
-
--- no feasible plan is in the box
-abbrev pub HasNoPlan : Parts → Box → Type 0
-HasNoPlan parts box = (plan : List (List Stop)) → IsFeasible parts plan → IsInBox box plan → ⊥

@@ -35,9 +35,3 @@ cell_price parts kind table k t =
 abbrev pub row_price : Parts → CapKind → PriceTable → ℕ → ℕ
 row_price parts kind table k =
     sum_by (cell_price parts kind table k) (range_with_len 0 parts.day.periods)
-
--- the sum of two numbers, where both are there
-abbrev pub plus : Option ℤ → Option ℤ → Option ℤ
-plus None cost = None
-plus (Some sum) None = None
-plus (Some sum) (Some cost) = Some (sum +ℤ cost)

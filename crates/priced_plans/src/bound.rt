@@ -1,12 +1,13 @@
 //! The bound that prices tell.
-ghost use Rattle.std.specs.Prelude.{◌≡◌, ◌<◌, ◌+◌, ◌-◌, ◌/◌, ◌≤◌, ◌^◌, unsigned_abs, pos, neg_ℤ};
+ghost use Rattle.std.specs.Prelude.{IfSome, ◌≡◌, ◌<◌, ◌+◌, ◌-◌, ◌/◌, ◌≤◌, ◌^◌, unsigned_abs, pos, neg_ℤ};
 ghost use Rattle.flow_types.specs.Scenario.{parts_of};
 ghost use Rattle.flight_routes.specs.Prices.{ArePricesOf};
-ghost use Rattle.flight_routes.specs.Rates.{IsValueWithin};
+ghost use Rattle.exact_sums.specs.Near.{IsNear};
 ghost use Rattle.flight_routes.specs.Work.{IsWorkFor};
 ghost use Rattle.time_windows.specs.Held.{IsMadeFor, box_of};
 ghost use Rattle.priced_plans.specs.Valuing.{AreSmall};
-ghost use Rattle.priced_plans.specs.PricedBound.{IsNearBound, IsPricedBound, IsRoundedUp};
+ghost use Rattle.priced_plans.specs.PricedBound.{IsBoundOf, IsPricedBound, IsRoundedUp};
+ghost use Rattle.flow_types.specs.Bounds.{IsNearBound};
 
 use crate::value::priced_value;
 use flight_routes::{Prices, Work};
@@ -35,7 +36,21 @@ pub fn priced_bound(
     ensures near { 2 ^ 10 ≤ weight → IsNearBound result }
     ensures work { IsWorkFor (parts_of s.now) work.new }
 {
-    match priced_value(work, s, boxes, weight, prices) {
+    told_by(priced_value(work, s, boxes, weight, prices), weight)
+}
+
+/// The bound that a value of prices tells: that, divided by the weight and rounded up; that no plan
+/// exists, where there is none since a flight has no trip.
+///
+/// The value is no further from 0 than 2^123, and the weight is above 0. With one of at least 2^10
+/// the bound is nearer to 0 than 2^115.
+pub fn told_by(value: Option<i128>, weight: u64) -> Bound
+    requires near { IfSome value (IsNear (2 ^ 123)) }
+    requires weight { 0 < weight }
+    ensures told { IsBoundOf weight value result }
+    ensures near { 2 ^ 10 ≤ weight → IsNearBound result }
+{
+    match value {
         None => Bound::NoPlan,
         Some(value) => Bound::AtLeast(rounded_up(value, weight)),
     }
@@ -46,7 +61,7 @@ pub fn priced_bound(
 /// and with a weight of at least 2^10 it is nearer than 2^115.
 #[tactic(auto, using(crate::proofs::RoundFacts::rounded_above, crate::proofs::RoundFacts::rounded_below, crate::proofs::RoundFacts::rounded_near, crate::proofs::RoundFacts::rounded_within))]
 pub fn rounded_up(value: i128, weight: u64) -> i128
-    requires near { IsValueWithin (2 ^ 123) value }
+    requires near { IsNear (2 ^ 123) value }
     requires weight { 0 < weight }
     ensures rounded { IsRoundedUp value weight result }
     ensures smaller { unsigned_abs result ≤ unsigned_abs value }

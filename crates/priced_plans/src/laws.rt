@@ -9,8 +9,9 @@ ghost use Rattle.flow_types.specs.declared.plan.Stop.{Stop};
 ghost use Rattle.flight_routes.specs.Inside.{IsTripIn};
 ghost use Rattle.flight_routes.specs.Prices.{AreFree, ArePricesOf, IsKeyOf, PriceTable, price_at};
 ghost use Rattle.time_windows.specs.Boxes.{Box};
-ghost use Rattle.priced_plans.specs.PricedBound.{BoundsFeasible, IsPricedBound};
-ghost use Rattle.priced_plans.specs.Values.{BoundsPlans, HasNoPlan, IsPricedValue, limit_price, loads_price, plan_price, turns_price};
+ghost use Rattle.priced_plans.specs.PricedBound.{IsPricedBound};
+ghost use Rattle.time_windows.specs.Plans.{IsBoundIn, HasNoPlan};
+ghost use Rattle.priced_plans.specs.Values.{BoundsPlans, IsPricedValue, limit_price, loads_price, plan_price, turns_price};
 ghost use Rattle.priced_plans.specs.Valuing.{AreSmall};
 
 /// The trips of a plan pay by its counts: for each place and period the price times the number of
@@ -58,5 +59,5 @@ pub fn prices_are_small()
 pub fn priced_bounds_are_bounds()
     ensures { (parts : Parts) (box : Box) (weight : ℕ) (table : PriceTable) (bound : Bound)
         → IsScenario parts → IsPricedBound parts box weight table bound
-        → BoundsFeasible parts box bound }
+        → IsBoundIn parts box bound }
 {}

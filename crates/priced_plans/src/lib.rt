@@ -42,7 +42,7 @@ mod kinds;
 mod laws;
 mod value;
 
-pub use bound::{priced_bound, rounded_up};
+pub use bound::{priced_bound, rounded_up, told_by};
 pub use kinds::{PriceKind, key_in, price_at, rows_of};
 pub use laws::{
     plans_pay_by_counts, plans_pay_no_more_than_capacities, priced_bounds_are_bounds,

@@ -2,12 +2,13 @@
 ghost use Rattle.std.specs.Prelude.{◌≡◌, ◌≤◌, ◌<◌, ◌^◌, IfSome, MatchOption, length};
 ghost use Rattle.flow_types.specs.Scenario.{parts_of};
 ghost use Rattle.flight_routes.specs.Prices.{ArePricesOf, price_in};
-ghost use Rattle.flight_routes.specs.Rates.{IsValueWithin};
+ghost use Rattle.exact_sums.specs.Near.{IsNear};
 ghost use Rattle.flight_routes.specs.Work.{IsWorkFor};
 ghost use Rattle.time_windows.specs.Held.{IsMadeFor, box_of};
 ghost use Rattle.priced_plans.specs.Values.{IsPricedSum, IsPricedValue, capacity_price, limit_price};
-ghost use Rattle.priced_plans.specs.Valuing.{AreSmall, LacksTrip, block_of, cell_price, plus, row_price};
+ghost use Rattle.priced_plans.specs.Valuing.{AreSmall, LacksTrip, block_of, cell_price, row_price};
 
+use exact_sums::plus;
 use flight_routes::{Prices, Work};
 use flow_types::{CapKind, Scenario, capacity_at};
 use time_windows::Boxes;
@@ -33,7 +34,7 @@ pub fn priced_value(
     requires small { AreSmall prices.now }
     ensures value { MatchOption result (LacksTrip (parts_of s.now) (box_of boxes.now))
         (IsPricedValue (parts_of s.now) (box_of boxes.now) weight prices.now) }
-    ensures within { IfSome result (IsValueWithin (2 ^ 123)) }
+    ensures within { IfSome result (IsNear (2 ^ 123)) }
     ensures work { IsWorkFor (parts_of s.now) work.new }
 {
     let limit = limit_price(s, prices);
@@ -60,7 +61,7 @@ fn least_sum(
     ensures sum { MatchOption result (LacksTrip (parts_of s.now) (box_of boxes.now))
         (IsPricedSum (parts_of s.now) (box_of boxes.now) weight prices.now
         (length (parts_of s.now).flights)) }
-    ensures within { IfSome result (IsValueWithin (2 ^ 120)) }
+    ensures within { IfSome result (IsNear (2 ^ 120)) }
     ensures work { IsWorkFor (parts_of s.now) work.new }
 {
     let mut sum = Some(0);
@@ -71,21 +72,6 @@ fn least_sum(
         );
     }
     sum
-}
-
-// The sum of both, where both are there.
-fn plus(sum: Option<i128>, cost: Option<i128>) -> Option<i128>
-    requires sum { IfSome sum (IsValueWithin (2 ^ 120)) }
-    requires cost { IfSome cost (IsValueWithin (2 ^ 120)) }
-    ensures { result ≡ plus sum cost }
-{
-    match sum {
-        None => None,
-        Some(sum) => match cost {
-            None => None,
-            Some(cost) => Some(sum + cost),
-        },
-    }
 }
 
 /// What all departures, arrivals and flights inside sectors that there is room for would pay. The

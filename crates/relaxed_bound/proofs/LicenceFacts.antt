@@ -26,7 +26,7 @@ use Rattle.presolve.specs.Relaxed.{kept_of, program_of}
 use Rattle.presolve.proofs.PointLaws.{costs_alike, relaxation_point}
 use Rattle.relaxed_bound.specs.declared.limits.Limits.{Limits}
 use Rattle.relaxed_bound.specs.Licence.{IsBelowCutoff, IsCheapPoint, IsLicensed}
-use Rattle.relaxed_bound.specs.Reached.{is_reached}
+use Rattle.flow_types.specs.Bounds.{is_reached}
 use Rattle.relaxed_bound.specs.Relaxed.{outcome_leaf}
 use Rattle.relaxed_bound.specs.Telling.{IsWorthOf}
 

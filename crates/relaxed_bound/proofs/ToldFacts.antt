@@ -34,7 +34,7 @@ use Rattle.presolve.specs.Relaxed.{kept_of, program_of}
 use Rattle.presolve.proofs.PromiseFacts.{kept_are}
 use Rattle.relaxed_bound.specs.declared.limits.Limits.{Limits}
 use Rattle.relaxed_bound.specs.Licence.{IsLicensed, end_of}
-use Rattle.relaxed_bound.specs.Reached.{is_reached}
+use Rattle.flow_types.specs.Bounds.{is_reached}
 use Rattle.relaxed_bound.specs.Relaxed.{HasBound, outcome_leaf, relaxed_leaf, told_leaf}
 use Rattle.relaxed_bound.specs.Telling.{AreWeights, IsRunLeaf, IsWorthOf}
 use Rattle.relaxed_bound.proofs.LicenceFacts.{licensed}

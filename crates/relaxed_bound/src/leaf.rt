@@ -6,7 +6,7 @@ ghost use Rattle.dual_leaf.specs.Leaf.{IsLeafBound};
 ghost use Rattle.flow_types.specs.Scenario.{parts_of};
 ghost use Rattle.flow_types.specs.declared.bound.Bound.{Bound};
 ghost use Rattle.relaxed_bound.specs.Licence.{IsLicensed, end_of};
-ghost use Rattle.relaxed_bound.specs.Reached.{is_reached};
+ghost use Rattle.flow_types.specs.Bounds.{is_reached};
 ghost use Rattle.relaxed_bound.specs.Relaxed.{HasBound, relaxed_leaf, told_leaf};
 ghost use Rattle.relaxed_bound.specs.Telling.{AreWeights, IsRunLeaf};
 ghost use Rattle.relaxed_bound.specs.Point.{AreToldFractions, IsPointIn, IsToldPoint, point_of};

@@ -9,7 +9,7 @@
 //!     let relaxed = relax(alloc, &s, &boxes, limits, Some(cutoff))?;
 //!     let mut work = LeafWork::new(alloc, &s)?;
 //!     match work.leaf_bound(&s, &boxes, &relaxed.leaf, &Pool::empty(alloc)) {
-//!         Ok(bound) if is_reached(Some(cutoff), bound) => println!("no plan in it costs less"),
+//!         Ok(bound) if bound.is_reached(Some(cutoff)) => println!("no plan in it costs less"),
 //!         _ => println!("it may be split, as by {:?}", relaxed.point),
 //!     }
 //!
@@ -35,8 +35,6 @@
 
 mod leaf;
 mod limits;
-mod reached;
 
 pub use leaf::{Point, Relaxed, relax};
 pub use limits::Limits;
-pub use reached::is_reached;

@@ -22,11 +22,11 @@ use Rattle.time_windows.specs.declared.ends.End.TheVariants.{Arrival, Departure}
 use Rattle.time_windows.specs.declared.turns.Turn.{Turn}
 use Rattle.time_windows.specs.Ends.{flight_at}
 use Rattle.time_windows.specs.Turns.{connection_at, turns_in}
-use Rattle.time_windows.specs.Waiting.{IsAdded, IsTaken, Waits, bit_in, count_in}
+use Rattle.number_set.specs.Few.{IsAdded, IsTaken, IsIn, bit_in, count_in}
 use Rattle.time_windows.proofs.AnyFacts.{any_map}
 use Rattle.time_windows.proofs.NarrowFacts.{narrows_none, narrows_then, set_narrows}
 use Rattle.time_windows.proofs.TurnFacts.{all_turns, turn_of, turns_all}
-use Rattle.time_windows.proofs.WaitingFacts.{count_few, count_less}
+use Rattle.number_set.proofs.FewFacts.{count_few, count_less}
 use Rattle.time_windows.proofs.WindowFacts.{below_limit_is, below_limit_keeps, entry_from_leads, from_entry_is, from_entry_keeps, limit_from_leads, width_within}
 
 -- a row that says the same is as tight
@@ -92,9 +92,9 @@ step_then parts old mid new before between now first second = record {
 }
   where
     moved_then : (f : ℕ)
-        → Waits between f ⊎ ((n : ℕ) → access_at mid f n ≡ access_at old f n)
-        → Waits now f ⊎ ((n : ℕ) → access_at new f n ≡ access_at mid f n)
-        → Waits now f ⊎ ((n : ℕ) → access_at new f n ≡ access_at old f n)
+        → IsIn between f ⊎ ((n : ℕ) → access_at mid f n ≡ access_at old f n)
+        → IsIn now f ⊎ ((n : ℕ) → access_at new f n ≡ access_at mid f n)
+        → IsIn now f ⊎ ((n : ℕ) → access_at new f n ≡ access_at old f n)
     moved_then f one (inl waits) = inl waits
     moved_then f (inl waits) (inr same) = inl (second.grown f waits)
     moved_then f (inr was) (inr same) = inr (λ n. same n ∙ was n)
@@ -127,12 +127,12 @@ settled_step parts flight node window old mid new before now one sound within pr
       narrows = narrows_then (IsTight parts) old mid new narrows settled.narrows;
       rows = settled_rows parts flight node window old mid new set settled;
       moved = λ f. elim (cases_eq f flight)
-          as (λ _. Waits now f ⊎ ((n : ℕ) → access_at new f n ≡ access_at old f n)) [
+          as (λ _. IsIn now f ⊎ ((n : ℕ) → access_at new f n ≡ access_at old f n)) [
             | inl same ↦ inl (rw same added.here)
             | inr other ↦ inr (λ n. settled.others f n other
                 ∙ set.others f n (λ e _. other e))
           ];
-      grown = λ f waits. elim (cases_eq f flight) as (λ _. Waits now f) [
+      grown = λ f waits. elim (cases_eq f flight) as (λ _. IsIn now f) [
         | inl same ↦ rw same added.here
         | inr other ↦ added.others f other ∙ waits
       ];
@@ -246,8 +246,8 @@ module _ (parts : Parts) (old new : List Access) (before now : List ℕ)
   abbrev last_node : ℕ
   last_node = last_of (slice_get parts.flights turn.first)
 
-  waits_on : (Waits before turn.first ⊎ Waits before turn.second)
-      → (Waits now turn.first ⊎ Waits now turn.second)
+  waits_on : (IsIn before turn.first ⊎ IsIn before turn.second)
+      → (IsIn now turn.first ⊎ IsIn now turn.second)
   waits_on (inl first) = inl (step.grown turn.first first)
   waits_on (inr second) = inr (step.grown turn.second second)
 
@@ -255,15 +255,15 @@ module _ (parts : Parts) (old new : List Access) (before now : List ℕ)
   pub ends_still : (P : Option Window → Option Window → Type 0)
       → P (arrives_at parts (access_at old) turn) (leaves_at (access_at old) turn)
       → P (arrives_at parts (access_at new) turn) (leaves_at (access_at new) turn)
-      ⊎ (Waits now turn.first ⊎ Waits now turn.second)
+      ⊎ (IsIn now turn.first ⊎ IsIn now turn.second)
   ends_still P holds = by (step.moved turn.first) (step.moved turn.second)
     where
-      by : Waits now turn.first
+      by : IsIn now turn.first
           ⊎ ((n : ℕ) → access_at new turn.first n ≡ access_at old turn.first n)
-          → Waits now turn.second
+          → IsIn now turn.second
           ⊎ ((n : ℕ) → access_at new turn.second n ≡ access_at old turn.second n)
           → P (arrives_at parts (access_at new) turn) (leaves_at (access_at new) turn)
-          ⊎ (Waits now turn.first ⊎ Waits now turn.second)
+          ⊎ (IsIn now turn.first ⊎ IsIn now turn.second)
       by (inl first) second = inr (inl first)
       by (inr same) (inl second) = inr (inr second)
       by (inr same) (inr too) = inl (subst
@@ -278,8 +278,8 @@ module _ (parts : Parts) (old new : List Access) (before now : List ℕ)
 -- a connection is done once its ends are raised and lowered
 pub turn_done : (parts : Parts) (mid new : List Access) (between now : List ℕ) (turn : Connection)
     → IsStep parts mid new between now
-    → IsRaised parts (access_at mid) turn ⊎ Waits between turn.second
-    → IsLowered parts (access_at new) turn ⊎ Waits now turn.first
+    → IsRaised parts (access_at mid) turn ⊎ IsIn between turn.second
+    → IsLowered parts (access_at new) turn ⊎ IsIn now turn.first
     → IsDone parts new now turn
 turn_done parts mid new between now turn step (inr waits) lowered =
     inr (inr (step.grown turn.second waits))
@@ -288,7 +288,7 @@ turn_done parts mid new between now turn step (inl raised) (inl lowered) =
     by (ends_still parts mid new between now step turn
     (λ arrives leaves. from_entry leaves (entry_of arrives turn.turnaround) ≡ leaves) raised)
   where
-    by : IsRaised parts (access_at new) turn ⊎ (Waits now turn.first ⊎ Waits now turn.second)
+    by : IsRaised parts (access_at new) turn ⊎ (IsIn now turn.first ⊎ IsIn now turn.second)
         → IsDone parts new now turn
     by (inr waits) = inr waits
     by (inl still) = inl (ends_kept turn.turnaround (arrives_at parts (access_at new) turn)

@@ -6,7 +6,6 @@ pub mod RaiseFacts
 pub mod LowerFacts
 pub mod SettleFacts
 pub mod TurnFacts
-pub mod WaitingFacts
 pub mod ConnectionFacts
 pub mod LinkFacts
 pub mod CellFacts

@@ -4,9 +4,9 @@ pub mod Groups
 pub mod Held
 pub mod Narrowing
 pub mod Path
+pub mod Plans
 pub mod Splits
 pub mod Steps
 pub mod Tight
 pub mod Trail
 pub mod Turns
-pub mod Waiting

@@ -14,7 +14,7 @@ use Rattle.time_windows.specs.Groups.{Grouped}
 use Rattle.time_windows.specs.Held.{access_at}
 use Rattle.time_windows.specs.Steps.{below_limit, entry_of, from_entry, legs_of, limit_of, never}
 use Rattle.time_windows.specs.Tight.{IsTight, IsTightRow, IsTightTurn, IsWayIn, IsWayOut, last_of}
-use Rattle.time_windows.specs.Waiting.{Waits}
+use Rattle.number_set.specs.Few.{IsIn}
 
 -- proper, and within 16 bits
 abbrev pub IsSound : Option Window → Type 0
@@ -38,7 +38,7 @@ pub record IsSetAt (flight node : ℕ) (window : Option Window) (old new : List 
 
 -- only flights of the scenario wait
 abbrev pub AreWaiting : Parts → List ℕ → Type 0
-AreWaiting parts words = (f : ℕ) → Waits words f → f < length parts.flights
+AreWaiting parts words = (f : ℕ) → IsIn words f → f < length parts.flights
 
 -- no wider, with every box kept that is good
 pub record Narrows (Good : Box → Type 0) (old new : List Access) : Type 0 where
@@ -102,8 +102,8 @@ AreTightRows parts accesses = (f : ℕ) (flight : Flight) → slice_get parts.fl
 pub record IsStep (parts : Parts) (old new : List Access) (before now : List ℕ) : Type 0 where
   pub narrows : Narrows (IsTight parts) old new
   pub rows : AreTightRows parts old → AreTightRows parts new
-  pub moved : (f : ℕ) → Waits now f ⊎ ((n : ℕ) → access_at new f n ≡ access_at old f n)
-  pub grown : (f : ℕ) → Waits before f → Waits now f
+  pub moved : (f : ℕ) → IsIn now f ⊎ ((n : ℕ) → access_at new f n ≡ access_at old f n)
+  pub grown : (f : ℕ) → IsIn before f → IsIn now f
   pub there : AreWaiting parts before → AreWaiting parts now
   pub less : (now ≡ before) ⊎ (total_width new < total_width old)
 
@@ -133,7 +133,7 @@ IsLowered parts box connection =
 abbrev pub IsDone : Parts → List Access → List ℕ → Connection → Type 0
 IsDone parts accesses words connection =
     IsTightTurn parts (access_at accesses) connection
-    ⊎ (Waits words connection.first ⊎ Waits words connection.second)
+    ⊎ (IsIn words connection.first ⊎ IsIn words connection.second)
 
 -- the windows of one flight have ways in and out now, and nothing else is changed
 pub record IsSettled (parts : Parts) (number : ℕ) (old new : List Access) : Type 0 where

@@ -9,7 +9,7 @@ ghost use Rattle.time_windows.specs.Held.{AreWaysOf, access_at};
 ghost use Rattle.time_windows.specs.Narrowing.{AreSound, AreTightRows, IsDone, IsLowered, IsRaised, IsSound, IsStep, KeepsAt, Narrows};
 ghost use Rattle.time_windows.specs.Tight.{IsTight, IsTightened, last_of};
 ghost use Rattle.time_windows.specs.Turns.{AreTurnsOf, connection_at};
-ghost use Rattle.time_windows.specs.Waiting.{Waits};
+ghost use Rattle.number_set.specs.Few.{IsIn};
 
 use crate::access::{Access, Window};
 use crate::cells::{set_window, window_at};
@@ -17,9 +17,9 @@ use crate::ends::End;
 use crate::groups::Groups;
 use crate::rows::{settle, settle_flights};
 use crate::turns::{Turn, Turns};
-use crate::waiting::Waiting;
 use crate::windows::{below_limit, entry_of, from_entry, limit_of, width_of};
 use flow_types::{Connection, Leg, Scenario};
+use number_set::FewNumbers;
 
 /// Narrows the windows to the widest ones that are tight: those of each flight once, and then the
 /// ends of connections until none moves any more.
@@ -45,7 +45,7 @@ fn settle_connections(accesses: &mut [Access], ways: &Groups<Leg>, turns: &Turns
     ensures narrows { Narrows (IsTight (parts_of s.now)) accesses.old accesses.new }
     ensures tight { IsTight (parts_of s.now) (access_at accesses.new) }
 {
-    let mut waiting = Waiting::below(s.flights().len());
+    let mut waiting = FewNumbers::below(s.flights().len() as u32);
     while let Some(flight) = waiting.pop_first() {
         settle_flight(accesses, &mut waiting, ways, turns, s, flight);
     }
@@ -54,7 +54,7 @@ fn settle_connections(accesses: &mut [Access], ways: &Groups<Leg>, turns: &Turns
 // Narrows the windows at the connections of the flight.
 fn settle_flight(
     accesses: &mut [Access],
-    waiting: &mut Waiting,
+    waiting: &mut FewNumbers,
     ways: &Groups<Leg>,
     turns: &Turns,
     s: &Scenario,
@@ -64,13 +64,13 @@ fn settle_flight(
     requires ways { AreWaysOf (parts_of s.now) ways.now }
     requires turns { AreTurnsOf (parts_of s.now) turns.now }
     requires sound { AreSound accesses.old }
-    ensures step { IsStep (parts_of s.now) accesses.old accesses.new waiting.old.words
-        waiting.new.words }
+    ensures step { IsStep (parts_of s.now) accesses.old accesses.new waiting.old
+        waiting.new }
     ensures departures { All (λ connection. connection.second ≡ flight
-        → IsDone (parts_of s.now) accesses.new waiting.new.words connection)
+        → IsDone (parts_of s.now) accesses.new waiting.new connection)
         (parts_of s.now).connections }
     ensures arrivals { All (λ connection. connection.first ≡ flight
-        → IsDone (parts_of s.now) accesses.new waiting.new.words connection)
+        → IsDone (parts_of s.now) accesses.new waiting.new connection)
         (parts_of s.now).connections }
 {
     let departures = turns.of_flight(flight, End::Departure);
@@ -90,7 +90,7 @@ fn settle_flight(
 // The same at connections that the flight has at this end.
 fn settle_turns(
     accesses: &mut [Access],
-    waiting: &mut Waiting,
+    waiting: &mut FewNumbers,
     ways: &Groups<Leg>,
     s: &Scenario,
     turns: &[Turn],
@@ -101,9 +101,9 @@ fn settle_turns(
         (connection_at end flight turn)) turns.now }
     requires ways { AreWaysOf (parts_of s.now) ways.now }
     requires sound { AreSound accesses.old }
-    ensures step { IsStep (parts_of s.now) accesses.old accesses.new waiting.old.words
-        waiting.new.words }
-    ensures done { All (λ turn. IsDone (parts_of s.now) accesses.new waiting.new.words
+    ensures step { IsStep (parts_of s.now) accesses.old accesses.new waiting.old
+        waiting.new }
+    ensures done { All (λ turn. IsDone (parts_of s.now) accesses.new waiting.new
         (connection_at end flight turn)) turns.now }
 {
     for turn in turns {
@@ -139,7 +139,7 @@ fn connection_at(end: End, flight: u32, turn: Turn) -> Connection
 #[tactic(auto, using(crate::proofs::ConnectionFacts::turn_done))]
 fn settle_turn(
     accesses: &mut [Access],
-    waiting: &mut Waiting,
+    waiting: &mut FewNumbers,
     ways: &Groups<Leg>,
     s: &Scenario,
     turn: Connection,
@@ -147,9 +147,9 @@ fn settle_turn(
     requires turn { Contains (parts_of s.now).connections turn }
     requires ways { AreWaysOf (parts_of s.now) ways.now }
     requires sound { AreSound accesses.old }
-    ensures step { IsStep (parts_of s.now) accesses.old accesses.new waiting.old.words
-        waiting.new.words }
-    ensures done { IsDone (parts_of s.now) accesses.new waiting.new.words turn }
+    ensures step { IsStep (parts_of s.now) accesses.old accesses.new waiting.old
+        waiting.new }
+    ensures done { IsDone (parts_of s.now) accesses.new waiting.new turn }
 {
     raise_turn(accesses, waiting, ways, s, turn);
     lower_turn(accesses, waiting, ways, s, turn);
@@ -159,7 +159,7 @@ fn settle_turn(
 #[tactic(auto, using(crate::proofs::ConnectionFacts::raise_kept))]
 fn raise_turn(
     accesses: &mut [Access],
-    waiting: &mut Waiting,
+    waiting: &mut FewNumbers,
     ways: &Groups<Leg>,
     s: &Scenario,
     turn: Connection,
@@ -167,10 +167,10 @@ fn raise_turn(
     requires turn { Contains (parts_of s.now).connections turn }
     requires ways { AreWaysOf (parts_of s.now) ways.now }
     requires sound { AreSound accesses.old }
-    ensures step { IsStep (parts_of s.now) accesses.old accesses.new waiting.old.words
-        waiting.new.words }
+    ensures step { IsStep (parts_of s.now) accesses.old accesses.new waiting.old
+        waiting.new }
     ensures raised { IsRaised (parts_of s.now) (access_at accesses.new) turn
-        ⊎ Waits waiting.new.words turn.second }
+        ⊎ IsIn waiting.new turn.second }
 {
     let arrives = window_at(accesses, turn.first, last_of(s, turn.first));
     let leaves = window_at(accesses, turn.second, 0);
@@ -182,7 +182,7 @@ fn raise_turn(
 #[tactic(auto, using(crate::proofs::ConnectionFacts::lower_kept))]
 fn lower_turn(
     accesses: &mut [Access],
-    waiting: &mut Waiting,
+    waiting: &mut FewNumbers,
     ways: &Groups<Leg>,
     s: &Scenario,
     turn: Connection,
@@ -190,10 +190,10 @@ fn lower_turn(
     requires turn { Contains (parts_of s.now).connections turn }
     requires ways { AreWaysOf (parts_of s.now) ways.now }
     requires sound { AreSound accesses.old }
-    ensures step { IsStep (parts_of s.now) accesses.old accesses.new waiting.old.words
-        waiting.new.words }
+    ensures step { IsStep (parts_of s.now) accesses.old accesses.new waiting.old
+        waiting.new }
     ensures lowered { IsLowered (parts_of s.now) (access_at accesses.new) turn
-        ⊎ Waits waiting.new.words turn.first }
+        ⊎ IsIn waiting.new turn.first }
 {
     let last = last_of(s, turn.first);
     let arrives = window_at(accesses, turn.first, last);
@@ -215,7 +215,7 @@ fn last_of(s: &Scenario, flight: u32) -> u16
 // lets it wait.
 fn move_to(
     accesses: &mut [Access],
-    waiting: &mut Waiting,
+    waiting: &mut FewNumbers,
     ways: &Groups<Leg>,
     s: &Scenario,
     flight: u32,
@@ -229,10 +229,10 @@ fn move_to(
     requires within { IsWindowWithin window (access_at accesses.old flight node).window }
     requires proper { IsSound window }
     requires kept { KeepsAt (parts_of s.now) flight node window accesses.old }
-    ensures step { IsStep (parts_of s.now) accesses.old accesses.new waiting.old.words
-        waiting.new.words }
+    ensures step { IsStep (parts_of s.now) accesses.old accesses.new waiting.old
+        waiting.new }
     ensures still { (accesses.new ≡ accesses.old)
-        × (window ≡ (access_at accesses.old flight node).window) ⊎ Waits waiting.new.words flight }
+        × (window ≡ (access_at accesses.old flight node).window) ⊎ IsIn waiting.new flight }
 {
     if width_of(window) == width_of(window_at(accesses, flight, node)) {
         return;

@@ -7,8 +7,7 @@ use Rattle.std.specs.Int.{int_min}
 use Rattle.exact_sums.proofs.LeastFacts.{least_of_two}
 use Rattle.flow_types.specs.declared.bound.Bound.{Bound}
 use Rattle.flow_types.specs.declared.bound.Bound.TheVariants.{AtLeast, NoPlan}
-use Rattle.priced_plans.specs.PricedBound.{IsNearBound}
-use Rattle.tree_search.specs.Bounds.{least_of, lesser}
+use Rattle.flow_types.specs.Bounds.{IsNearBound, least_of, lesser}
 
 -- a plan may cost so much
 abbrev pub Allows : ℤ → Bound → Type 0

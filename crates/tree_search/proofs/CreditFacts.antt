@@ -18,7 +18,7 @@ use Rattle.branch_tree.specs.declared.tree.TreeNode.{TreeNode}
 use Rattle.branch_tree.specs.declared.tree.TreeNode.TheVariants.{Leaf, Split}
 use Rattle.branch_tree.specs.Forests.{AreSides, Leads}
 use Rattle.dual_leaf.specs.Leaf.{IsLive}
-use Rattle.relaxed_bound.specs.Reached.{is_reached}
+use Rattle.flow_types.specs.Bounds.{is_reached}
 use Rattle.tree_search.specs.declared.found.Budget.{Budget}
 use Rattle.tree_search.specs.Nodes.{HasChoice, IsLeafNode, IsNodeAt, cutoff_after}
 use Rattle.tree_search.proofs.OptionFacts.{branching_there, choice_there, each_some, node_there}

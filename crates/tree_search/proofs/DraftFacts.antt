@@ -11,15 +11,15 @@ use Rattle.flow_types.specs.declared.parts.Parts.{Parts}
 use Rattle.flow_types.specs.declared.plan.Stop.{Stop}
 use Rattle.flow_types.specs.Costs.{plan_cost}
 use Rattle.time_windows.specs.Boxes.{Box}
-use Rattle.priced_plans.specs.PricedBound.{IsNearBound}
+use Rattle.flow_types.specs.Bounds.{IsNearBound, is_reached}
 use Rattle.branch_tree.specs.declared.tree.TreeNode.{TreeNode}
-use Rattle.relaxed_bound.specs.Reached.{is_reached}
 use Rattle.relaxed_bound.proofs.LicenceFacts.{unreached_is}
 use Rattle.scaled_simplex.proofs.Products.{isnt_less, less_isnt}
 use Rattle.tree_search.specs.declared.draft.Draft.{Draft}
 use Rattle.tree_search.specs.Drafts.{AreReached, IsBest, IsDraft, IsKept, IsNoted, IsOffered}
 use Rattle.tree_search.specs.Nodes.{cost_of, cutoff_after}
-use Rattle.tree_search.specs.Records.{IsCheaper, IsPlanIn}
+use Rattle.tree_search.specs.Records.{IsCheaper}
+use Rattle.time_windows.specs.Plans.{IsPlanIn}
 
 abbrev Plan : Type 0
 Plan = List (List Stop)

@@ -12,15 +12,15 @@ use Rattle.time_windows.specs.Tight.{IsTightened}
 use Rattle.branch_tree.specs.declared.tree.TreeNode.{TreeNode}
 use Rattle.branch_tree.proofs.ForestFacts.{tree_on}
 use Rattle.branch_tree.specs.Trees.{is_tree}
-use Rattle.dual_leaf.specs.Leaf.{IsBoundOn}
+use Rattle.time_windows.specs.Plans.{IsBoundIn, IsPlanIn}
 use Rattle.valid_cuts.specs.declared.names.CutName.{CutName}
 use Rattle.tree_search.specs.declared.draft.Draft.{Draft}
 use Rattle.tree_search.specs.declared.found.Budget.{Budget}
 use Rattle.tree_search.specs.declared.found.Found.{Found}
-use Rattle.tree_search.specs.Bounds.{least_of}
+use Rattle.flow_types.specs.Bounds.{least_of, bound_of}
 use Rattle.tree_search.specs.Drafts.{AreReached}
 use Rattle.tree_search.specs.Nodes.{IsNodeAt, cutoff_after}
-use Rattle.tree_search.specs.Records.{IsClosed, IsPlanIn, IsSearchRecord, bound_of_cost}
+use Rattle.tree_search.specs.Records.{IsClosed, IsSearchRecord}
 use Rattle.tree_search.specs.Searching.{IsSearched}
 use Rattle.tree_search.proofs.BoundFacts.{near_least}
 use Rattle.tree_search.proofs.PartFacts.{in_within}
@@ -56,13 +56,13 @@ module _ (parts : Parts) (root top : Box) (budget : Budget) (draft : Draft)
         inside = in_within top root plan tight.within is.inside;
       }) draft.plans searched.draft_is.plans
 
-  sound : IsBoundOn parts root (least_of draft.bounds)
+  sound : IsBoundIn parts root (least_of draft.bounds)
   sound =
       tree_bounds parts root top budget draft.plans draft.counts draft.bounds draft.nodes
       valid tight searched.tree
 
   closed : AreReached draft
-      → least_of draft.bounds ≡ bound_of_cost (cutoff_after parts draft.plans (length draft.plans))
+      → least_of draft.bounds ≡ bound_of (cutoff_after parts draft.plans (length draft.plans))
   closed reached =
       bound_closed parts (cutoff_after parts draft.plans (length draft.plans))
       (least_of draft.bounds)
@@ -74,9 +74,9 @@ module _ (parts : Parts) (root top : Box) (budget : Budget) (draft : Draft)
   module _ (found : Found) (plans : found.plans ≡ draft.plans) (tree : found.tree ≡ draft.nodes)
       (counts : found.counts ≡ draft.counts) (bounds : found.bounds ≡ draft.bounds)
       (pool : found.pool ≡ []) (bound : found.bound ≡ least_of found.bounds) where
-    pub found_sound : IsBoundOn parts root found.bound
+    pub found_sound : IsBoundIn parts root found.bound
     found_sound =
-        subst (IsBoundOn parts root) (sym (bound ∙ ap least_of bounds)) sound
+        subst (IsBoundIn parts root) (sym (bound ∙ ap least_of bounds)) sound
 
     pub found_record : IsSearchRecord parts root budget found
     found_record =

@@ -5,12 +5,12 @@ use Rattle.flow_types.specs.declared.plan.Stop.{Stop}
 use Rattle.flow_types.specs.Costs.{plan_cost}
 use Rattle.time_windows.specs.Boxes.{Box}
 use Rattle.time_windows.specs.Held.{box_of}
-use Rattle.plan_improver.specs.Cheaper.{IsCheaper, IsKept}
-use Rattle.relaxed_bound.specs.Reached.{is_reached}
+use Rattle.plan_improver.specs.Cheaper.{IsCheaper}
+use Rattle.time_windows.specs.Plans.{IsPlanIn}
+use Rattle.flow_types.specs.Bounds.{is_reached}
 use Rattle.tree_search.specs.declared.draft.Draft.{Draft}
 use Rattle.tree_search.specs.declared.found.Budget.{Budget}
 use Rattle.tree_search.specs.Drafts.{IsOffered, IsTried}
-use Rattle.tree_search.specs.Records.{IsPlanIn}
 use Rattle.tree_search.specs.Searching.{IsSearching, IsStepped}
 use Rattle.tree_search.specs.Ways.{Way, top_box}
 use Rattle.tree_search.proofs.CompleteFacts.{same_complete}
@@ -66,13 +66,6 @@ pub found_in_box : (parts : Parts) (box : Box) (start : List (List Stop))
 found_in_box parts box start None cheaper = tt
 found_in_box parts box start (Some plan) cheaper =
     record { feasible = cheaper.feasible; inside = cheaper.inside }
-
--- and so is a plan that is kept
-pub kept_in_box : (parts : Parts) (box : Box) (found : Option (List (List Stop)))
-    → IfSome found (IsKept parts box) → IfSome found (IsPlanIn parts box)
-kept_in_box parts box None kept = tt
-kept_in_box parts box (Some plan) kept =
-    record { feasible = kept.feasible; inside = kept.inside }
 
 -- a step after a plan is offered, which writes no node down, is one from before
 pub stepped_from : (parts : Parts) (budget : Budget) (way : Way) (old now : Draft) (next : Way)

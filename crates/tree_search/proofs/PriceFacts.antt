@@ -5,7 +5,8 @@ use Rattle.flow_types.specs.declared.parts.Parts.{Parts}
 use Rattle.time_windows.specs.Boxes.{Box}
 use Rattle.priced_plans.specs.Keys.{ArePlaced}
 use Rattle.priced_plans.specs.PricedBound.{IsPricedBound}
-use Rattle.lagrange_bound.specs.Best.{IsAtMost, IsMostOfRounds}
+use Rattle.lagrange_bound.specs.Best.{IsMostOfRounds}
+use Rattle.flow_types.specs.Bounds.{IsAtMost}
 use Rattle.lagrange_bound.specs.Rounds.{cost_weight}
 use Rattle.lagrange_bound.specs.Work.{RoundRoom}
 use Rattle.lagrange_bound.proofs.BestFacts.{at_most_through}

@@ -13,12 +13,11 @@ use Rattle.flow_types.specs.declared.parts.Parts.{Parts}
 use Rattle.flow_types.specs.declared.plan.Stop.{Stop}
 use Rattle.flow_types.specs.Costs.{plan_cost}
 use Rattle.scaled_simplex.proofs.Products.{less_isnt}
-use Rattle.relaxed_bound.specs.Reached.{is_reached}
+use Rattle.flow_types.specs.Bounds.{is_reached, least_of, lesser, bound_of}
 use Rattle.time_windows.specs.Boxes.{Box}
-use Rattle.dual_leaf.specs.Leaf.{IsBoundOn}
-use Rattle.tree_search.specs.Bounds.{least_of, lesser}
+use Rattle.time_windows.specs.Plans.{IsBoundIn, IsPlanIn}
 use Rattle.tree_search.specs.Nodes.{cost_of, cutoff_after}
-use Rattle.tree_search.specs.Records.{IsCheaper, IsPlanIn, bound_of_cost}
+use Rattle.tree_search.specs.Records.{IsCheaper}
 use Rattle.tree_search.proofs.BoundFacts.{Allows}
 use Rattle.tree_search.proofs.SoundFacts.{bound_allows}
 
@@ -116,18 +115,18 @@ module _ (parts : Parts) where
   AllowsLast bound (Some cutoff) = Allows cutoff bound
 
   pub last_allowed : (root : Box) (plans : List (List (List Stop))) (bound : Bound)
-      → All (IsPlanIn parts root) plans → IsBoundOn parts root bound
+      → All (IsPlanIn parts root) plans → IsBoundIn parts root bound
       → AllowsLast bound (cutoff_after parts plans (length plans))
   last_allowed root [] bound inside is = tt
   last_allowed root (plan ∷ plans) bound inside is =
       let last = item_there (plan ∷ plans) (length plans) (omega arith) in
       let here =
       All-item (IsPlanIn parts root) (plan ∷ plans) (length plans) last.0 inside last.1 in
-      rw last.1 (bound_allows parts root bound last.0 is here.feasible here.inside)
+      rw last.1 (bound_allows parts root bound last.0 is here)
 
   -- a bound that reaches a cutoff and allows it is it
   pub bound_closed : (cutoff : Option ℤ) (bound : Bound) → Reaches cutoff bound
-      → AllowsLast bound cutoff → bound ≡ bound_of_cost cutoff
+      → AllowsLast bound cutoff → bound ≡ bound_of cutoff
   bound_closed None NoPlan reached allowed = refl
   bound_closed None (AtLeast least) reached allowed = absurd reached
   bound_closed (Some cutoff) NoPlan reached allowed = absurd allowed

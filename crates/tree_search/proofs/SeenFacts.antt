@@ -11,16 +11,15 @@ use Rattle.time_windows.specs.Boxes.{Box, IsBoxOf, options_of, width_of}
 use Rattle.time_windows.specs.Splits.{IsBranching}
 use Rattle.time_windows.specs.Tight.{IsTight}
 use Rattle.flight_routes.specs.Prices.{PriceTable}
-use Rattle.lagrange_bound.specs.Best.{IsAtMost, IsMostOfRounds}
+use Rattle.lagrange_bound.specs.Best.{IsMostOfRounds}
+use Rattle.flow_types.specs.Bounds.{IsAtMost, IsNearBound, is_reached}
 use Rattle.lagrange_bound.proofs.BestFacts.{at_most_itself}
 use Rattle.branch_tree.specs.declared.leaf.Leaf.{Leaf}
 use Rattle.branch_tree.specs.Leaves.{IsInRange}
 use Rattle.priced_leaf.specs.Leaf.{IsLagOf}
 use Rattle.dual_leaf.specs.declared.fault.LeafFault.{LeafFault}
 use Rattle.dual_leaf.specs.Leaf.{IsLeafBound, IsLive, IsNearOf, IsUnitBound, IsUnitBox}
-use Rattle.priced_plans.specs.PricedBound.{IsNearBound}
 use Rattle.relaxed_bound.specs.Licence.{IsLicensed}
-use Rattle.relaxed_bound.specs.Reached.{is_reached}
 use Rattle.relaxed_bound.specs.Relaxed.{relaxed_leaf}
 use Rattle.tree_search.specs.declared.found.Budget.{Budget}
 use Rattle.tree_search.specs.declared.walk.Branch.{Branch}

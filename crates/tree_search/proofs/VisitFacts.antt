@@ -9,15 +9,15 @@ use Rattle.flow_types.specs.Costs.{plan_cost}
 use Rattle.flow_types.specs.Valid.{IsScenario}
 use Rattle.time_windows.specs.Boxes.{Box, IsInBox}
 use Rattle.greedy_plan.specs.Greedy.{IsGreedy}
-use Rattle.priced_plans.specs.PricedBound.{IsNearBound}
+use Rattle.flow_types.specs.Bounds.{IsNearBound, is_reached}
 use Rattle.dual_leaf.proofs.LeafFacts.{same_plan}
 use Rattle.dual_leaf.proofs.UnitSumFacts.{stuck}
-use Rattle.relaxed_bound.specs.Reached.{is_reached}
 use Rattle.tree_search.specs.declared.found.Budget.{Budget}
 use Rattle.tree_search.specs.declared.draft.Draft.{Draft}
 use Rattle.tree_search.specs.Drafts.{AreReached, Completes, IsBest, IsDraft, IsOffered, IsSameTree, IsTried}
 use Rattle.tree_search.specs.Nodes.{cutoff_after}
-use Rattle.tree_search.specs.Records.{IsCheaper, IsPlanIn}
+use Rattle.tree_search.specs.Records.{IsCheaper}
+use Rattle.time_windows.specs.Plans.{IsPlanIn}
 use Rattle.tree_search.specs.Visits.{IsVisited}
 use Rattle.tree_search.proofs.CompleteFacts.{none_complete, same_complete}
 use Rattle.tree_search.proofs.DraftFacts.{offered_best, offered_draft, offered_reached, offered_still}

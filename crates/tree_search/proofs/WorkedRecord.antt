@@ -31,7 +31,8 @@ use Rattle.worked_days.specs.Days.{beside, legs_with, plan_with, stop_at, there,
 use Rattle.worked_days.proofs.WorkedDay.{beside_is, feasible_is, there_is, two_flights-valid}
 use Rattle.tree_search.specs.declared.found.Budget.{Budget}
 use Rattle.tree_search.specs.declared.found.Found.{Found}
-use Rattle.tree_search.specs.Records.{IsCheaper, IsFirst, IsPlanIn, IsSearchRecord}
+use Rattle.tree_search.specs.Records.{IsCheaper, IsFirst, IsSearchRecord}
+use Rattle.time_windows.specs.Plans.{IsPlanIn}
 
 abbrev two : Parts
 two = two_flights 1 9 9

@@ -12,7 +12,7 @@ use Rattle.time_windows.specs.Boxes.{Box, closed}
 use Rattle.worked_days.specs.Days.{plan_with, trip_at, two_flights}
 use Rattle.tree_search.specs.declared.found.Budget.{Budget}
 use Rattle.tree_search.specs.declared.found.Found.{Found}
-use Rattle.tree_search.specs.Bounds.{least_of}
+use Rattle.flow_types.specs.Bounds.{least_of}
 use Rattle.tree_search.specs.Budgets.{options_in}
 use Rattle.tree_search.specs.Nodes.{IsSplitNode, cost_of, cutoff_after}
 use Rattle.tree_search.specs.Records.{IsCheaper, IsClosed, IsFirst}

@@ -11,12 +11,12 @@ use Rattle.greedy_plan.specs.Greedy.{IsGreedy}
 use Rattle.branch_tree.specs.declared.tree.TreeNode.{TreeNode}
 use Rattle.branch_tree.specs.Forests.{IsTreeOn, Leads}
 use Rattle.dual_leaf.specs.Leaf.{IsCostIn, IsUnitBox}
-use Rattle.priced_plans.specs.PricedBound.{IsNearBound}
-use Rattle.relaxed_bound.specs.Reached.{is_reached}
+use Rattle.flow_types.specs.Bounds.{IsNearBound, is_reached}
 use Rattle.tree_search.specs.declared.found.Budget.{Budget}
 use Rattle.tree_search.specs.declared.draft.Draft.{Draft}
 use Rattle.tree_search.specs.Nodes.{IsNodeAt, cutoff_after}
-use Rattle.tree_search.specs.Records.{IsCheaper, IsFirst, IsPlanIn}
+use Rattle.tree_search.specs.Records.{IsCheaper, IsFirst}
+use Rattle.time_windows.specs.Plans.{IsPlanIn}
 
 -- nothing is written down
 pub record IsBlank (draft : Draft) : Type 0 where

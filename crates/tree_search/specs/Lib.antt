@@ -1,4 +1,3 @@
-pub mod Bounds
 pub mod Budgets
 pub mod Drafts
 pub mod Nodes

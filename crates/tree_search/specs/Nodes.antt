@@ -8,7 +8,8 @@ use Rattle.flow_types.specs.declared.plan.Stop.{Stop}
 use Rattle.flow_types.specs.Costs.{plan_cost}
 use Rattle.time_windows.specs.Boxes.{Box, IsBoxOf, options_of}
 use Rattle.lagrange_bound.specs.Rounds.{IsRoundBound}
-use Rattle.lagrange_bound.specs.Best.{HaveBounds, IsAtMost, IsMostOfRounds}
+use Rattle.lagrange_bound.specs.Best.{HaveBounds, IsMostOfRounds}
+use Rattle.flow_types.specs.Bounds.{IsAtMost, is_reached}
 use Rattle.branch_tree.specs.declared.leaf.Leaf.{Leaf as LeafKind}
 use Rattle.branch_tree.specs.declared.leaf.Leaf.TheVariants.{Dual, Empty, Lag, Unit as UnitLeaf}
 use Rattle.branch_tree.specs.declared.leaf.Multiplier.{Multiplier}
@@ -18,7 +19,6 @@ use Rattle.branch_tree.specs.Leaves.{IsInRange}
 use Rattle.dual_leaf.specs.Leaf.{IsLeafBound, IsLive}
 use Rattle.priced_leaf.specs.Leaf.{AreAscending, ArePositive}
 use Rattle.relaxed_bound.specs.Licence.{IsLicensed}
-use Rattle.relaxed_bound.specs.Reached.{is_reached}
 use Rattle.relaxed_bound.specs.Relaxed.{relaxed_leaf}
 use Rattle.tree_search.specs.declared.found.Budget.{Budget}
 

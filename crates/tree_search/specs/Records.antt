@@ -11,16 +11,10 @@ use Rattle.time_windows.specs.Boxes.{Box, IsInBox}
 use Rattle.time_windows.specs.Tight.{IsTightened}
 use Rattle.greedy_plan.specs.Greedy.{IsGreedy}
 use Rattle.branch_tree.specs.Forests.{IsTreeOn}
-use Rattle.priced_plans.specs.PricedBound.{IsNearBound}
+use Rattle.flow_types.specs.Bounds.{IsNearBound, least_of}
 use Rattle.tree_search.specs.declared.found.Budget.{Budget}
 use Rattle.tree_search.specs.declared.found.Found.{Found}
-use Rattle.tree_search.specs.Bounds.{least_of}
 use Rattle.tree_search.specs.Nodes.{IsNodeAt, cutoff_after}
-
--- a plan of the box that keeps every rule
-pub record IsPlanIn (parts : Parts) (box : Box) (plan : List (List Stop)) : Type 0 where
-  pub feasible : IsFeasible parts plan
-  pub inside : IsInBox box plan
 
 abbrev pub IsCheaper : Parts → List (List Stop) → List (List Stop) → Type 0
 IsCheaper parts before after =
@@ -32,15 +26,10 @@ pub record IsFirst (plans : List (List (List Stop))) (counts : List ℕ)
   pub first : slice_get plans 0 ≡ Some plan
   pub found : All (λ count. 1 ≤ count) counts
 
--- what the last plan costs, or that there is none
-abbrev pub bound_of_cost : Option ℤ → Bound
-bound_of_cost None = NoPlan
-bound_of_cost (Some cost) = AtLeast cost
-
 -- the last plan costs the bound, or there is neither a plan nor a bound
 abbrev pub IsClosed : Parts → Found → Type 0
 IsClosed parts found =
-    found.bound ≡ bound_of_cost (cutoff_after parts found.plans (length found.plans))
+    found.bound ≡ bound_of (cutoff_after parts found.plans (length found.plans))
 
 pub record IsSearchRecord (parts : Parts) (root : Box) (budget : Budget) (found : Found)
     : Type 0 where

@@ -6,8 +6,7 @@ use Rattle.flow_types.specs.declared.parts.Parts.{Parts}
 use Rattle.time_windows.specs.Boxes.{Box, options_of}
 use Rattle.time_windows.specs.Splits.{IsBranching}
 use Rattle.branch_tree.specs.declared.leaf.Leaf.{Leaf as LeafKind}
-use Rattle.priced_plans.specs.PricedBound.{IsNearBound}
-use Rattle.relaxed_bound.specs.Reached.{is_reached}
+use Rattle.flow_types.specs.Bounds.{IsNearBound, is_reached}
 use Rattle.tree_search.specs.declared.found.Budget.{Budget}
 use Rattle.tree_search.specs.declared.seeing.Seen.{Seen}
 use Rattle.tree_search.specs.declared.seeing.Seen.TheVariants.{Leaf, Split}

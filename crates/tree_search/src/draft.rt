@@ -1,6 +1,5 @@
 //! What a search has written down so far.
-ghost use Rattle.std.specs.Prelude.{◌≡◌, IfOk, OnOk, [], None};
-ghost use Rattle.flow_types.specs.Costs.{plan_cost};
+ghost use Rattle.std.specs.Prelude.{◌≡◌, OnOk, [], None};
 ghost use Rattle.flow_types.specs.Feasible.{IsFeasible};
 ghost use Rattle.flow_types.specs.Scenario.{parts_of};
 ghost use Rattle.tree_search.specs.Drafts.{IsNoted, IsOffered};
@@ -9,7 +8,6 @@ use crate::found::{Bounds, Counts, Plans};
 use branch_tree::{TreeNode, TreeNodes};
 use flow_types::{Bound, OutOfMemory, Plan, Scenario, Sequence};
 use plan_rules::cost;
-use relaxed_bound::is_reached;
 use std::alloc::Global;
 
 /// The plans and the first nodes of the tree, with their counts and bounds.
@@ -46,7 +44,7 @@ pub fn offer(draft: &mut Draft, s: &Scenario, plan: Plan) -> Result<(), OutOfMem
     ensures { OnOk result (IsOffered (parts_of s.now) plan draft.old draft.new) }
 {
     let price = cost(s, &plan);
-    if !is_reached(draft.best, Bound::AtLeast(i128::from(price))) {
+    if !Bound::AtLeast(i128::from(price)).is_reached(draft.best) {
         draft.plans.add(plan)?;
         draft.best = Some(price);
     }

@@ -1,6 +1,6 @@
 //! What the record of a search proves.
 ghost use Rattle.std.specs.Prelude.{◌+◌, ◌*◌, ◌≤◌};
-ghost use Rattle.dual_leaf.specs.Leaf.{IsBoundOn};
+ghost use Rattle.time_windows.specs.Plans.{IsBoundIn};
 ghost use Rattle.flow_types.specs.Valid.{IsScenario};
 ghost use Rattle.flow_types.specs.declared.parts.Parts.{Parts};
 ghost use Rattle.time_windows.specs.Boxes.{Box};
@@ -15,7 +15,7 @@ ghost use Rattle.tree_search.specs.declared.found.Found.{Found};
 /// `NoPlan` there is none.
 pub fn search_records_are_bounds()
     ensures { (parts : Parts) (root : Box) (budget : Budget) (found : Found) → IsScenario parts
-        → IsSearchRecord parts root budget found → IsBoundOn parts root found.bound }
+        → IsSearchRecord parts root budget found → IsBoundIn parts root found.bound }
 {}
 
 /// Some budget of nodes is enough for a search to close its gap: its last plan costs no more than

@@ -5,7 +5,7 @@ ghost use Rattle.flow_types.specs.declared.bound.Bound.{Bound};
 ghost use Rattle.flow_types.specs.Scenario.{parts_of};
 ghost use Rattle.branch_tree.specs.Leaves.{IsInRange};
 ghost use Rattle.lagrange_bound.specs.Best.{IsMostOfRounds};
-ghost use Rattle.priced_plans.specs.PricedBound.{IsNearBound};
+ghost use Rattle.flow_types.specs.Bounds.{IsNearBound};
 ghost use Rattle.priced_leaf.specs.Leaf.{IsLagOf};
 ghost use Rattle.priced_plans.specs.Keys.{ArePlaced};
 ghost use Rattle.time_windows.specs.Boxes.{Box};
@@ -15,10 +15,9 @@ ghost use Rattle.tree_search.specs.Rooms.{ArePriceRoomsFor, IsToldBy, Tells, pri
 use crate::rooms::PriceRooms;
 use branch_tree::Leaf;
 use flow_types::{Bound, OutOfMemory, Scenario};
-use lagrange_bound::{COST_WEIGHT, is_above};
+use lagrange_bound::COST_WEIGHT;
 use price_ascent::WEIGHT;
 use priced_leaf::{closing_leaf, lag_leaf};
-use relaxed_bound::is_reached;
 use std::alloc::Global;
 use time_windows::Boxes;
 
@@ -115,7 +114,7 @@ pub fn price(
     ensures rooms { ArePriceRoomsFor (parts_of s.now) rooms.new }
 {
     let played = rooms.rounds.play(s, boxes, rounds);
-    if rounds > 0 && !is_reached(cutoff, run) && !is_reached(cutoff, played) {
+    if rounds > 0 && !run.is_reached(cutoff) && !played.is_reached(cutoff) {
         if cutoff.is_none() && rooms.ascent.has_none(s, boxes) {
             return Priced {
                 bound: Bound::NoPlan,
@@ -123,7 +122,7 @@ pub fn price(
             };
         }
         let climbed = rooms.ascent.tell(s, boxes);
-        if is_above(climbed, played) {
+        if climbed.is_above(played) {
             return Priced {
                 bound: climbed,
                 source: Source::Ascent,

@@ -2,7 +2,7 @@
 ghost use Rattle.std.specs.Prelude.{◌≡◌, [], ◌∷◌, ◌+◌, ◌<◌, ◌≤◌, ◌↔◌, IfSome, IsTrue, IfOk, OnOk, true};
 ghost use Rattle.branch_tree.specs.declared.tree.TreeNode.TheVariants.{Leaf as LeafNode, Split as SplitNode};
 ghost use Rattle.branch_tree.specs.Trees.{is_tree};
-ghost use Rattle.dual_leaf.specs.Leaf.{IsBoundOn};
+ghost use Rattle.time_windows.specs.Plans.{IsBoundIn, IsPlanIn};
 ghost use Rattle.flow_types.specs.Scenario.{parts_of};
 ghost use Rattle.flow_types.specs.declared.bound.Bound.TheVariants.{NoPlan};
 ghost use Rattle.time_windows.specs.Held.{IsMadeFor, box_of};
@@ -10,9 +10,9 @@ ghost use Rattle.time_windows.specs.Splits.{early_branch};
 ghost use Rattle.time_windows.specs.Tight.{IsTight, IsTightened};
 ghost use Rattle.tree_search.specs.declared.found.Budget.{Budget};
 ghost use Rattle.tree_search.specs.declared.walk.Step.TheVariants.{Early};
-ghost use Rattle.tree_search.specs.Bounds.{least_of, lesser};
+ghost use Rattle.flow_types.specs.Bounds.{least_of, lesser};
 ghost use Rattle.tree_search.specs.Drafts.{IsBlank, IsNoted};
-ghost use Rattle.tree_search.specs.Records.{IsPlanIn, IsSearchRecord};
+ghost use Rattle.tree_search.specs.Records.{IsSearchRecord};
 ghost use Rattle.tree_search.specs.Rooms.{AreRoomsFor};
 ghost use Rattle.tree_search.specs.Searching.{IsLeft, IsSearched, IsSearching, IsStepped, planned_in};
 ghost use Rattle.tree_search.specs.Visits.{IsVisited};
@@ -214,7 +214,6 @@ fn go_on(
 
 // A plan of the box to which prices lead that are found from those of the box before, if there is
 // one.
-#[tactic(auto, using(crate::proofs::ImproveFacts::kept_in_box))]
 fn find_by_prices(
     alloc: Global,
     s: &Scenario,
@@ -325,20 +324,9 @@ fn least_of(bounds: &[Bound]) -> Bound
 {
     let mut least = Bound::NoPlan;
     for at in 0..bounds.len() {
-        least = lesser(least, bounds[at]);
+        least = least.lesser(bounds[at]);
     }
     least
-}
-
-// The lesser of two.
-fn lesser(first: Bound, second: Bound) -> Bound
-    ensures { result ≡ lesser first second }
-{
-    match (first, second) {
-        (Bound::NoPlan, second) => second,
-        (first, Bound::NoPlan) => first,
-        (Bound::AtLeast(first), Bound::AtLeast(second)) => Bound::AtLeast(first.min(second)),
-    }
 }
 
 // What is handed back of a whole tree.
@@ -472,7 +460,7 @@ pub fn search(
     requires nodes { 0 < budget.nodes }
     requires made { IsMadeFor (parts_of s.now) root.now }
     ensures record { IfOk result (IsSearchRecord (parts_of s.now) (box_of root.now) budget) }
-    ensures sound { IfOk result (λ found. IsBoundOn (parts_of s.now) (box_of root.now)
+    ensures sound { IfOk result (λ found. IsBoundIn (parts_of s.now) (box_of root.now)
         found.bound) }
 {
     let mut boxes = root.copy(alloc)?;

@@ -8,7 +8,7 @@ ghost use Rattle.dual_leaf.specs.Work.{IsRoomFor};
 ghost use Rattle.tree_search.specs.Rooms.{AreRoomsFor};
 ghost use Rattle.flow_types.specs.Scenario.{parts_of};
 ghost use Rattle.flow_types.specs.declared.bound.Bound.{Bound};
-ghost use Rattle.relaxed_bound.specs.Reached.{is_reached};
+ghost use Rattle.flow_types.specs.Bounds.{is_reached};
 ghost use Rattle.time_windows.specs.Held.{IsMadeFor, box_of};
 ghost use Rattle.time_windows.specs.Tight.{IsTight};
 ghost use Rattle.tree_search.specs.Seen.{IsBranchOf, IsSeen, may_split};
@@ -21,9 +21,8 @@ use crate::walk::Branch;
 use branch_tree::Leaf;
 use dual_leaf::LeafWork;
 use flow_types::{Bound, OutOfMemory, Scenario};
-use lagrange_bound::is_above;
 use price_ascent::Ascent;
-use relaxed_bound::{Point, Relaxed, is_reached, relax};
+use relaxed_bound::{Point, Relaxed, relax};
 use std::alloc::Global;
 use time_windows::Boxes;
 use valid_cuts::Pool;
@@ -80,7 +79,7 @@ pub fn see(
     }
 }
 
-// What is seen of a box that has a plan and a choice.
+// What is seen of a box in which no node that must be entered is closed, and which has a choice.
 fn see_open(
     alloc: Global,
     s: &Scenario,
@@ -109,7 +108,7 @@ fn see_open(
     if may_split(more, cutoff, run, priced.bound) {
         let branch = choose(s, boxes, &point, &rooms.prices.ascent, branch);
         Ok(Seen::Split(branch))
-    } else if is_above(priced.bound, run) {
+    } else if priced.bound.is_above(run) {
         let leaf = price_leaf(alloc, s, &rooms.prices, priced.source)?;
         Ok(Seen::Leaf {
             leaf,
@@ -124,7 +123,7 @@ fn see_open(
 fn may_split(more: bool, cutoff: Option<i64>, run: Bound, priced: Bound) -> bool
     ensures { result ≡ may_split more cutoff run priced }
 {
-    more && !is_reached(cutoff, run) && !is_reached(cutoff, priced)
+    more && !run.is_reached(cutoff) && !priced.is_reached(cutoff)
 }
 
 // Where to split the box, which has this branch: by the run's point, where there is one, and else

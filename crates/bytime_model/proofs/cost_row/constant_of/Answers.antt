@@ -8,8 +8,8 @@ pub plus-sum-requires-clause-sum : goal.plus-sum-requires-clause-sum
 plus-sum-requires-clause-sum c =
     let near = constant_near (parts_of c.args.s.now) c.loop-number.number c.args.s.now.valid in
     record {
-      down = omega (arith, ints, near.down, c.loop-number.invariant);
-      up = omega (arith, ints, near.up, c.loop-number.invariant);
+      low = omega (arith, ints, near.low, c.loop-number.invariant);
+      high = omega (arith, ints, near.high, c.loop-number.invariant);
     }
 
 pub loop-number-preserved : goal.loop-number-preserved

@@ -4,6 +4,6 @@ use Rattle.dual_leaf.proofs.OptionFacts.{no_plan_by}
 use Rattle.dual_leaf.proofs.plain.empty_bound.Goals as goal
 
 pub returns-in-Some-clause-sound : goal.returns-in-Some-clause-sound
-returns-in-Some-clause-sound c = λ plan feasible inside.
+returns-in-Some-clause-sound c =
     no_plan_by (parts_of c.args.s.now) (box_of c.args.boxes.now) c.in-Some.field-0.flight
-    c.in-Some.field-0.node c.requires.inside c.in-Some.ensures.here plan feasible inside
+    c.in-Some.field-0.node c.requires.inside c.in-Some.ensures.here

@@ -1,8 +1,9 @@
 use Rattle.std.proofs.Common.{length, ap, subst, sym, arith}
 use Rattle.flow_types.specs.Scenario.{parts_of}
 use Rattle.time_windows.specs.Held.{box_of}
-use Rattle.dual_leaf.specs.Leaf.{IsBoundOn, IsCostIn}
-use Rattle.priced_plans.specs.PricedBound.{IsNearBound}
+use Rattle.dual_leaf.specs.Leaf.{IsCostIn}
+use Rattle.time_windows.specs.Plans.{IsBoundIn}
+use Rattle.flow_types.specs.Bounds.{IsNearBound}
 use Rattle.dual_leaf.proofs.UnitSumFacts.{so_far_none, whole_cost, whole_near, whole_sound}
 use Rattle.dual_leaf.proofs.unit.unit_cost.Goals as goal
 
@@ -17,7 +18,7 @@ loop-number-init c =
 
 pub returns-clause-cost : goal.returns-clause-cost
 returns-clause-cost c =
-    subst (IsCostIn (parts_of c.args.s.now) (box_of c.args.boxes.now)) (sym c.bound_of.ensures)
+    subst (IsCostIn (parts_of c.args.s.now) (box_of c.args.boxes.now)) (sym c.of.ensures)
     (whole_cost (parts_of c.args.s.now) c.args.s.now.valid (box_of c.args.boxes.now)
     c.requires.unit c.loop-number.number c.loop-number.loads c.loop-number.sum
     (omega (
@@ -30,7 +31,7 @@ returns-clause-cost c =
 
 pub returns-clause-sound : goal.returns-clause-sound
 returns-clause-sound c =
-    subst (IsBoundOn (parts_of c.args.s.now) (box_of c.args.boxes.now)) (sym c.bound_of.ensures)
+    subst (IsBoundIn (parts_of c.args.s.now) (box_of c.args.boxes.now)) (sym c.of.ensures)
     (whole_sound (parts_of c.args.s.now) c.args.s.now.valid (box_of c.args.boxes.now)
     c.requires.unit c.loop-number.number c.loop-number.loads c.loop-number.sum
     (omega (
@@ -43,7 +44,7 @@ returns-clause-sound c =
 
 pub returns-clause-near : goal.returns-clause-near
 returns-clause-near c =
-    subst IsNearBound (sym c.bound_of.ensures)
+    subst IsNearBound (sym c.of.ensures)
     (whole_near (parts_of c.args.s.now) c.args.s.now.valid (box_of c.args.boxes.now)
     c.requires.unit c.loop-number.number c.loop-number.loads c.loop-number.sum
     (omega (

@@ -5,8 +5,8 @@ use Rattle.dual_leaf.specs.UnitSums.{IsSoFar}
 use Rattle.dual_leaf.proofs.UnitSumFacts.{next_near, so_far_more}
 use Rattle.dual_leaf.proofs.unit.with_next.Goals as goal
 
-pub plus-requires-clause-cost : goal.plus-requires-clause-cost
-plus-requires-clause-cost c =
+pub plus-requires-clause-more : goal.plus-requires-clause-more
+plus-requires-clause-more c =
     next_near (parts_of c.args.s.now) c.args.s.now.valid (box_of c.args.boxes.now)
     c.requires.unit c.args.flight c.args.loads.now c.add_next-cost.new.loads c.args.sum
     c.add_next-cost.result c.requires.flight (c.is_none.ensures ∙ ap not c.if-is_none.false)

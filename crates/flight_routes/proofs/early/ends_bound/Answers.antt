@@ -1,13 +1,14 @@
 use Rattle.std.proofs.Common.{◌+◌, ◌^◌, ◌<◌, ◌≤◌, ℕ, IfSome, IsSome, Option, ℤ, sym, subst}
 use Rattle.flight_routes.specs.Early.{IsNoMore}
 use Rattle.flight_routes.specs.RateLists.{rates_of}
-use Rattle.flight_routes.specs.Rates.{IsValueWithin, value_or_zero}
+use Rattle.flight_routes.specs.Rates.{value_or_zero}
+use Rattle.exact_sums.specs.Near.{IsNear}
 use Rattle.flight_routes.proofs.EarlyFacts.{leaves_next, lesser_within, pairs_next, small_wider}
 use Rattle.flight_routes.proofs.early.ends_bound.Goals as goal
 
 pub and-requires-clause-cost : goal.and-requires-clause-cost
 and-requires-clause-cost c =
-    small_wider c.lesser-from.result (subst (λ (o : Option ℤ). IfSome o (IsValueWithin (2 ^ 110)))
+    small_wider c.lesser-from.result (subst (λ (o : Option ℤ). IfSome o (IsNear (2 ^ 110)))
     (sym c.lesser-from.ensures)
     (lesser_within (2 ^ 110) c.loop-time.from c.leave_in.result c.loop-time.invariant.small
     c.leave_in.ensures.small))

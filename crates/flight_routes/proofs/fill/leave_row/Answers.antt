@@ -2,7 +2,7 @@ use Rattle.std.proofs.Common.{◌∙◌, ◌^◌, ℤ, None, pos, neg_ℤ, ap, s
 use Rattle.std.proofs.lemmas.Int.{ints}
 use Rattle.exact_sums.specs.Leasts.{raised}
 use Rattle.flight_routes.specs.RateLists.{rates_of}
-use Rattle.flight_routes.specs.Rates.{IsValueWithin}
+use Rattle.exact_sums.specs.Near.{IsNear}
 use Rattle.flight_routes.specs.Ready.{row_of}
 use Rattle.flight_routes.specs.Ways.{IsCell}
 use Rattle.flight_routes.proofs.MoveFacts.{part_all, part_at, window_last}
@@ -17,9 +17,9 @@ lower_row-requires-clause-end c =
 
 pub lower_row-requires-clause-small : goal.lower_row-requires-clause-small
 lower_row-requires-clause-small c =
-    part_all (IsValueWithin (2 ^ 100)) c.paid_part.result.now (pos 0) c.paid_part.ensures.length
+    part_all (IsNear (2 ^ 100)) c.paid_part.result.now (pos 0) c.paid_part.ensures.length
     (record { low = omega (arith, ints); high = omega (arith, ints) })
-    (λ t in_day. subst (IsValueWithin (2 ^ 100))
+    (λ t in_day. subst (IsNear (2 ^ 100))
     (sym (part_at c.args.rates.now.paid c.args.node (pos 0) c.paid_part.result.now
     c.paid_part.ensures.part t in_day))
     (c.requires.ready.day.small.paid c.args.node t))

@@ -4,7 +4,7 @@ use Rattle.flow_types.specs.Limits.{most_periods}
 use Rattle.time_windows.specs.Boxes.{IsInWindow}
 use Rattle.flight_routes.specs.Entries.{cell_in}
 use Rattle.flight_routes.specs.RateLists.{clear_in, paid_in, rates_of}
-use Rattle.flight_routes.specs.Rates.{IsValueWithin}
+use Rattle.exact_sums.specs.Near.{IsNear}
 use Rattle.flight_routes.specs.Ready.{row_of}
 use Rattle.flight_routes.proofs.MoveFacts.{offers_by, part_all, part_at, part_clear, window_last}
 use Rattle.flight_routes.proofs.fill.relax_leg.Goals as goal
@@ -32,9 +32,9 @@ relax-requires-clause-kept c =
 
 pub relax-requires-clause-small : goal.relax-requires-clause-small
 relax-requires-clause-small c =
-    part_all (IsValueWithin (2 ^ 100)) c.paid_part.result.now (pos 0) c.paid_part.ensures.length
+    part_all (IsNear (2 ^ 100)) c.paid_part.result.now (pos 0) c.paid_part.ensures.length
     (record { low = omega (arith, ints); high = omega (arith, ints) })
-    (λ t in_day. subst (IsValueWithin (2 ^ 100))
+    (λ t in_day. subst (IsNear (2 ^ 100))
     (sym (part_at c.args.rates.now.paid c.args.node (pos 0) c.paid_part.result.now
     c.paid_part.ensures.part t in_day))
     (c.requires.day.small.paid c.args.node t))
@@ -45,7 +45,7 @@ relax-requires-clause-costs c = λ u from to.
     let is = sym c.window_at.ensures ∙ c.in-Some.is in
     let last = window_last c.args.rates.now.periods (row_of c.args.accesses.now) c.args.leg.to
     next c.requires.windows is in
-    subst (λ (o : Option ℤ). IfSome o (IsValueWithin (2 ^ 111)))
+    subst (λ (o : Option ℤ). IfSome o (IsNear (2 ^ 111)))
     (sym (part_at c.args.cells.now c.args.leg.to None c.part_of.result.now c.part_of.ensures.part u
     (omega (arith, to, last.1, c.requires.day.few))))
     (c.requires.costs c.args.leg.to u

@@ -3,7 +3,7 @@ use Rattle.std.proofs.lemmas.List.{get_or_default}
 use Rattle.flow_types.specs.declared.plan.Stop.{Stop}
 use Rattle.flight_routes.specs.Firsts.{IsFirst, IsFirstAt, IsNext, IsNextAmong}
 use Rattle.flight_routes.specs.RateLists.{rates_of}
-use Rattle.flight_routes.specs.Rates.{IsValueWithin}
+use Rattle.exact_sums.specs.Near.{IsNear}
 use Rattle.flight_routes.specs.Ready.{row_of}
 use Rattle.flight_routes.specs.Ways.{HasLegsFrom, IsCell}
 use Rattle.flight_routes.proofs.CellFacts.{all_legs}
@@ -19,7 +19,7 @@ first_by-requires-clause-costs c = λ n u inside within.
 
 pub first_by-requires-clause-value : goal.first_by-requires-clause-value
 first_by-requires-clause-value c =
-    subst (λ (o : Option ℤ). IfSome o (IsValueWithin (2 ^ 111))) (sym c.cell_at-value.ensures)
+    subst (λ (o : Option ℤ). IfSome o (IsNear (2 ^ 111))) (sym c.cell_at-value.ensures)
     (cells_within c.args.flight.now (row_of c.args.accesses.now) (rates_of c.args.rates.now)
     c.requires.ready.network c.requires.ready.day.small 0 c.args.cells.now c.requires.cells
     c.args.stop.node c.args.stop.time (omega arith) (omega (arith, c.requires.node))

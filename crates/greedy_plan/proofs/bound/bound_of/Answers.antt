@@ -4,8 +4,8 @@ use Rattle.time_windows.specs.Held.{box_of}
 use Rattle.greedy_plan.proofs.BoundFacts.{IsPartSum, cost_small, part_more}
 use Rattle.greedy_plan.proofs.bound.bound_of.Goals as goal
 
-pub plus-sum-requires-clause-cost : goal.plus-sum-requires-clause-cost
-plus-sum-requires-clause-cost c =
+pub plus-sum-requires-clause-more : goal.plus-sum-requires-clause-more
+plus-sum-requires-clause-more c =
     cost_small (parts_of c.args.s.now) (box_of c.args.boxes.now) _ c.args.prices.now
     c.least_trip.result c.args.s.now.valid c.requires.free c.least_trip.ensures.least
 

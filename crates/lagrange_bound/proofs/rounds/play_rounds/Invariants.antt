@@ -2,7 +2,7 @@ use Rattle.flow_types.specs.Scenario.{parts_of}
 use Rattle.flight_routes.specs.Work.{IsWorkFor}
 use Rattle.plan_rules.specs.Loads.{IsMadeFor}
 use Rattle.time_windows.specs.Held.{box_of}
-use Rattle.priced_plans.specs.PricedBound.{IsNearBound}
+use Rattle.flow_types.specs.Bounds.{IsNearBound}
 use Rattle.lagrange_bound.specs.Work.{ArePlayed}
 use Rattle.lagrange_bound.proofs.rounds.play_rounds.Given as goal
 

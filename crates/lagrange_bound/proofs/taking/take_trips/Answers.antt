@@ -1,4 +1,5 @@
-use Rattle.std.proofs.Common.{◌+◌, ap, length, sym, subst, arith}
+use Rattle.std.proofs.Common.{◌+◌, ◌^◌, ap, length, sym, subst, arith}
+use Rattle.exact_sums.proofs.NearFacts.{near_wider}
 use Rattle.flow_types.specs.Scenario.{parts_of}
 use Rattle.time_windows.specs.Held.{box_of}
 use Rattle.lagrange_bound.specs.Taking.{IsTakenSum}
@@ -15,7 +16,8 @@ loop-number-init c = (
 
 pub plus-sum-requires-clause-sum : goal.plus-sum-requires-clause-sum
 plus-sum-requires-clause-sum c =
-    sum_near (parts_of c.args.s.now) (box_of c.args.boxes.now) c.args.prices.now
+    near_wider (2 ^ 100) (2 ^ 120) c.loop-number.sum (omega arith)
+    (sum_near (parts_of c.args.s.now) (box_of c.args.boxes.now) c.args.prices.now
     c.loop-number.number c.loop-number.loads c.loop-number.sum
     (omega (
       arith,
@@ -24,12 +26,13 @@ plus-sum-requires-clause-sum c =
       ap length c.flights-number-end.ensures,
       c.args.s.now.valid.flights_few,
     ))
-    c.loop-number.invariant.0
+    c.loop-number.invariant.0)
 
-pub plus-sum-requires-clause-cost : goal.plus-sum-requires-clause-cost
-plus-sum-requires-clause-cost c =
-    cost_near (parts_of c.args.s.now) c.args.prices.now c.args.s.now.valid c.requires.low
-    (box_of c.args.boxes.now) _ c.take_trip.result c.take_trip.ensures.least
+pub plus-sum-requires-clause-more : goal.plus-sum-requires-clause-more
+plus-sum-requires-clause-more c =
+    near_wider (2 ^ 84) (2 ^ 120) c.take_trip.result (omega arith)
+    (cost_near (parts_of c.args.s.now) c.args.prices.now c.args.s.now.valid c.requires.low
+    (box_of c.args.boxes.now) _ c.take_trip.result c.take_trip.ensures.least)
 
 pub loop-number-preserved : goal.loop-number-preserved
 loop-number-preserved c = (

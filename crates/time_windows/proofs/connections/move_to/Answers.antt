@@ -5,8 +5,8 @@ use Rattle.time_windows.proofs.connections.move_to.Goals as goal
 pub returns-clause-step : goal.returns-clause-step
 returns-clause-step c =
     settled_step (parts_of c.args.s.now) c.args.flight c.args.node c.args.window
-    c.args.accesses.now c.set_window.new.accesses c.settle.new.accesses c.args.waiting.now.words
-    c.insert.new.self.words c.requires.flight c.requires.sound c.requires.within c.requires.proper
+    c.args.accesses.now c.set_window.new.accesses c.settle.new.accesses c.args.waiting.now
+    c.insert.new.self c.requires.flight c.requires.sound c.requires.within c.requires.proper
     c.requires.kept
     (rw (c.width_of.ensures, c.width_of-2.ensures, c.window_at.ensures) at c.if-width_of.false)
     c.set_window.ensures c.settle.ensures c.insert.ensures

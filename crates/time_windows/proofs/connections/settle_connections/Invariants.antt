@@ -2,16 +2,16 @@ use Rattle.std.proofs.Common.{◌+◌, ◌*◌, All, length}
 use Rattle.flow_types.specs.Scenario.{parts_of}
 use Rattle.time_windows.specs.Narrowing.{AreTightRows, AreWaiting, IsDone, Narrows, total_width}
 use Rattle.time_windows.specs.Tight.{IsTight}
-use Rattle.time_windows.specs.Waiting.{count_in}
+use Rattle.number_set.specs.Few.{count_in}
 use Rattle.time_windows.proofs.connections.settle_connections.Given as goal
 
 abbrev pub invariant-loop-flight : goal.invariant-loop-flight
 invariant-loop-flight l =
     Narrows (IsTight (parts_of l.s)) l.initial.accesses l.accesses
     × AreTightRows (parts_of l.s) l.accesses
-    × AreWaiting (parts_of l.s) l.waiting.words
-    × All (IsDone (parts_of l.s) l.accesses l.waiting.words) (parts_of l.s).connections
+    × AreWaiting (parts_of l.s) l.waiting
+    × All (IsDone (parts_of l.s) l.accesses l.waiting) (parts_of l.s).connections
 
 abbrev pub decreases-loop-flight : goal.decreases-loop-flight
 decreases-loop-flight l = total_width l.accesses * (length (parts_of l.s).flights + 1)
-    + count_in l.waiting.words (length (parts_of l.s).flights)
+    + count_in l.waiting (length (parts_of l.s).flights)

@@ -26,29 +26,29 @@ settle_turns-requires-2-clause-turns c =
 pub returns-clause-step : goal.returns-clause-step
 returns-clause-step c =
     step_then (parts_of c.args.s.now) c.args.accesses.now c.settle_turns.new.accesses
-    c.settle_turns-2.new.accesses c.args.waiting.now.words c.settle_turns.new.waiting.words
-    c.settle_turns-2.new.waiting.words c.settle_turns.ensures.step c.settle_turns-2.ensures.step
+    c.settle_turns-2.new.accesses c.args.waiting.now c.settle_turns.new.waiting
+    c.settle_turns-2.new.waiting c.settle_turns.ensures.step c.settle_turns-2.ensures.step
 
 pub returns-clause-departures : goal.returns-clause-departures
 returns-clause-departures c =
     let parts = parts_of c.args.s.now in
     all_done parts c.settle_turns.new.accesses c.settle_turns-2.new.accesses
-    c.settle_turns.new.waiting.words c.settle_turns-2.new.waiting.words
+    c.settle_turns.new.waiting c.settle_turns-2.new.waiting
     (λ connection. connection.second ≡ c.args.flight) parts.connections
     c.settle_turns-2.ensures.step
-    (turns_done parts c.settle_turns.new.accesses c.settle_turns.new.waiting.words Departure
+    (turns_done parts c.settle_turns.new.accesses c.settle_turns.new.waiting Departure
     c.args.flight
     (subst (All (λ turn. IsDone parts c.settle_turns.new.accesses
-    c.settle_turns.new.waiting.words (connection_at Departure c.args.flight turn)))
+    c.settle_turns.new.waiting (connection_at Departure c.args.flight turn)))
     (c.of_flight-departures.ensures
     ∙ c.requires.turns.departures c.args.flight c.requires.flight) c.settle_turns.ensures.done))
 
 pub returns-clause-arrivals : goal.returns-clause-arrivals
 returns-clause-arrivals c =
     let parts = parts_of c.args.s.now in
-    turns_done parts c.settle_turns-2.new.accesses c.settle_turns-2.new.waiting.words Arrival
+    turns_done parts c.settle_turns-2.new.accesses c.settle_turns-2.new.waiting Arrival
     c.args.flight
     (subst (All (λ turn. IsDone parts c.settle_turns-2.new.accesses
-    c.settle_turns-2.new.waiting.words (connection_at Arrival c.args.flight turn)))
+    c.settle_turns-2.new.waiting (connection_at Arrival c.args.flight turn)))
     (c.of_flight-arrivals.ensures
     ∙ c.requires.turns.arrivals c.args.flight c.requires.flight) c.settle_turns-2.ensures.done)

@@ -5,5 +5,5 @@ use Rattle.time_windows.proofs.connections.settle_turn.Goals as goal
 pub returns-clause-step : goal.returns-clause-step
 returns-clause-step c =
     step_then (parts_of c.args.s.now) c.args.accesses.now c.raise_turn.new.accesses
-    c.lower_turn.new.accesses c.args.waiting.now.words c.raise_turn.new.waiting.words
-    c.lower_turn.new.waiting.words c.raise_turn.ensures.step c.lower_turn.ensures.step
+    c.lower_turn.new.accesses c.args.waiting.now c.raise_turn.new.waiting
+    c.lower_turn.new.waiting c.raise_turn.ensures.step c.lower_turn.ensures.step

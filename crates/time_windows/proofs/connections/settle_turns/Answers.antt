@@ -18,13 +18,13 @@ pub loop-turn-preserved : goal.loop-turn-preserved
 loop-turn-preserved c =
     let parts = parts_of c.args.s.now in (
       step_then parts c.args.accesses.now c.loop-turn.accesses c.settle_turn.new.accesses
-          c.args.waiting.now.words c.loop-turn.waiting.words c.settle_turn.new.waiting.words
+          c.args.waiting.now c.loop-turn.waiting c.settle_turn.new.waiting
           c.loop-turn.invariant.0 c.settle_turn.ensures.step,
-      turn_more parts c.loop-turn.accesses c.settle_turn.new.accesses c.loop-turn.waiting.words
-          c.settle_turn.new.waiting.words c.args.end c.args.flight c.loop-turn.turn-index
+      turn_more parts c.loop-turn.accesses c.settle_turn.new.accesses c.loop-turn.waiting
+          c.settle_turn.new.waiting c.args.end c.args.flight c.loop-turn.turn-index
           c.args.turns.now no_turn (omega (arith, c.loop-turn-test.true))
           c.settle_turn.ensures.step c.loop-turn.invariant.1
-          (subst (IsDone parts c.settle_turn.new.accesses c.settle_turn.new.waiting.words)
+          (subst (IsDone parts c.settle_turn.new.accesses c.settle_turn.new.waiting)
           c.connection_at.ensures c.settle_turn.ensures.done),
     )
 

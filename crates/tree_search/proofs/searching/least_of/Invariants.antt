@@ -1,5 +1,5 @@
 use Rattle.std.proofs.Common.{◌≡◌, drop}
-use Rattle.tree_search.specs.Bounds.{least_of, lesser}
+use Rattle.flow_types.specs.Bounds.{least_of, lesser}
 use Rattle.tree_search.proofs.searching.least_of.Given as goal
 
 abbrev pub invariant-loop-at : goal.invariant-loop-at

@@ -2,7 +2,7 @@ use Rattle.std.proofs.Common.{List, IfSome, Option, subst}
 use Rattle.flow_types.specs.declared.plan.Stop.{Stop}
 use Rattle.flow_types.specs.Scenario.{parts_of}
 use Rattle.time_windows.specs.Held.{box_of}
-use Rattle.tree_search.specs.Records.{IsPlanIn}
+use Rattle.time_windows.specs.Plans.{IsPlanIn}
 use Rattle.tree_search.proofs.ImproveFacts.{improved_on}
 use Rattle.tree_search.proofs.searching.offer_found.Goals as goal
 
