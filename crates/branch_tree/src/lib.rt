@@ -20,11 +20,11 @@
 //! The definitions stand in `specs/`: `Leaves` (how large the numbers of a leaf may be) and `Trees`
 //! (which lists are trees). What splits and leaves say of boxes is defined above.
 //!
-//! Proved: `from_nodes` makes the tree of the nodes, or gives them back, and that exactly where they
-//! aren't one tree's (`tree`, `back`, `none`).
+//! Proved: `from_nodes` makes the tree of the nodes, or gives them back, and that exactly where
+//! they aren't one tree's (`tree`, `back`, `none`).
 //!
-//! Memory: 24 bytes a multiplier and some 40 a node, or up to twice that, since lists grow. The calls
-//! take none.
+//! Memory: 24 bytes a multiplier and some 40 a node, or up to twice that, since lists grow. The
+//! calls take none.
 #![tactic(auto)]
 
 mod leaf;

@@ -25,7 +25,8 @@ pub enum TreeNode {
 pub type TreeNodes = Sequence<TreeNode>;
 
 /// A tree, kept as the list of its nodes in preorder: a split, its left tree, its right tree. So no
-/// call goes down a deep tree call by call. Contracts see that list, and know that it is one tree's.
+/// call goes down a deep tree call by call. Contracts see that list, and know that it is one
+/// tree's.
 #[derive(Debug, Drop)]
 pub struct Tree {
     nodes: TreeNodes,

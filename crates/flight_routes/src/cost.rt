@@ -54,7 +54,7 @@ impl Cost {
         }
     }
 
-    /// The same as an `Option`.
+    /// The cost as an `Option`.
     pub fn get(self) -> Option<i128>
         ensures { result ≡ self }
     {

@@ -168,7 +168,7 @@ fn leave_row(
     lower_row(rates.paid_part(node), window, row);
 }
 
-// The same at any node.
+// Fills the row of any node, the last one among them.
 fn fill_row(
     flight: &Flight,
     accesses: &[Access],

@@ -37,7 +37,7 @@ fn has_space(s: &Scenario, loads: &Loads, kind: CapKind, place: u32, time: u16) 
     loads.load(kind, place, time) < s.capacity(kind, place, time)
 }
 
-// The same cost in 128 bits.
+// A cost in 128 bits.
 fn widened(cost: Option<i64>) -> Option<i128>
     ensures value { result ≡ cost }
     ensures within { IfSome result (IsNear (2 ^ 110)) }
@@ -82,7 +82,8 @@ fn value_at(s: &Scenario, flight: u32, end: End, time: u16) -> Option<i128>
     }
 }
 
-// The same, nothing where the flight may not leave or arrive then: out of time, or without room.
+// What this end of the trip costs in the period; nothing where the flight may not leave or arrive
+// then: out of time, or without room.
 fn fit_at(s: &Scenario, flight: u32, end: End, time: u16, bound: u32, loads: &Loads) -> Option<i128>
     requires loads { IsMadeFor (parts_of s.now) loads.now }
     requires flight { flight < length (parts_of s.now).flights }
@@ -129,7 +130,7 @@ fn set_end(
     }
 }
 
-// The same where the node at that end may be closed, so that there is no period to set.
+// Sets what that end of the trip costs, where its node is open; a closed one has no period to set.
 fn set_end_in(
     table: &mut RateTable,
     s: &Scenario,

@@ -151,8 +151,8 @@ fn set_paid(table: &mut RateTable, s: &Scenario, node: u16, place: u32, prices: 
     }
 }
 
-// The same with the connections that the flight has there: each costs from its departure on, and
-// pays back from the turnaround after its arrival on.
+// Sets what an end of the trip costs in each period, with the connections that the flight has
+// there: each costs from its departure on, and pays back from the turnaround after its arrival on.
 fn set_end_rates(
     table: &mut RateTable,
     sums: &mut [u128],
@@ -187,7 +187,7 @@ fn set_end_rates(
     set_end(table, s, flight, end, window, weight, prices, sums);
 }
 
-// The same where the node at that end may be closed, so that there is no period to set.
+// Sets what that end of the trip costs, where its node is open; a closed one has no period to set.
 fn set_end_in(
     table: &mut RateTable,
     sums: &mut [u128],

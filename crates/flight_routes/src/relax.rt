@@ -50,7 +50,7 @@ pub fn entry_at(paid: &[i128], cells: &[Cost], time: u16) -> Cost
     cells[usize::from(time)].plus(paid[usize::from(time)])
 }
 
-// The same, if the next node is open then.
+// What an entry in the period costs, with a way on from there, if the next node is open then.
 fn entered_of(paid: &[i128], cells: &[Cost], next: Window, time: u16) -> Cost
     requires paid { length paid.now ≡ most_periods }
     requires cells { length cells.now ≡ most_periods }

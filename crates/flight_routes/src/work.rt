@@ -251,8 +251,8 @@ fn whole_way(
     least
 }
 
-// The same. Where ways may end late, it looks among those that end early first: while a later one
-// may cost as little, among those that have twice as many periods.
+// The least way, and its stops. Where ways may end late, it looks among those that end early first:
+// while a later one may cost as little, among those that have twice as many periods.
 fn least_way(
     table: &mut Table,
     flight: &Flight,

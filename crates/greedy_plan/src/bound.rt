@@ -17,8 +17,8 @@ use flow_types::{Bound, OutOfMemory, Scenario};
 use std::alloc::Global;
 use time_windows::Boxes;
 
-/// A bound on the cost of the plans in the box: the sum over the flights of the least cost of a trip
-/// in it, as if each flight were alone; that no plan exists, where a flight has no trip there.
+/// A bound on the cost of the plans in the box: the sum over the flights of the least cost of a
+/// trip in it, as if each flight were alone; that no plan exists, where a flight has no trip there.
 ///
 /// The box is one of the scenario. It takes memory for prices, which are all 0, and for the room in
 /// which least trips are found; time as a least trip for each flight.

@@ -50,8 +50,8 @@ fn moved_by_capacity(
     }
 }
 
-/// 1 where a time, and so long after it, is no later than the period; 0 elsewhere, and where there is
-/// no time.
+/// 1 where a time, and so long after it, is no later than the period; 0 elsewhere, and where there
+/// is no time.
 pub fn is_by(time: Option<u16>, after: u16, period: u16) -> u32
     ensures { result ≡ is_by time after period }
 {

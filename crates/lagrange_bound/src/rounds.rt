@@ -78,8 +78,8 @@ impl Rounds {
     /// none, since a flight has no trip in the box. The bound is nearer to 0 than 2^115.
     ///
     /// The room and the box are of the scenario. With no round the prices are 0, and after round
-    /// 1,024 none moves them any more. It takes no memory, and time as a least trip for each flight,
-    /// and for each place and period, once more often than there are rounds up to 1,024.
+    /// 1,024 none moves them any more. It takes no memory, and time as a least trip for each
+    /// flight, and for each place and period, once more often than there are rounds up to 1,024.
     pub fn play(&mut self, s: &Scenario, boxes: &Boxes, rounds: u32) -> Bound
         requires made { IsRoomFor (parts_of s.now) self.old }
         requires boxes { IsMadeFor (parts_of s.now) boxes.now }

@@ -6,17 +6,17 @@
 //!     waiting.remove(7);
 //!     assert!(waiting.first() == Some(3));
 //!
-//! A set has a bit for each number, 64 to a word, and a bit for each word that has one. `FewNumbers`
-//! is one of numbers below 2,048 that lies where it is made.
+//! A set has a bit for each number, 64 to a word, and a bit for each word that has one.
+//! `FewNumbers` is one of numbers below 2,048 that lies where it is made.
 //!
 //! Proved: a set that is made has no numbers (`none`); `insert` and `remove` change whether the
-//! number is in the set and nothing else; `contains` tells it; `first` gives the least number of the
-//! set, or that there is none. Of few numbers, `below` makes those below a count, `insert` adds one,
-//! and `pop_first` takes the first away and no other.
+//! number is in the set and nothing else; `contains` tells it; `first` gives the least number of
+//! the set, or that there is none. Of few numbers, `below` makes those below a count, `insert` adds
+//! one, and `pop_first` takes the first away and no other.
 //!
 //! Memory: a bit for each number below the bound, and a sixty-fourth of that. Only `NumberSet::new`
-//! takes any. Time: `insert`, `remove` and `contains` take the same for any set, and `first` goes over a word
-//! for each 4,096 numbers below the least.
+//! takes any. Time: `insert`, `remove` and `contains` take the same for any set, and `first` goes
+//! over a word for each 4,096 numbers below the least.
 #![tactic(auto)]
 
 mod bits;

@@ -24,14 +24,15 @@
 //! Proved: what is handed on keeps every rule and is in the box; and where the start keeps every
 //! rule too, it costs less (`cheaper`). The search itself is free to do what it likes, since the
 //! plan in which it ends is judged. That it finds one, and how much less it costs, no clause says.
-//! The lots come from one generator with a fixed seed, so the same day, box, start, prices and bound
-//! give the same plan, and the number of trials is bounded by the flights, their legs and the day.
+//! The lots come from one generator with a fixed seed, so the same day, box, start, prices and
+//! bound give the same plan, and the number of trials is bounded by the flights, their legs and the
+//! day.
 //!
 //! Memory: 0.9 MB, and twelve bytes a place and period, once; while a search runs, the stops of
 //! three plans, of which two stay. Time: twice a least trip for each flight; and forty trials a
 //! flight, fewer on long days with many legs, each with a least trip or two for each flight that it
-//! takes out and a look at each flight. It ends before where the plan costs no more than a bound that
-//! is enough.
+//! takes out and a look at each flight. It ends before where the plan costs no more than a bound
+//! that is enough.
 #![tactic(auto)]
 
 mod cells;

@@ -221,7 +221,7 @@ pub fn turn_slopes(
     turned
 }
 
-// The same with one price more, whose limit is exceeded so far.
+// What is known of the slopes with one price more, whose limit is exceeded so far.
 fn counted(turned: Turned, excess: i64, price: u64) -> Turned
     requires { price < 2 ^ 62 }
 {

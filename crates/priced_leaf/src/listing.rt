@@ -108,7 +108,8 @@ fn list_prices(alloc: Global, s: &Scenario, prices: &Prices) -> Result<Multiplie
 /// tell at this weight.
 ///
 /// The weight is above 0 and below 2^62. The prices are of the scenario, and 0 wherever a place has
-/// no capacity of the kind. The leaf takes 24 bytes for each price that isn't 0, or up to twice that. Time: for each price.
+/// no capacity of the kind. The leaf takes 24 bytes for each price that isn't 0, or up to twice
+/// that. Time: for each price.
 pub fn lag_leaf(
     alloc: Global,
     s: &Scenario,

@@ -18,7 +18,7 @@ pub fn divisor_of(entries: &[WideEntry]) -> u128
     common_divisor(entries)
 }
 
-// The same, where there are some.
+// The greatest common divisor of values of which there are some.
 fn common_divisor(entries: &[WideEntry]) -> u128
     requires some { 0 < length entries.now }
     requires no_zeros { All (λ entry. entry.value ≢ pos 0) entries.now }
@@ -60,7 +60,7 @@ fn gcd(a: u128, b: u128) -> u128
     x
 }
 
-// The same, in 64 bits.
+// The greatest common divisor of two numbers of 64 bits.
 fn gcd_narrow(a: u64, b: u64) -> u64
     ensures { IsGcd a b result }
 {

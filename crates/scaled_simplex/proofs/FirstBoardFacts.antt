@@ -1,4 +1,5 @@
--- The first board: its rows as they are pushed, and the signs of their right sides as they are said.
+-- The first board: its rows as they are pushed, and the signs of their right sides as they are
+-- said.
 use Rattle.std.proofs.Common.{◌≡◌, inl, inr, ℕ, zero, suc, ◌+◌, ◌-◌, ◌<◌, ◌≤◌, Bool, true, false, IsTrue, not, nat_le, List, [], ◌∷◌, ◌++◌, length, length-append, take, slice_index, slice_index_or, All, ℤ, pos, nat_abs, int_lt, refl, sym, ap, ap₂, ◌∙◌, subst, append-nil, arith}
 use Rattle.std.specs.List.{flat_map, range_with_len}
 use Rattle.std.proofs.lemmas.Bool.{cases_eq, leb-false}

@@ -1,5 +1,5 @@
--- What multipliers of the constraints tell of a program: with a weight of the cost, that no values of
--- the columns that are 0 or more and keep the constraints cost less than a value.
+-- What multipliers of the constraints tell of a program: with a weight of the cost, that no values
+-- of the columns that are 0 or more and keep the constraints cost less than a value.
 use Rattle.std.specs.Prelude.{◌≡◌, ℕ, ◌<◌, false, true, List, [], ◌∷◌, length, map, slice_index_or, All, ℤ, pos, neg_ℤ, ◌+ℤ◌, ◌-ℤ◌, ◌*ℤ◌, ◌≤ℤ◌, ◌<ℤ◌}
 use Rattle.std.specs.List.{range_with_len}
 use Rattle.row_arena.specs.Rows.{entry_at}

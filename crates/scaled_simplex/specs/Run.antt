@@ -15,8 +15,8 @@ use Rattle.scaled_simplex.specs.Program.{Problem, columns}
 use Rattle.scaled_simplex.specs.Search.{first_best}
 use Rattle.scaled_simplex.specs.Tableau.{Tableau, bare_row, first_tableau, right_side, weight_index}
 
--- how a run ended, and the row that tells the multipliers: the cost row, or after Infeasible the row
--- that no column can repair
+-- how a run ended, and the row that tells the multipliers: the cost row, or after Infeasible the
+-- row that no column can repair
 pub record Outcome : Type 0 where
   pub end : End
   pub row : List Entry

@@ -1,6 +1,6 @@
--- Tableaus: a row for each constraint, and the cost row after them, in whole numbers. With n columns
--- and m constraints, the indices below n are the columns, n + k is what constraint k leaves of its
--- limit, n + m is the right side, and n + m + 1 the weight of the cost.
+-- Tableaus: a row for each constraint, and the cost row after them, in whole numbers. With n
+-- columns and m constraints, the indices below n are the columns, n + k is what constraint k leaves
+-- of its limit, n + m is the right side, and n + m + 1 the weight of the cost.
 use Rattle.std.specs.Prelude.{ℕ, ◌+◌, List, [], ◌∷◌, ◌++◌, length, slice_index_or, pos, neg_ℤ}
 use Rattle.std.specs.List.{range_with_len}
 use Rattle.row_arena.specs.declared.entry.Entry.{Entry}

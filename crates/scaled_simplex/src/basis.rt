@@ -6,8 +6,8 @@ use flow_types::OutOfMemory;
 use number_set::NumberSet;
 use std::alloc::Global;
 
-/// The index that each row stands for, the row of each such index, and those of them whose rows have
-/// a negative right side.
+/// The index that each row stands for, the row of each such index, and those of them whose rows
+/// have a negative right side.
 #[derive(Debug, Drop)]
 pub struct Basis {
     pub index_of: Vec<u32>,

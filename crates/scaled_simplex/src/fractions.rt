@@ -58,7 +58,7 @@ pub fn fractions_of(
     }
 }
 
-// The same, where the multiple is near.
+// The point, where the multiple isn't too far from 0.
 fn point_over(
     alloc: Global,
     board: &Board,
@@ -78,7 +78,7 @@ fn point_over(
     })
 }
 
-// The same, where it is too far from 0.
+// That there is no point in numbers, since the multiple is too far from 0.
 fn too_wide(passed: Passed) -> Fractions
     requires { passed.multiple < 2 ^ 124 }
     ensures { result ≡ TooWide passed.columns (pos passed.multiple) }

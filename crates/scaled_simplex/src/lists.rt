@@ -9,9 +9,9 @@ use std::marker::Model;
 // How many rows more make no list long.
 const MORE: usize = 65_536;
 
-/// For each index a list of rows, among which are all that have an entry there. Rows are added where
-/// an entry comes about, and not taken away where one goes, so the lists are made anew when they
-/// have become long.
+/// For each index a list of rows, among which are all that have an entry there. Rows are added
+/// where an entry comes about, and not taken away where one goes, so the lists are made anew when
+/// they have become long.
 #[derive(Debug, Drop)]
 pub struct RowLists {
     lists: Vec<Sequence<u32>>,

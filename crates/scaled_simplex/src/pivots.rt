@@ -193,8 +193,8 @@ fn leave_row(
 }
 
 /// Turns the row that leaves round and lets it stand for the index that enters, and clears all
-/// others there. Where a number or the number of entries passes what there is room for, the cost row
-/// is as before.
+/// others there. Where a number or the number of entries passes what there is room for, the cost
+/// row is as before.
 pub fn pivot(
     board: &mut Board,
     alloc: Global,

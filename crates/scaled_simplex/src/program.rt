@@ -104,8 +104,8 @@ impl Program {
 
     /// Adds a constraint. The terms are by ascending column, over the program's columns, none with
     /// the factor 0; factors and limit are no further from 0 than `MOST_ENTRY`. Columns and
-    /// constraints together stay below 2^32 - 2. It takes 16 bytes a term and some 40 more. After an
-    /// error the program is as before.
+    /// constraints together stay below 2^32 - 2. It takes 16 bytes a term and some 40 more. After
+    /// an error the program is as before.
     pub fn add_row(&mut self, alloc: Global, terms: &[Entry], limit: i64) -> Result<(), OutOfMemory>
         requires row { IsConstraint (columns self.old) (record { terms = terms.now; limit = limit }) }
         requires few { columns self.old + length self.old.constraints < most_indices }

@@ -24,7 +24,7 @@ pub fn turn_of(board: &Board, program: &Program, cutoff: Option<i64>) -> Turn
     turn_leaving(board, program, leaving(board, program))
 }
 
-// The same where the value hasn't reached the cutoff.
+// How the run goes on where the value hasn't reached the cutoff.
 fn turn_leaving(board: &Board, program: &Program, leaves: Option<u32>) -> Turn
     requires board { IsBoard program.now board.now }
     requires leaves { leaves ≡ leaving program.now (tableau_of board.now) }
@@ -39,7 +39,7 @@ fn turn_leaving(board: &Board, program: &Program, leaves: Option<u32>) -> Turn
     }
 }
 
-// The same where a row leaves.
+// How the run goes on where a row leaves.
 fn turn_entering(row: u32, enters: Option<u32>) -> Turn
     ensures { result ≡ turn_entering row enters }
 {

@@ -87,7 +87,7 @@ fn settle_flight(
     settle_turns(accesses, waiting, ways, s, arrivals, flight, End::Arrival);
 }
 
-// The same at connections that the flight has at this end.
+// Narrows the windows at the connections that the flight has at this end.
 fn settle_turns(
     accesses: &mut [Access],
     waiting: &mut FewNumbers,

@@ -26,17 +26,17 @@
 //!
 //! The definitions stand in `specs/`: `Boxes` (a box, the root box, and what it is for a trip or a
 //! plan to be in one), `Tight` (what a tight box is), `Splits` (the sides of a split), `Groups`
-//! (lists of items in one block), `Turns` with `Ends` (the connections of each flight), `Held` (what
-//! `Boxes` holds) and `Path` (a path of boxes, and the log that keeps it). `Steps` and
+//! (lists of items in one block), `Turns` with `Ends` (the connections of each flight), `Held`
+//! (what `Boxes` holds) and `Path` (a path of boxes, and the log that keeps it). `Steps` and
 //! `Narrowing` serve the proof of `tighten`, and `Trail` that of the trail.
 //!
 //! Proved: `tighten` leaves the widest tight box within (`tight`), loses no plan that keeps the
 //! turnarounds (`kept`), and tells the first node that must be entered and is closed (`told`). The
 //! root box holds every plan (`trips_are_in_the_root_box`), and each plan of a box is in one of the
 //! two sides of a split, and in one alone (`splits_share_out_plans`). What was made for a scenario
-//! stays so, within its root box, where it is narrowed or tightened (`made`). `Trail::down` adds the
-//! tight box of the side to the path, and `up` takes exactly the last box away: the boxes above are
-//! what they were (`above`).
+//! stays so, within its root box, where it is narrowed or tightened (`made`). `Trail::down` adds
+//! the tight box of the side to the path, and `up` takes exactly the last box away: the boxes above
+//! are what they were (`above`).
 //!
 //! Memory: 16 bytes for each of 32 nodes a flight, a copy of the legs, and 24 bytes a connection
 //! and 16 a flight. In a root box what is of the legs and the connections may take up to twice

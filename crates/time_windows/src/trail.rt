@@ -33,9 +33,9 @@ enum Change {
 }
 
 /// A path of boxes, from a first one down to the present one, each the tight box of a side of a
-/// split of the one above it. Contracts see it as a `Path`: the present box, and those above it, the
-/// nearest first. It keeps one box and a log of its changes: beside the box, 8 bytes for each of 32
-/// nodes a flight, and 16 for each change of a node on the way and each step down.
+/// split of the one above it. Contracts see it as a `Path`: the present box, and those above it,
+/// the nearest first. It keeps one box and a log of its changes: beside the box, 8 bytes for each
+/// of 32 nodes a flight, and 16 for each change of a node on the way and each step down.
 #[derive(Debug, Drop)]
 pub struct Trail {
     boxes: Boxes,

@@ -1,6 +1,6 @@
 -- A whole record, worked out: a box of the day of two flights that holds one plan, in which the
--- second flight leaves in the period after. The greedy plan is that one and costs 1; the tree is one
--- Unit leaf, whose bound is 1.
+-- second flight leaves in the period after. The greedy plan is that one and costs 1; the tree is
+-- one Unit leaf, whose bound is 1.
 use Rattle.std.proofs.Common.{◌≡◌, inl, ℕ, zero, suc, ◌+◌, ◌==◌, ◌<◌, ◌≤◌, ◌||◌, true, false, List, [], ◌∷◌, length, slice_get, None, Some, All, AllPairs, pos, refl, sym, ap, ◌∙◌, subst, arith}
 use Rattle.std.specs.List.{Any}
 use Rattle.std.proofs.lemmas.List.Elements.{All-nil}

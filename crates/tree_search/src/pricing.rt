@@ -96,8 +96,8 @@ fn looks_of(s: &Scenario) -> u64 {
 }
 
 /// The greatest bound that rounds of prices tell; or, where neither that nor the bound of the run
-/// reaches the cutoff, what the prices tell that the climb before has kept, if that is more; with no
-/// cutoff, also that no plan is in the box.
+/// reaches the cutoff, what the prices tell that the climb before has kept, if that is more; with
+/// no cutoff, also that no plan is in the box.
 pub fn price(
     s: &Scenario,
     boxes: &Boxes,

@@ -258,7 +258,7 @@ fn climb_on(
     offer_found(s, walk, draft, found)
 }
 
-// The same, and offers the greedy plan of the next box.
+// Goes on to the next box, if one waits, and offers its greedy plan.
 fn step(
     alloc: Global,
     s: &Scenario,
@@ -280,7 +280,7 @@ fn step(
     Ok(true)
 }
 
-// The same, after a climb in the present box.
+// Goes on to the next box after a climb in the present one.
 fn advance(
     alloc: Global,
     s: &Scenario,
@@ -406,7 +406,7 @@ fn search_in(
     search_from(alloc, s, budget, rooms, &mut walk, draft)
 }
 
-// The same, with all that is written down.
+// Searches from the tight box on, and gives all that is written down.
 fn draft_of(
     alloc: Global,
     s: &Scenario,
@@ -425,7 +425,7 @@ fn draft_of(
     Ok(draft)
 }
 
-// The same, in new rooms.
+// Searches from the tight box on, in rooms that are made for it.
 fn search_tight(
     alloc: Global,
     s: &Scenario,
