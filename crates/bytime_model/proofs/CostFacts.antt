@@ -306,9 +306,9 @@ flight_constant_near parts flight valid ok =
     let periods = parts.day.periods in
     let short = valid.day.periods_to in
     let total = total_within parts.tables flight.mg flight.md (most_late periods flight) flight.cost
-    valid.tables ok.cost (omega (arith, short)) in
+    valid.tables.each ok.cost (omega (arith, short)) in
     let credit = credit_within parts.tables flight.mg flight.md (most_wait periods flight)
-    flight.cost valid.tables ok.cost (omega (arith, short)) in
+    flight.cost valid.tables.each ok.cost (omega (arith, short)) in
     record {
       low = omega (arith, ints, total.low, credit.high);
       high = omega (arith, ints, total.high, credit.low);
@@ -357,11 +357,11 @@ pub constant_near : (parts : Parts) (number : ℕ) → IsScenario parts
     → IsNear (2 ^ 60)
     (constants parts.tables parts.day.periods (take number parts.flights))
 constant_near parts number valid =
-    let few = valid.flights_few in
+    let few = valid.flights.few in
     let taken = length-take number parts.flights in
     let near = constants_near parts (take number parts.flights) valid
     (All-take (IsFlight parts.day.periods parts.places parts.tables) number parts.flights
-    valid.flights) in
+    valid.flights.each) in
     record {
       low = omega (arith, ints, near.low, few, taken);
       high = omega (arith, ints, near.high, few, taken);

@@ -426,14 +426,15 @@ module _ (parts : Parts) where
     connect_once c t None is = tt
     connect_once c t (Some connection) is =
         turn_once connection (last_node (slice_get parts.flights connection.first)) t
-        (All-item (IsConnection parts.flights) parts.connections c connection scenario.connections
+        (All-item (IsConnection parts.flights) parts.connections c connection
+        scenario.connections.each
         is)
 
     capacity_once : (k : CapKind) (place t : ℕ)
         → Once (over_flights (use_terms k place t) 0 parts.flights)
     capacity_once k place t =
         over_once (use_terms k place t) (λ f flight. use_flight f k place t flight)
-        (IsFlight parts.day.periods parts.places parts.tables) 0 parts.flights scenario.flights
+        (IsFlight parts.day.periods parts.places parts.tables) 0 parts.flights scenario.flights.each
         (λ f flight is. use_once f parts.day.periods parts flight is k place t)
 
     of_once : (f : ℕ) (terms : Flight → List Term) (found : Option Flight)
@@ -489,7 +490,8 @@ module _ (parts : Parts) where
     cost_collected = record {
       once = ascending_pairs AreOther (cost_row parts).terms
           (over_once (flight_terms parts.tables parts.day.periods) priced_flight
-          (IsFlight parts.day.periods parts.places parts.tables) 0 parts.flights scenario.flights
+          (IsFlight parts.day.periods parts.places parts.tables) 0 parts.flights
+          scenario.flights.each
           (λ f flight is. priced_once f flight is));
       no_zero = all_over IsNotZero (flight_terms parts.tables parts.day.periods) 0 parts.flights
           (λ f flight. each_all IsNotZero (flight_terms parts.tables parts.day.periods f flight)

@@ -172,13 +172,13 @@ caps_small : (kind : CapKind) (parts : Parts) (place period : ℕ) (found : Opti
 caps_small kind parts place period None valid is = omega arith
 caps_small kind.Dep parts place period (Some found) valid is =
     cap_small found.first period
-    (All-item (IsPlace parts.day.periods) parts.places place found valid.places is).first
+    (All-item (IsPlace parts.day.periods) parts.places place found valid.places.each is).first
 caps_small kind.Arr parts place period (Some found) valid is =
     cap_small found.second period
-    (All-item (IsPlace parts.day.periods) parts.places place found valid.places is).second
+    (All-item (IsPlace parts.day.periods) parts.places place found valid.places.each is).second
 caps_small kind.Sector parts place period (Some found) valid is =
     cap_small found.first period
-    (All-item (IsPlace parts.day.periods) parts.places place found valid.places is).first
+    (All-item (IsPlace parts.day.periods) parts.places place found valid.places.each is).first
 
 -- no limit of a row is greater than a capacity may be
 pub row_limit_small : (parts : Parts) (name : RowName) → IsScenario parts
@@ -213,7 +213,7 @@ over_few kind place time k (flight ∷ flights) =
 capacity_few : (parts : Parts) (kind : CapKind) (place time : ℕ) → IsScenario parts
     → length (over_flights (use_terms kind place time) 0 parts.flights) ≤ most_terms
 capacity_few parts kind place time valid =
-    omega (arith, over_few kind place time 0 parts.flights, valid.flights_few)
+    omega (arith, over_few kind place time 0 parts.flights, valid.flights.few)
 
 -- a term a leg, and two more
 of_few : (parts : Parts) (f : ℕ) (terms : Flight → List Term) (found : Option Flight)
@@ -351,8 +351,8 @@ cost_terms_near parts valid =
 pub constant_small : (parts : Parts) → IsScenario parts
     → IsNear (2 ^ 60) (cost_row parts).constant
 constant_small parts valid =
-    let all = constants_near parts parts.flights valid valid.flights in
-    let few = valid.flights_few in
+    let all = constants_near parts parts.flights valid valid.flights.each in
+    let few = valid.flights.few in
     record {
       low = omega (arith, ints, all.low, few);
       high = omega (arith, ints, all.high, few);

@@ -99,7 +99,7 @@ over_count k (flight ∷ flights) =
     )
 
 pub stands_few : (parts : Parts) → IsScenario parts → length (all_stands parts.flights) < 2 ^ 32
-stands_few parts valid = omega (arith, over_count 0 parts.flights, valid.nodes_few)
+stands_few parts valid = omega (arith, over_count 0 parts.flights, valid.flights.nodes_few)
 
 -- each at a place that there is
 nodes_there : (places number k : ℕ) (nodes : List ℕ) → All (λ place. place < places) nodes
@@ -152,7 +152,7 @@ over_there periods k parts (flight ∷ flights) all =
 
 pub stands_there : (parts : Parts) → IsScenario parts
     → All (λ (stand : Stand). stand.place < length parts.places) (all_stands parts.flights)
-stands_there parts valid = over_there parts.day.periods 0 parts parts.flights valid.flights
+stands_there parts valid = over_there parts.day.periods 0 parts parts.flights valid.flights.each
 
 -- no node of others is at the place
 none_in : (place number k : ℕ) (nodes : List ℕ) → All (λ p. place ≢ p) nodes
@@ -225,7 +225,8 @@ pub visits_made : (parts : Parts) (lists : List (List Visit)) → IsScenario par
     → AreVisitsOf parts lists
 visits_made parts lists valid long each place =
     by (cases_lt place (length parts.places))
-    ∙ flights_in place 0 parts.flights (λ k d within. (valid.flights k d within).route.different)
+    ∙ flights_in place 0 parts.flights
+    (λ k d within. (valid.flights.each k d within).route.different)
   where
     by : (place < length parts.places) ⊎ (length parts.places ≤ place)
         → get_or lists place [] ≡ visits_in place (all_stands parts.flights)

@@ -332,7 +332,7 @@ module _ (parts : Parts) (plan : List (List Stop)) (scenario : IsScenario parts)
       subst (λ o. form_value at_plan (of_connection (λ connection.
       connect_terms parts.flights connection t) o) ≤ℤ pos 0) (sym found.1)
       (connect_kept parts plan scenario feasible.trips found.0 t
-      (subst (IsConnection parts.flights) same (scenario.connections c found.0 within))
+      (subst (IsConnection parts.flights) same (scenario.connections.each c found.0 within))
       (subst (KeepsTurn plan) same (feasible.turns c found.0 within)))
   row_kept (Cut i) is = absurd cc
 

@@ -163,7 +163,8 @@ pub visits_take : (parts : Parts) (kind : CapKind) (place time : ℕ) → IsScen
     → flat_map (visit_terms_in kind time parts.flights) (visits_at place parts.flights)
     ≡ capacity_terms parts kind place time
 visits_take parts kind place time valid =
-    over_visits kind place time 0 parts.day.periods parts parts.flights parts.flights valid.flights
+    over_visits kind place time 0 parts.day.periods parts parts.flights parts.flights
+    valid.flights.each
     (λ i flight is. subst (λ n. slice_get parts.flights n ≡ Some flight) (omega arith) is)
 
 -- a flight has one node at the place at the most
@@ -186,7 +187,7 @@ over_few place k (flight ∷ flights) =
 pub visits_few : (parts : Parts) (place : ℕ) (visits : List Visit) → IsScenario parts
     → visits ≡ visits_at place parts.flights → length visits ≤ most_flights
 visits_few parts place visits valid are =
-    omega (arith, over_few place 0 parts.flights, valid.flights_few, ap length are)
+    omega (arith, over_few place 0 parts.flights, valid.flights.few, ap length are)
 
 pub visited_adds : (parts : Parts) (kind : CapKind) (place time : ℕ) (visits : List Visit)
     (start now : AtMost) → IsScenario parts → visits ≡ visits_at place parts.flights

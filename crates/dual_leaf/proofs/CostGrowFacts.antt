@@ -217,4 +217,4 @@ module _ (parts : Parts) (at : (ℕ → ℕ) → Var → ℕ) (weight : ℕ) whe
       (λ value. ap (λ flights. pos weight *ℤ ((cost_row parts).constant +ℤ form_value value
       (over_flights (flight_terms parts.tables parts.day.periods) 0 flights)))
       (sym (take_all k parts.flights past)))
-      (let most = valid.flights_few in omega (arith, most, upto))
+      (let most = valid.flights.few in omega (arith, most, upto))

@@ -70,11 +70,11 @@ module _ (parts : Parts) (valid : IsScenario parts) where
   late_near number delay None is few =
       record { low = omega (arith, ints); high = omega (arith, ints) }
   late_near number delay (Some flight) is few =
-      let ok = All-item Is parts.flights number flight valid.flights is in
-      let now = total_near parts.tables flight.mg flight.md delay flight.cost valid.tables ok.cost
-      (omega (arith, few)) in
-      let next = total_near parts.tables flight.mg flight.md (delay + 1) flight.cost valid.tables
-      ok.cost few in
+      let ok = All-item Is parts.flights number flight valid.flights.each is in
+      let now = total_near parts.tables flight.mg flight.md delay flight.cost
+      valid.tables.each ok.cost (omega (arith, few)) in
+      let next = total_near parts.tables flight.mg flight.md (delay + 1) flight.cost
+      valid.tables.each ok.cost few in
       record {
         low = omega (arith, ints, now.low, next.high);
         high = omega (arith, ints, now.high, next.low);
@@ -86,11 +86,11 @@ module _ (parts : Parts) (valid : IsScenario parts) where
   wait_near number delay None is few =
       record { low = omega (arith, ints); high = omega (arith, ints) }
   wait_near number delay (Some flight) is few =
-      let ok = All-item Is parts.flights number flight valid.flights is in
-      let now = credit_near parts.tables flight.mg flight.md delay flight.cost valid.tables ok.cost
-      (omega (arith, few)) in
-      let next = credit_near parts.tables flight.mg flight.md (delay + 1) flight.cost valid.tables
-      ok.cost few in
+      let ok = All-item Is parts.flights number flight valid.flights.each is in
+      let now = credit_near parts.tables flight.mg flight.md delay flight.cost
+      valid.tables.each ok.cost (omega (arith, few)) in
+      let next = credit_near parts.tables flight.mg flight.md (delay + 1) flight.cost
+      valid.tables.each ok.cost few in
       record {
         low = omega (arith, ints, now.high, next.low);
         high = omega (arith, ints, now.low, next.high);
@@ -103,9 +103,9 @@ module _ (parts : Parts) (valid : IsScenario parts) where
       let periods = parts.day.periods in
       let short = valid.day.periods_to in
       let total = total_near parts.tables flight.mg flight.md (most_late periods flight)
-      flight.cost valid.tables ok.cost (omega (arith, short)) in
+      flight.cost valid.tables.each ok.cost (omega (arith, short)) in
       let credit = credit_near parts.tables flight.mg flight.md (most_wait periods flight)
-      flight.cost valid.tables ok.cost (omega (arith, short)) in
+      flight.cost valid.tables.each ok.cost (omega (arith, short)) in
       record {
         low = omega (arith, ints, total.low, credit.high);
         high = omega (arith, ints, total.high, credit.low);
@@ -124,8 +124,8 @@ module _ (parts : Parts) (valid : IsScenario parts) where
 
   pub constant_near : IsNear (2 ^ 42) (cost_row parts).constant
   constant_near =
-      let all = constants_near parts.flights valid.flights in
-      let few = valid.flights_few in
+      let all = constants_near parts.flights valid.flights.each in
+      let few = valid.flights.few in
       record {
         low = omega (arith, ints, all.low, few);
         high = omega (arith, ints, all.high, few);

@@ -472,7 +472,7 @@ module _ (parts : Parts) (scenario : IsScenario parts) (outer root : Box)
 
   numbers : IsNumbered parts numbering box
   numbers = record {
-    few = let upto = are.few in let most = scenario.flights_few in omega (arith, upto, most);
+    few = let upto = are.few in let most = scenario.flights.few in omega (arith, upto, most);
     within = λ variable there free. (own variable there free).within;
     own = λ variable there free. (own variable there free).own;
   }

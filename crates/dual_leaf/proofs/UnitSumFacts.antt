@@ -200,7 +200,7 @@ module _ (parts : Parts) (valid : IsScenario parts) (box : Box) (unit : IsUnitBo
   next_near count old new None cost within some before next = absurd (let e : ⊥ = cc in e)
   next_near count old new (Some sum) None within some before next = tt
   next_near count old new (Some sum) (Some cost) within some before next =
-      let few : count ≤ 2000 = omega (arith, within, valid.flights_few) in
+      let few : count ≤ 2000 = omega (arith, within, valid.flights.few) in
       let now = more count old new sum cost before
       (next before.trips before.count_is before.loads_are) in
       record {
@@ -234,7 +234,7 @@ module _ (parts : Parts) (valid : IsScenario parts) (box : Box) (unit : IsUnitBo
       → IsSoFar parts box count loads sum → IsNearBound (bound_of sum)
   whole_near count loads None all is = tt
   whole_near count loads (Some sum) all is =
-      let few = valid.flights_few in
+      let few = valid.flights.few in
       let low = is.near.low in
       let high = is.near.high in
       let small = abs_le sum (2 ^ 114) (omega (arith, ints, high, few, all))

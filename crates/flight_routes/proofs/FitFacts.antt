@@ -65,7 +65,7 @@ module _ (parts : Parts) (valid : IsScenario parts) (trips : List (List Stop)) (
     (long : number < length trips) where
   fine : IsFlight parts.day.periods parts.places parts.tables flight
   fine = All-item (IsFlight parts.day.periods parts.places parts.tables) parts.flights number flight
-      valid.flights here
+      valid.flights.each here
 
   from_is : place_at flight 0 ≡ flight.from
   from_is = fine.route.first
@@ -168,7 +168,7 @@ module _ (parts : Parts) (valid : IsScenario parts) (trips : List (List Stop)) (
     (are : AreFitRates parts trips number flight row rates) where
   fine_too : IsFlight parts.day.periods parts.places parts.tables flight
   fine_too = All-item (IsFlight parts.day.periods parts.places parts.tables) parts.flights number
-      flight valid.flights here
+      flight valid.flights.each here
 
   -- in each period of a stay there is room
   pub RoomOn : Stop → List Stop → Type 0
@@ -287,7 +287,7 @@ module _ (parts : Parts) (valid : IsScenario parts) (trips : List (List Stop)) (
       → origin_of (slice_get parts.flights connection.second)
       ≡ destination_of (slice_get parts.flights connection.first)
   together k connection is =
-      (All-item (IsConnection parts.flights) parts.connections k connection valid.connections
+      (All-item (IsConnection parts.flights) parts.connections k connection valid.connections.each
       is).together
 
   connection_at : (k : ℕ) (d : Connection) → k < length parts.connections

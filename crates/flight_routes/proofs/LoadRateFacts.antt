@@ -59,7 +59,7 @@ module _ (parts : Parts) (valid : IsScenario parts) (trips : List (List Stop)) (
   after_waits time after =
       turns_all (IsAfter loads time) (IsConnection parts.flights) Departure number
       (λ c. (arrives : ℕ) → option_and_then arrival_of (slice_get trips c.first) ≡ Some arrives
-      → arrives + c.turnaround ≤ time) 0 parts.connections valid.connections after
+      → arrives + c.turnaround ≤ time) 0 parts.connections valid.connections.each after
       (λ i c is own late arrives at. late arrives (arrived c.first is.first ∙ at))
 
   waits_after : (time : ℕ) → All (WaitsFor trips number time) parts.connections
@@ -67,7 +67,7 @@ module _ (parts : Parts) (valid : IsScenario parts) (trips : List (List Stop)) (
   waits_after time waits =
       all_turns (IsAfter loads time)
       (λ c. IsConnection parts.flights c × WaitsFor trips number time c) Departure number 0
-      parts.connections (both_all parts.connections valid.connections waits)
+      parts.connections (both_all parts.connections valid.connections.each waits)
       (λ i c is low high own arrives at. is.1 own arrives (sym (arrived c.first is.0.first) ∙ at))
     where
       both_all : (cs : List Connection) → All (IsConnection parts.flights) cs
@@ -81,7 +81,7 @@ module _ (parts : Parts) (valid : IsScenario parts) (trips : List (List Stop)) (
   in_time_leaves time early =
       turns_all (IsInTime loads time) (IsConnection parts.flights) Arrival number
       (λ c. (leaves : ℕ) → option_and_then departure_of (slice_get trips c.second) ≡ Some leaves
-      → time + c.turnaround ≤ leaves) 0 parts.connections valid.connections early
+      → time + c.turnaround ≤ leaves) 0 parts.connections valid.connections.each early
       (λ i c is own before leaves at. before leaves (left c.second is.second ∙ at))
 
   leaves_in_time : (time : ℕ) → All (LeavesTimeFor trips number time) parts.connections
@@ -89,7 +89,7 @@ module _ (parts : Parts) (valid : IsScenario parts) (trips : List (List Stop)) (
   leaves_in_time time leaves_time =
       all_turns (IsInTime loads time)
       (λ c. IsConnection parts.flights c × LeavesTimeFor trips number time c) Arrival number 0
-      parts.connections (both_all parts.connections valid.connections leaves_time)
+      parts.connections (both_all parts.connections valid.connections.each leaves_time)
       (λ i c is low high own leaves at. is.1 own leaves (sym (left c.second is.0.second) ∙ at))
     where
       both_all : (cs : List Connection) → All (IsConnection parts.flights) cs
@@ -117,7 +117,7 @@ module _ (parts : Parts) (valid : IsScenario parts) (trips : List (List Stop)) (
     (here : slice_get parts.flights number ≡ Some flight) where
   a_fine : IsFlight parts.day.periods parts.places parts.tables flight
   a_fine = All-item (IsFlight parts.day.periods parts.places parts.tables) parts.flights number
-      flight valid.flights here
+      flight valid.flights.each here
 
   from_there : airport_of Departure there ≡ flight.from
   from_there = ap (airport_of Departure) is

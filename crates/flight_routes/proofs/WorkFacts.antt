@@ -37,7 +37,7 @@ module _ (parts : Parts) (valid : IsScenario parts) (box : Box) (of : IsBoxOf pa
     (row : ℕ → Access) (same : (n : ℕ) → row n ≡ box number n) where
   the_flight : IsFlight parts.day.periods parts.places parts.tables flight
   the_flight = All-item (IsFlight parts.day.periods parts.places parts.tables) parts.flights number
-      flight valid.flights here
+      flight valid.flights.each here
 
   root_is : (n : ℕ) → root_box parts number n ≡ root_access parts.day.periods flight n
   root_is n = ap (λ f. root_row parts.day.periods f n) here

@@ -73,9 +73,9 @@ pub total_at-within : (parts : Parts) (n d : ℕ) (flight : Option Flight) → I
 total_at-within parts n d None valid here few =
     record { low = omega (arith, ints); high = omega (arith, ints) }
 total_at-within parts n d (Some flight) valid here few =
-    total_within parts.tables flight.mg flight.md d flight.cost valid.tables
+    total_within parts.tables flight.mg flight.md d flight.cost valid.tables.each
     (All-item (IsFlight parts.day.periods parts.places parts.tables) parts.flights n flight
-    valid.flights here).cost few
+    valid.flights.each here).cost few
 
 pub credit_at-within : (parts : Parts) (n d : ℕ) (flight : Option Flight) → IsScenario parts
     → slice_get parts.flights n ≡ flight → d < 65536
@@ -83,9 +83,9 @@ pub credit_at-within : (parts : Parts) (n d : ℕ) (flight : Option Flight) → 
 credit_at-within parts n d None valid here few =
     record { low = omega (arith, ints); high = omega (arith, ints) }
 credit_at-within parts n d (Some flight) valid here few =
-    credit_within parts.tables flight.mg flight.md d flight.cost valid.tables
+    credit_within parts.tables flight.mg flight.md d flight.cost valid.tables.each
     (All-item (IsFlight parts.day.periods parts.places parts.tables) parts.flights n flight
-    valid.flights here).cost few
+    valid.flights.each here).cost few
 
 -- a total and a credit that were read of the flight at a position
 pub total_read : (parts : Parts) (n d : ℕ) (flight : Flight) (total : ℤ) → IsScenario parts

@@ -99,19 +99,35 @@ pub record IsConnection (flights : List Flight) (connection : Connection) : Type
 abbrev pub IsOtherConnection : Connection → Connection → Type 0
 IsOtherConnection a b = a.first ≡ b.first → a.second ≢ b.second
 
--- names differ, every part is as above, and nothing passes its limit
+-- What holds of each list of a day: it passes no limit, each item is as above, and no two have
+-- one name, or connect one pair of flights.
+
+pub record ArePlaces (periods : ℕ) (places : List Place) : Type 0 where
+  pub few : length places ≤ limits.most_places
+  pub each : All (IsPlace periods) places
+  pub names : AllPairs (λ a b. a.name ≢ b.name) places
+
+pub record AreFlights (periods : ℕ) (places : List Place) (tables : List CostTable)
+    (flights : List Flight) : Type 0 where
+  pub few : length flights ≤ limits.most_flights
+  pub each : All (IsFlight periods places tables) flights
+  pub names : AllPairs (λ a b. a.name ≢ b.name) flights
+  pub nodes_few : sum_by (λ flight. length flight.nodes) flights ≤ limits.most_nodes_in_all
+
+pub record AreTables (tables : List CostTable) : Type 0 where
+  pub few : length tables ≤ limits.most_tables
+  pub each : All IsTable tables
+  pub names : AllPairs (λ a b. a.name ≢ b.name) tables
+
+pub record AreConnections (flights : List Flight) (connections : List Connection) : Type 0 where
+  pub few : length connections ≤ limits.most_connections
+  pub each : All (IsConnection flights) connections
+  pub once : AllPairs IsOtherConnection connections
+
+-- a day, and one fact for each of its lists
 pub record IsScenario (parts : Parts) : Type 0 where
   pub day : IsDay parts.day
-  pub places_few : length parts.places ≤ limits.most_places
-  pub places : All (IsPlace parts.day.periods) parts.places
-  pub place_names : AllPairs (λ a b. a.name ≢ b.name) parts.places
-  pub flights_few : length parts.flights ≤ limits.most_flights
-  pub flights : All (IsFlight parts.day.periods parts.places parts.tables) parts.flights
-  pub flight_names : AllPairs (λ a b. a.name ≢ b.name) parts.flights
-  pub nodes_few : sum_by (λ flight. length flight.nodes) parts.flights ≤ limits.most_nodes_in_all
-  pub tables_few : length parts.tables ≤ limits.most_tables
-  pub tables : All IsTable parts.tables
-  pub table_names : AllPairs (λ a b. a.name ≢ b.name) parts.tables
-  pub connections_few : length parts.connections ≤ limits.most_connections
-  pub connections : All (IsConnection parts.flights) parts.connections
-  pub connected_once : AllPairs IsOtherConnection parts.connections
+  pub places : ArePlaces parts.day.periods parts.places
+  pub flights : AreFlights parts.day.periods parts.places parts.tables parts.flights
+  pub tables : AreTables parts.tables
+  pub connections : AreConnections parts.flights parts.connections

@@ -2,10 +2,10 @@
 //!
 //! Time: names, connections and legs are compared pair by pair, so a scenario at its limits takes
 //! some twenty million short comparisons. No test takes memory.
-ghost use Rattle.std.specs.Prelude.{◌≡◌, ◌≢◌, ◌<◌, ◌≤◌, ◌+◌, ◌↔◌, pos, neg_ℤ, ◌≤ℤ◌, length, slice_get, sum_by, IsTrue, All, AllPairs};
+ghost use Rattle.std.specs.Prelude.{◌≡◌, ◌≢◌, ◌<◌, ◌≤◌, ◌+◌, ◌↔◌, length, slice_get, sum_by, IsTrue, All};
 ghost use Rattle.flow_types.specs.Limits as limits;
 ghost use Rattle.flow_types.specs.Routes.{is_airport};
-ghost use Rattle.flow_types.specs.Valid.{IsConnection, IsDay, IsFlight, IsOtherConnection, IsPlace, IsScenario, IsTable, IsValue, arrival_count, is_cost};
+ghost use Rattle.flow_types.specs.Valid.{AreConnections, AreFlights, ArePlaces, AreTables, IsConnection, IsDay, IsFlight, IsPlace, IsScenario, IsTable, IsValue, arrival_count, is_cost};
 
 use crate::calendar::is_date;
 use crate::day::Day;
@@ -29,7 +29,6 @@ pub fn is_scenario(parts: &Parts) -> bool
     is_day(&parts.day)
         && are_places(parts.places.items(), parts.day.periods)
         && are_flights(parts.flights.items(), parts)
-        && have_few_nodes(parts.flights.items())
         && are_tables(parts.tables.items())
         && are_connections(parts.connections.items(), parts.flights.items())
 }
@@ -93,23 +92,30 @@ fn is_place(place: &Place, periods: u16) -> bool
 
 // Whether they are places of different names, and not too many.
 fn are_places(places: &[Place], periods: u16) -> bool
-    ensures { IsTrue result ↔ (length places.now ≤ limits.most_places)
-        × All (IsPlace periods) places.now × AllPairs (λ a b. a.name ≢ b.name) places.now }
+    ensures { IsTrue result ↔ ArePlaces periods places.now }
 {
     places.len() <= MOST_PLACES
         && places.iter().all(|place| is_place(place, periods))
         && all_differ(places)
 }
 
-// Whether they are flights of different names, and not too many.
+// Whether they are flights of different names, and not too many, nor their nodes.
 fn are_flights(flights: &[Flight], parts: &Parts) -> bool
-    ensures { IsTrue result ↔ (length flights.now ≤ limits.most_flights)
-        × All (IsFlight parts.now.day.periods parts.now.places parts.now.tables) flights.now
-        × AllPairs (λ a b. a.name ≢ b.name) flights.now }
+    ensures { IsTrue result
+        ↔ AreFlights parts.now.day.periods parts.now.places parts.now.tables flights.now }
 {
     flights.len() <= MOST_FLIGHTS
-        && flights.iter().all(|flight| is_flight(parts, flight))
+        && have_few_nodes(flights)
         && all_differ(flights)
+        && are_all_flights(flights, parts)
+}
+
+// Whether each is a flight of these parts.
+fn are_all_flights(flights: &[Flight], parts: &Parts) -> bool
+    ensures { IsTrue result
+        ↔ All (IsFlight parts.now.day.periods parts.now.places parts.now.tables) flights.now }
+{
+    flights.iter().all(|flight| is_flight(parts, flight))
 }
 
 // Whether the nodes of all flights are not too many.
@@ -183,8 +189,7 @@ fn is_cost(tables: &[CostTable], mg: u16, md: u16, cost: Cost) -> bool
 
 // Whether they are tables of different names, and not too many.
 fn are_tables(tables: &[CostTable]) -> bool
-    ensures { IsTrue result ↔ (length tables.now ≤ limits.most_tables) × All IsTable tables.now
-        × AllPairs (λ a b. a.name ≢ b.name) tables.now }
+    ensures { IsTrue result ↔ AreTables tables.now }
 {
     tables.len() <= MOST_TABLES && tables.iter().all(|table| is_table(table)) && all_differ(tables)
 }
@@ -209,9 +214,7 @@ fn is_value(v: i64) -> bool
 
 // Whether they connect different pairs of flights, and are not too many.
 fn are_connections(connections: &[Connection], flights: &[Flight]) -> bool
-    ensures { IsTrue result ↔ (length connections.now ≤ limits.most_connections)
-        × All (IsConnection flights.now) connections.now
-        × AllPairs IsOtherConnection connections.now }
+    ensures { IsTrue result ↔ AreConnections flights.now connections.now }
 {
     connections.len() <= MOST_CONNECTIONS
         && connections

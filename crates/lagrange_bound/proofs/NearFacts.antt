@@ -158,7 +158,7 @@ module _ (parts : Parts) (table : PriceTable) (valid : IsScenario parts)
       let flight = is.flight in
       let good : IsFlight parts.day.periods parts.places parts.tables flight =
       All-item (IsFlight parts.day.periods parts.places parts.tables) parts.flights number
-      flight valid.flights is.there in
+      flight valid.flights.each is.there in
       let leaves = in_day parts.day.periods flight stop valid.day.periods_from is.trip.1 in
       let stays = stays_low flight stop rest good leaves is.trip.2 in
       let arrives : arrival_from stop rest < parts.day.periods = stays.1 in
@@ -193,9 +193,9 @@ module _ (parts : Parts) (table : PriceTable) (valid : IsScenario parts)
         arrives,
         turns,
         valid.day.periods_to,
-        valid.connections_few,
+        valid.connections.few,
       ))
-      (omega (arith, back, valid.connections_few)))
+      (omega (arith, back, valid.connections.few)))
 
   pub least_near : (box : Box) (number : ℕ) (least : ℤ)
       → IsLeastAt (IsTripIn parts box number) (priced_cost 1024 table parts number) least

@@ -186,7 +186,7 @@ module _ (parts : Parts) (valid : IsScenario parts) (a b : PriceTable)
       let flight = is.flight in
       let good : IsFlight parts.day.periods parts.places parts.tables flight =
       All-item (IsFlight parts.day.periods parts.places parts.tables) parts.flights number
-      flight valid.flights is.there in
+      flight valid.flights.each is.there in
       let leaves = in_day parts.day.periods flight stop valid.day.periods_from is.trip.1 in
       let stays = stays_same flight stop rest good leaves is.trip.2 in
       let from = same (key.Dep flight.from stop.time)

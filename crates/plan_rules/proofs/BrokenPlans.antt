@@ -128,7 +128,7 @@ pub legs_once : (parts : Parts) → IsScenario parts → (k : ℕ) (flight : Fli
     → slice_get parts.flights k ≡ Some flight → AllPairs IsOtherLeg flight.legs
 legs_once parts valid k flight is =
     (All-item (IsFlight parts.day.periods parts.places parts.tables) parts.flights k flight
-    valid.flights is).route.once
+    valid.flights.each is).route.once
 
 pub number_to : (trips flights : ℕ) → trips ≡ flights → broken_number trips flights ≡ None
 number_to trips flights same =
@@ -205,7 +205,7 @@ module _ (parts : Parts) (plan : List (List Stop)) (loads : Tally) (valid : IsSc
       ≡ broken_turn (arrival_in plan) (departure_in plan) k connection
   turn_same k connection is =
       let at = All-item (IsConnection parts.flights) parts.connections k connection
-      valid.connections is in
+      valid.connections.each is in
       ap (λ (arrives : Option ℕ). broken_times k connection.turnaround arrives
       (departure_at loads connection.second))
       (are.arrives connection.first at.first ∙ sym (time_at arrival_of connection.first at.first))

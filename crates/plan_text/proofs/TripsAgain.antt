@@ -151,14 +151,14 @@ module _ (parts : Parts) (valid : IsScenario parts) (k : ℕ) (flight : Flight)
       subst (IsFlight parts.day.periods parts.places parts.tables)
       (get_or_from_slice_get parts.flights k flight flight there)
       (All-get_or (IsFlight parts.day.periods parts.places parts.tables) parts.flights k flight
-      (slice_get_within parts.flights k flight there) valid.flights)
+      (slice_get_within parts.flights k flight there) valid.flights.each)
 
   pub is_place : (at : ℕ) (place : Place) → slice_get parts.places at ≡ Some place
       → IsPlace parts.day.periods place
   is_place at place here =
       subst (IsPlace parts.day.periods) (get_or_from_slice_get parts.places at place place here)
       (All-get_or (IsPlace parts.day.periods) parts.places at place
-      (slice_get_within parts.places at place here) valid.places)
+      (slice_get_within parts.places at place here) valid.places.each)
 
   module _ (stop : Stop) (trips : IsReadBack parts.day.periods flight stop) (fields : Fields)
       (number : ℕ) where
@@ -168,7 +168,7 @@ module _ (parts : Parts) (valid : IsScenario parts) (k : ℕ) (flight : Flight)
     node_there : (place : Place) → slice_get parts.places at ≡ Some place
         → node_named parts.places flight.nodes place.name ≡ Some stop.node
     node_there place here =
-        rw (named_at (λ (p : Place). p.name) parts.places at place valid.place_names here)
+        rw (named_at (λ (p : Place). p.name) parts.places at place valid.places.names here)
         (node_back flight.nodes stop.node is_flight.route.different trips.node)
 
     stop_back : slice_get fields (number - 1) ≡ Some (place_name (slice_get parts.places at))
@@ -239,7 +239,7 @@ module _ (parts : Parts) (valid : IsScenario parts) (k : ℕ) (flight : Flight)
       few_stops parts.day.periods some flight legs trip is in
       let most = is_flight.route.nodes_to in omega (arith, short, most) in
       let known : position_of flight.name (flight_names parts.flights) ≡ Some k =
-      named_at (λ (f : Flight). f.name) parts.flights k flight valid.flight_names there in
+      named_at (λ (f : Flight). f.name) parts.flights k flight valid.flights.names there in
       let stops : stops_from parts flight.nodes fields 32 3 ≡ Ok trip =
       stops_back trip (codes "trip" ∷ flight.name ∷ []) 32
       (are_read_back parts.day.periods some flight legs trip is) few in

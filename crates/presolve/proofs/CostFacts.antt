@@ -97,7 +97,7 @@ module _ (parts : Parts) (row : Priced) (terms : List Term) (is : row ≡ cost_r
   pub terms_few : IsScenario parts → length terms ≤ most_gathered
   terms_few scenario =
       let all = flights_few 0 parts.flights scenario.day.periods_to in
-      let most = scenario.flights_few in
+      let most = scenario.flights.few in
       let same = ap length all_are in
       omega (arith, all, most, same)
 

@@ -91,7 +91,7 @@ module _ (parts : Parts) (scenario : IsScenario parts) (box : Box) where
   pub columns_few : length (columns_of parts box) ≤ most_columns
   columns_few =
       let all = flat_few (flight_columns parts box) 32768 0 (length parts.flights) flight_few in
-      let most = scenario.flights_few in
+      let most = scenario.flights.few in
       omega (arith, all, most)
 
 -- a column is free, and one of the program's variables

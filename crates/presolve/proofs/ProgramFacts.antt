@@ -50,7 +50,7 @@ module _ (parts : Parts) (scenario : IsScenario parts) where
   nodes_all names most small few =
       let all = flat_few (over_nodes parts names) (32 * most) 0 (length parts.flights)
       (flight_few names most few) in
-      let flights = mul-le-mul_right (32 * most) scenario.flights_few in
+      let flights = mul-le-mul_right (32 * most) scenario.flights.few in
       omega (arith, all, flights, small)
 
   periods : parts.day.periods ≤ 512
@@ -88,7 +88,7 @@ module _ (parts : Parts) (scenario : IsScenario parts) where
       (map (capacity_name kind p) (range_with_len 0 parts.day.periods))
       (let same = mapped (capacity_name kind p) 0 parts.day.periods in
       let most = periods in omega (arith, same, most))) in
-      let most = scenario.places_few in
+      let most = scenario.places.few in
       omega (arith, all, most)
 
   connections_few : length (over_connections parts) ≤ 2048000
@@ -96,7 +96,7 @@ module _ (parts : Parts) (scenario : IsScenario parts) where
       let all = flat_few (connect_names parts) 512 0 (length parts.connections) (λ c.
       let same = mapped (Connect c) 0 parts.day.periods in
       let most = periods in omega (arith, same, most)) in
-      let most = scenario.connections_few in
+      let most = scenario.connections.few in
       omega (arith, all, most)
 
   joined : (a b : List RowName) → length (a ++ b) ≡ length a + length b

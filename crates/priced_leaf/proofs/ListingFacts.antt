@@ -208,10 +208,10 @@ module _ (parts : Parts) (table : PriceTable) where
       (let day = valid.day.periods_to in omega (arith, day))
 
   most_rows : (kind : PriceKind) → IsScenario parts → rows_of parts kind ≤ 2 ^ 20
-  most_rows Departure valid = let few = valid.places_few in omega (arith, few)
-  most_rows Arrival valid = let few = valid.places_few in omega (arith, few)
-  most_rows Stay valid = let few = valid.places_few in omega (arith, few)
-  most_rows Turn valid = let few = valid.connections_few in omega (arith, few)
+  most_rows Departure valid = let few = valid.places.few in omega (arith, few)
+  most_rows Arrival valid = let few = valid.places.few in omega (arith, few)
+  most_rows Stay valid = let few = valid.places.few in omega (arith, few)
+  most_rows Turn valid = let few = valid.connections.few in omega (arith, few)
 
   pub kind-ended : (kind : PriceKind) (rows : List Multiplier) → IsScenario parts
       → IsListed parts table (kind_number kind) (rows_of parts kind) 0 rows

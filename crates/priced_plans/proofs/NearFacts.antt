@@ -162,7 +162,7 @@ module _ (parts : Parts) (table : PriceTable) (valid : IsScenario parts)
     near_by number flight [] there trip = absurd trip
     near_by number flight (stop ∷ rest) there trip =
         let is = All-item (IsFlight parts.day.periods parts.places parts.tables) parts.flights
-        number flight valid.flights there in
+        number flight valid.flights.each there in
         let leaves = in_day parts.day.periods flight stop valid.day.periods_from trip.1 in
         let arrives = arrives-day flight is stop rest leaves trip.2 in
         let total = total_at-within parts number (arrival_from stop rest - flight.sa) (Some flight)
@@ -181,7 +181,7 @@ module _ (parts : Parts) (table : PriceTable) (valid : IsScenario parts)
         let paid = paid-few number stop.time 0 parts.connections (omega arith) in
         let back = back-few number (arrival_from stop rest) 0 parts.connections (omega arith) in
         record {
-          low = omega (arith, ints, cost.0, back, valid.connections_few);
+          low = omega (arith, ints, cost.0, back, valid.connections.few);
           high = omega (
             arith,
             ints,
@@ -191,7 +191,7 @@ module _ (parts : Parts) (table : PriceTable) (valid : IsScenario parts)
             stays,
             is.route.nodes_to,
             paid,
-            valid.connections_few,
+            valid.connections.few,
           );
         }
 

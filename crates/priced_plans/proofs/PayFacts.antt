@@ -253,10 +253,10 @@ pub counts-pay : (parts : Parts) (table : PriceTable) (plan : List (List Stop))
     ≡ pos (loads_price table parts plan)
     +ℤ turns_price table parts.day.periods plan 0 parts.connections
 counts-pay parts table plan valid trips =
-    let pays = plan-pays parts table valid.day.periods_from 0 parts.flights plan valid.flights trips
-    in
+    let pays = plan-pays parts table valid.day.periods_from 0 parts.flights plan
+    valid.flights.each trips in
     let turns = turns-are parts.day.periods parts.flights plan trips table 0 parts.connections
-    valid.connections in
+    valid.connections.each in
     omega (arith, ints, pays, turns)
 
 -- a feasible plan pays no more than all capacities would
@@ -266,7 +266,7 @@ pub feasible-pays : (parts : Parts) (table : PriceTable) (plan : List (List Stop
 feasible-pays parts table plan valid feasible =
     let pays = counts-pay parts table plan valid feasible.trips in
     let turns = turns-kept parts.day.periods parts.flights plan feasible.trips table 0
-    parts.connections valid.connections feasible.turns in
+    parts.connections valid.connections.each feasible.turns in
     let departures = prices-within parts kind.Dep table.departures
     (departures_at parts.flights plan) feasible.departures in
     let arrivals = prices-within parts kind.Arr table.arrivals

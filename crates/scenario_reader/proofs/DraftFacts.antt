@@ -13,7 +13,7 @@ use Rattle.std.proofs.lemmas.Option.{same_Some}
 use Rattle.flow_types.specs.Routes.{is_airport, is_sector}
 use Rattle.flow_types.specs.Valid.{is_cost, IsOtherConnection, IsPlace, IsTable, value_count}
 use Rattle.flow_types.specs.declared.day.Day.{Day}
-use Rattle.flow_types.specs.Limits.{most_capacity}
+use Rattle.flow_types.specs.Limits.{most_capacity, most_nodes_in_all}
 use Rattle.flow_types.specs.Lists.{filled}
 use Rattle.flow_types.specs.declared.flight.Connection.{Connection}
 use Rattle.flow_types.specs.declared.flight.Cost.{Cost}
@@ -34,7 +34,7 @@ use Rattle.text_records.specs.Names.{position_of}
 use Rattle.scenario_reader.specs.Reading.{with_cap_change, with_connection, with_flight, with_flight_leg, with_place, with_pricing, with_table}
 use Rattle.scenario_reader.specs.DraftParts.{destinations, flight_names, node_count, node_total, origins, place_names, DraftParts, table_names}
 use Rattle.scenario_reader.specs.Tables.{with_cost, with_cost_at}
-use Rattle.scenario_reader.specs.Validity.{IsFlightDraft, IsCapChange, IsMeeting, IsNetwork, IsNewLeg, IsPricing, IsValidDraft}
+use Rattle.scenario_reader.specs.Validity.{AreFlightDrafts, AreMeetings, IsFlightDraft, IsCapChange, IsMeeting, IsNetwork, IsNewLeg, IsPricing, IsValidDraft}
 use Rattle.scenario_reader.specs.declared.flight_draft.FlightDraft.{FlightDraft}
 use Rattle.scenario_reader.specs.declared.flight_draft.PlaceLeg.{PlaceLeg}
 use Rattle.scenario_reader.specs.declared.capacities.CapChange.{CapChange}
@@ -126,30 +126,83 @@ flight_kept periods places later tables flight keeps valid = record {
   network = network_kept places later flight keeps valid.network;
 }
 
+-- flights keep their rules beside other places and tables where each of them does
+flights_beside : (periods : ℕ) (places later : List Place) (tables more : List CostTable)
+    (flights : List FlightDraft)
+    → ((flight : FlightDraft) → IsFlightDraft periods places tables flight
+    → IsFlightDraft periods later more flight)
+    → AreFlightDrafts periods places tables flights → AreFlightDrafts periods later more flights
+flights_beside periods places later tables more flights keeps valid = record {
+  few = valid.few;
+  each = λ k d h. keeps (get_or flights k d) (valid.each k d h);
+  names = valid.names;
+  nodes_few = valid.nodes_few;
+}
+
+-- so do flights of which one changes and keeps its name
+flights_changed : (periods : ℕ) (places : List Place) (tables : List CostTable)
+    (change : FlightDraft → FlightDraft) (flights : List FlightDraft) (k : ℕ)
+    → ((flight : FlightDraft) → (change flight).name ≡ flight.name)
+    → ((flight : FlightDraft) → slice_get flights k ≡ Some flight
+    → IsFlightDraft periods places tables flight
+    → IsFlightDraft periods places tables (change flight))
+    → node_total (changed_at change flights k) ≤ most_nodes_in_all
+    → AreFlightDrafts periods places tables flights
+    → AreFlightDrafts periods places tables (changed_at change flights k)
+flights_changed periods places tables change flights k same keeps total valid = record {
+  few = rw (length-changed change flights k) valid.few;
+  each = All-changed (IsFlightDraft periods places tables) change flights k valid.each keeps;
+  names = pairs_changed (λ (f : FlightDraft). f.name) change same flights k valid.names;
+  nodes_few = total;
+}
+
+-- connections keep their rules beside other flights where each of them does
+meetings_beside : (flights later : List FlightDraft) (connections : List Connection)
+    → ((connection : Connection) → IsMeeting flights connection → IsMeeting later connection)
+    → AreMeetings flights connections → AreMeetings later connections
+meetings_beside flights later connections keeps valid = record {
+  few = valid.few;
+  each = λ k d h. keeps (get_or connections k d) (valid.each k d h);
+  once = valid.once;
+}
+
+-- so do they where one flight changes, and begins and ends as before
+meetings_changed : (change : FlightDraft → FlightDraft) (flights : List FlightDraft) (k : ℕ)
+    (connections : List Connection)
+    → ((flight : FlightDraft) → (change flight).from ≡ flight.from)
+    → ((flight : FlightDraft) → (change flight).to ≡ flight.to)
+    → AreMeetings flights connections → AreMeetings (changed_at change flights k) connections
+meetings_changed change flights k connections from to valid =
+    meetings_beside flights (changed_at change flights k) connections
+    (λ connection meeting. record {
+      together = rw (
+        map-changed (λ (f : FlightDraft). f.from) change from flights k,
+        map-changed (λ (f : FlightDraft). f.to) change to flights k,
+      ) meeting.together;
+      turnaround = meeting.turnaround;
+    }) valid
+
 pub parts_with_place : (draft : DraftParts) (place : Place) → IsValidDraft draft
     → IsPlace draft.day.periods place
     → position_of place.name (place_names draft.places) ≡ None → length draft.places < 1000
     → IsValidDraft (with_place draft place)
 parts_with_place draft place valid one fresh room = record {
   day = valid.day;
-  places_few = let more = length-append draft.places (place ∷ []) in omega arith;
-  places = All-push (IsPlace draft.day.periods) draft.places place valid.places one;
-  place_names = names_more (λ p. p.name) draft.places place valid.place_names fresh;
-  flights_few = valid.flights_few;
-  flights = λ k d h. flight_kept draft.day.periods draft.places
-      (draft.places ++ place ∷ []) draft.tables (get_or draft.flights k d)
-      (record {
+  places = record {
+    few = let more = length-append draft.places (place ∷ []) in let few = valid.places.few in
+        omega arith;
+    each = All-push (IsPlace draft.day.periods) draft.places place valid.places.each one;
+    names = names_more (λ p. p.name) draft.places place valid.places.names fresh;
+  };
+  flights = flights_beside draft.day.periods draft.places (draft.places ++ place ∷ [])
+      draft.tables draft.tables draft.flights
+      (λ flight. flight_kept draft.day.periods draft.places (draft.places ++ place ∷ [])
+      draft.tables flight (record {
         airports = found_front is_airport refl draft.places place;
         sectors = found_front is_sector refl draft.places place;
-      }) (valid.flights k d h);
-  flight_names = valid.flight_names;
-  nodes_few = valid.nodes_few;
-  tables_few = valid.tables_few;
+      })) valid.flights;
   tables = valid.tables;
-  table_names = valid.table_names;
-  connections_few = valid.connections_few;
   connections = valid.connections;
-  connected_once = valid.connected_once;
 }
 
 pub total_push : (flights : List FlightDraft) (flight : FlightDraft)
@@ -176,39 +229,18 @@ pub parts_with_flight : (draft : DraftParts) (flight : FlightDraft) → IsValidD
     → node_total draft.flights + node_count flight ≤ 20000 → IsValidDraft (with_flight draft flight)
 parts_with_flight draft flight valid one fresh room few = record {
   day = valid.day;
-  places_few = valid.places_few;
   places = valid.places;
-  place_names = valid.place_names;
-  flights_few = let more = length-append draft.flights (flight ∷ []) in omega arith;
-  flights = All-push (IsFlightDraft draft.day.periods draft.places draft.tables) draft.flights
-      flight valid.flights one;
-  flight_names = names_more (λ f. f.name) draft.flights flight valid.flight_names fresh;
-  nodes_few = let more = total_push draft.flights flight in omega arith;
-  tables_few = valid.tables_few;
+  flights = record {
+    few = let more = length-append draft.flights (flight ∷ []) in omega arith;
+    each = All-push (IsFlightDraft draft.day.periods draft.places draft.tables) draft.flights
+        flight valid.flights.each one;
+    names = names_more (λ f. f.name) draft.flights flight valid.flights.names fresh;
+    nodes_few = let more = total_push draft.flights flight in omega arith;
+  };
   tables = valid.tables;
-  table_names = valid.table_names;
-  connections_few = valid.connections_few;
-  connections = λ k d h. meeting_with_flight draft.flights flight (get_or draft.connections k d)
-      (valid.connections k d h);
-  connected_once = valid.connected_once;
+  connections = meetings_beside draft.flights (draft.flights ++ flight ∷ []) draft.connections
+      (meeting_with_flight draft.flights flight) valid.connections;
 }
-
--- flights that begin and end as before meet as before
-meeting_kept : (flights later : List FlightDraft) (connection : Connection)
-    → origins later ≡ origins flights → destinations later ≡ destinations flights
-    → IsMeeting flights connection → IsMeeting later connection
-meeting_kept flights later connection from to meeting = record {
-  together = rw (from, to) meeting.together;
-  turnaround = meeting.turnaround;
-}
-
-names_changed : (change : FlightDraft → FlightDraft)
-    → ((flight : FlightDraft) → (change flight).name ≡ flight.name)
-    → (flights : List FlightDraft) (k : ℕ)
-    → AllPairs (λ a b. a.name ≢ b.name) flights
-    → AllPairs (λ a b. a.name ≢ b.name) (changed_at change flights k)
-names_changed change same flights k apart =
-    pairs_changed (λ (f : FlightDraft). f.name) change same flights k apart
 
 flight_with_leg : (periods : ℕ) (places : List Place) (tables : List CostTable) (total : ℕ)
     (flight : FlightDraft) (leg : PlaceLeg) → IsFlightDraft periods places tables flight
@@ -257,31 +289,20 @@ pub parts_with_leg : (draft : DraftParts) (k : ℕ) (leg : PlaceLeg) (flight : F
     → IsValidDraft (with_flight_leg draft (k, leg))
 parts_with_leg draft k leg flight valid here new = record {
   day = valid.day;
-  places_few = valid.places_few;
   places = valid.places;
-  place_names = valid.place_names;
-  flights_few = rw (length-changed (λ f. with_leg f leg) draft.flights k) valid.flights_few;
-  flights = All-changed (IsFlightDraft draft.day.periods draft.places draft.tables)
-      (λ f. with_leg f leg) draft.flights k valid.flights
+  flights = flights_changed draft.day.periods draft.places draft.tables (λ f. with_leg f leg)
+      draft.flights k (λ f. refl)
       (λ f e valid. let same : flight ≡ f = same_Some flight f (sym here ∙ e) in
-      flight_with_leg draft.day.periods draft.places draft.tables
-      (node_total draft.flights) f leg valid
-      (subst (λ (g : FlightDraft). IsNewLeg draft.places (node_total draft.flights) g leg) same
-      new));
-  flight_names = names_changed (λ f. with_leg f leg) (λ f. refl) draft.flights k valid.flight_names;
-  nodes_few = rw (total_with_leg draft.flights k leg flight here)
+      flight_with_leg draft.day.periods draft.places draft.tables (node_total draft.flights) f leg
+      valid (subst (λ (g : FlightDraft). IsNewLeg draft.places (node_total draft.flights) g leg)
+      same new))
+      (rw (total_with_leg draft.flights k leg flight here)
       (room_for (adds_node flight leg.to) (nat_le 32 (length flight.reached + 2))
-      (length flight.reached) (node_total draft.flights) new.few valid.nodes_few);
-  tables_few = valid.tables_few;
+      (length flight.reached) (node_total draft.flights) new.few valid.flights.nodes_few))
+      valid.flights;
   tables = valid.tables;
-  table_names = valid.table_names;
-  connections_few = valid.connections_few;
-  connections = λ j d h. meeting_kept draft.flights (with_leg_at draft.flights k leg)
-      (get_or draft.connections j d)
-      (map-changed (λ (f : FlightDraft). f.from) (λ f. with_leg f leg) (λ f. refl) draft.flights k)
-      (map-changed (λ (f : FlightDraft). f.to) (λ f. with_leg f leg) (λ f. refl) draft.flights k)
-      (valid.connections j d h);
-  connected_once = valid.connected_once;
+  connections = meetings_changed (λ f. with_leg f leg) draft.flights k draft.connections
+      (λ f. refl) (λ f. refl) valid.connections;
 }
 
 flight_with_cost : (periods : ℕ) (places : List Place) (tables : List CostTable) (cost : Cost)
@@ -331,35 +352,21 @@ total_with_cost (flight ∷ flights) (suc k) cost =
 
 pub parts_with_pricing : (draft : DraftParts) (pricing : Pricing) → IsValidDraft draft
     → IsPricing draft.flights draft.tables pricing → IsValidDraft (with_pricing draft pricing)
-parts_with_pricing draft pricing valid new = record {
-  day = valid.day;
-  places_few = valid.places_few;
-  places = valid.places;
-  place_names = valid.place_names;
-  flights_few = rw (length-changed
-      (with_cost (Tables pricing.total pricing.credit)) draft.flights pricing.flight)
-      valid.flights_few;
-  flights = All-changed (IsFlightDraft draft.day.periods draft.places draft.tables)
-      (with_cost (Tables pricing.total pricing.credit)) draft.flights pricing.flight valid.flights
-      (λ f e valid. flight_with_cost draft.day.periods draft.places draft.tables
-      (Tables pricing.total pricing.credit) f valid (new.long f e));
-  flight_names = names_changed (with_cost (Tables pricing.total pricing.credit))
-      (λ f. refl) draft.flights pricing.flight valid.flight_names;
-  nodes_few = rw (total_with_cost draft.flights pricing.flight
-      (Tables pricing.total pricing.credit)) valid.nodes_few;
-  tables_few = valid.tables_few;
-  tables = valid.tables;
-  table_names = valid.table_names;
-  connections_few = valid.connections_few;
-  connections = λ j d h. meeting_kept draft.flights
-      (with_cost_at draft.flights pricing.flight (Tables pricing.total pricing.credit))
-      (get_or draft.connections j d)
-      (map-changed (λ (f : FlightDraft). f.from) (with_cost (Tables pricing.total pricing.credit))
-      (λ f. refl) draft.flights pricing.flight)
-      (map-changed (λ (f : FlightDraft). f.to) (with_cost (Tables pricing.total pricing.credit))
-      (λ f. refl) draft.flights pricing.flight) (valid.connections j d h);
-  connected_once = valid.connected_once;
-}
+parts_with_pricing draft pricing valid new =
+    let cost = Tables pricing.total pricing.credit in
+    record {
+      day = valid.day;
+      places = valid.places;
+      flights = flights_changed draft.day.periods draft.places draft.tables (with_cost cost)
+          draft.flights pricing.flight (λ f. refl)
+          (λ f e valid. flight_with_cost draft.day.periods draft.places draft.tables cost f valid
+          (new.long f e))
+          (rw (total_with_cost draft.flights pricing.flight cost) valid.flights.nodes_few)
+          valid.flights;
+      tables = valid.tables;
+      connections = meetings_changed (with_cost cost) draft.flights pricing.flight
+          draft.connections (λ f. refl) (λ f. refl) valid.connections;
+    }
 
 cost_with_table : (tables : List CostTable) (table : CostTable) (mg md : ℕ) (cost : Cost)
     → is_cost tables mg md cost ≡ true → is_cost (tables ++ table ∷ []) mg md cost ≡ true
@@ -393,20 +400,16 @@ pub parts_with_table : (draft : DraftParts) (table : CostTable) → IsValidDraft
     → length draft.tables < 1000 → IsValidDraft (with_table draft table)
 parts_with_table draft table valid one fresh room = record {
   day = valid.day;
-  places_few = valid.places_few;
   places = valid.places;
-  place_names = valid.place_names;
-  flights_few = valid.flights_few;
-  flights = λ k d h. flight_with_table draft.day.periods draft.places draft.tables table
-      (get_or draft.flights k d) (valid.flights k d h);
-  flight_names = valid.flight_names;
-  nodes_few = valid.nodes_few;
-  tables_few = let more = length-append draft.tables (table ∷ []) in omega arith;
-  tables = All-push IsTable draft.tables table valid.tables one;
-  table_names = names_more (λ t. t.name) draft.tables table valid.table_names fresh;
-  connections_few = valid.connections_few;
+  flights = flights_beside draft.day.periods draft.places draft.places draft.tables
+      (draft.tables ++ table ∷ []) draft.flights
+      (flight_with_table draft.day.periods draft.places draft.tables table) valid.flights;
+  tables = record {
+    few = let more = length-append draft.tables (table ∷ []) in omega arith;
+    each = All-push IsTable draft.tables table valid.tables.each one;
+    names = names_more (λ t. t.name) draft.tables table valid.tables.names fresh;
+  };
   connections = valid.connections;
-  connected_once = valid.connected_once;
 }
 
 connection_apart : (connections : List Connection) (connection : Connection) (k : ℕ)
@@ -430,22 +433,16 @@ pub parts_with_connection : (draft : DraftParts) (connection : Connection) → I
     → IsValidDraft (with_connection draft connection)
 parts_with_connection draft connection valid one once room = record {
   day = valid.day;
-  places_few = valid.places_few;
   places = valid.places;
-  place_names = valid.place_names;
-  flights_few = valid.flights_few;
   flights = valid.flights;
-  flight_names = valid.flight_names;
-  nodes_few = valid.nodes_few;
-  tables_few = valid.tables_few;
   tables = valid.tables;
-  table_names = valid.table_names;
-  connections_few = let more = length-append draft.connections (connection ∷ []) in omega arith;
-  connections = All-push
-      (IsMeeting draft.flights) draft.connections connection valid.connections one;
-  connected_once = all_pairs_push IsOtherConnection draft.connections connection
-      valid.connected_once
-      (λ k d h. connection_apart draft.connections connection k d once h);
+  connections = record {
+    few = let more = length-append draft.connections (connection ∷ []) in omega arith;
+    each = All-push (IsMeeting draft.flights) draft.connections connection
+        valid.connections.each one;
+    once = all_pairs_push IsOtherConnection draft.connections connection valid.connections.once
+        (λ k d h. connection_apart draft.connections connection k d once h);
+  };
 }
 
 filled_length : (from count value : ℕ) (caps : List ℕ)
@@ -524,30 +521,26 @@ pub parts_with_change : (draft : DraftParts) (change : CapChange) → IsValidDra
     → IsValidDraft (with_cap_change draft change)
 parts_with_change draft change valid new = record {
   day = valid.day;
-  places_few = rw (length-changed (with_change change) draft.places change.place) valid.places_few;
-  places = All-changed (IsPlace draft.day.periods)
-      (with_change change) draft.places change.place valid.places
-      (λ p e one. place_changed draft.day.periods change change.kind p new.few one);
-  place_names = pairs_changed (λ (p : Place). p.name) (with_change change)
-      (λ p. name_unchanged change change.kind p) draft.places change.place valid.place_names;
-  flights_few = valid.flights_few;
-  flights = λ k d h. flight_kept draft.day.periods draft.places
-      (changed_at (with_change change) draft.places change.place) draft.tables
-      (get_or draft.flights k d)
-      (record {
+  places = record {
+    few = rw (length-changed (with_change change) draft.places change.place) valid.places.few;
+    each = All-changed (IsPlace draft.day.periods) (with_change change) draft.places change.place
+        valid.places.each
+        (λ p e one. place_changed draft.day.periods change change.kind p new.few one);
+    names = pairs_changed (λ (p : Place). p.name) (with_change change)
+        (λ p. name_unchanged change change.kind p) draft.places change.place valid.places.names;
+  };
+  flights = flights_beside draft.day.periods draft.places
+      (changed_at (with_change change) draft.places change.place) draft.tables draft.tables
+      draft.flights
+      (λ flight. flight_kept draft.day.periods draft.places
+      (changed_at (with_change change) draft.places change.place) draft.tables flight (record {
         airports = λ j e. get_changed is_airport (with_change change)
             (airport_unchanged change) draft.places change.place j ∙ e;
         sectors = λ j e. get_changed is_sector (with_change change)
             (sector_unchanged change) draft.places change.place j ∙ e;
-      }) (valid.flights k d h);
-  flight_names = valid.flight_names;
-  nodes_few = valid.nodes_few;
-  tables_few = valid.tables_few;
+      })) valid.flights;
   tables = valid.tables;
-  table_names = valid.table_names;
-  connections_few = valid.connections_few;
   connections = valid.connections;
-  connected_once = valid.connected_once;
 }
 
 -- a place that has such capacities has them for every period
@@ -580,7 +573,7 @@ pub reaches : (day : Day) (places : List Place) (flights : List FlightDraft)
 reaches day places flights tables connections nodes change valid new place here = record {
   forward = new.forward;
   within = by change.kind place.kind refl (rw here at new.place)
-      (all_at (IsPlace day.periods) places change.place place valid.parts.places here);
+      (all_at (IsPlace day.periods) places change.place place valid.parts.places.each here);
 }
   where
     by : (kind : CapKind) (place_kind : PlaceKind) → place.kind ≡ place_kind
@@ -709,4 +702,4 @@ pub network_at : (draft : DraftParts) (k : ℕ) (flight : FlightDraft) → IsVal
     → slice_get draft.flights k ≡ Some flight → IsNetwork draft.places flight
 network_at draft k flight valid here =
     (all_at (IsFlightDraft draft.day.periods draft.places draft.tables) draft.flights k flight
-    valid.flights here).network
+    valid.flights.each here).network

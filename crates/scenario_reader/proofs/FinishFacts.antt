@@ -259,36 +259,36 @@ scenario_is draft founds valid e =
     let b = become draft.flights founds e in
     let long = as_long draft.flights founds b in
     let few = few_nodes draft.day.periods draft.places draft.tables draft.flights founds
-    valid.flights b in
-    let total = valid.nodes_few in
+    valid.flights.each b in
+    let total = valid.flights.nodes_few in
     record {
       day = valid.day;
-      places_few = valid.places_few;
       places = valid.places;
-      place_names = valid.place_names;
-      flights_few = rw long valid.flights_few;
-      flights = are_flights draft.day.periods draft.places draft.tables draft.flights founds
-          valid.flights b;
-      flight_names = λ i j d before within same.
-          let within_flights : j < length draft.flights = omega arith in
-          let some : FlightDraft = any_flight draft.flights (omega arith) in
-          valid.flight_names i j some before within_flights
-          (sym (same_names draft.flights founds b i some d (omega arith)) ∙ same
-          ∙ same_names draft.flights founds b j some d within_flights);
-      nodes_few = omega arith;
-      tables_few = valid.tables_few;
+      flights = record {
+        few = rw long valid.flights.few;
+        each = are_flights draft.day.periods draft.places draft.tables draft.flights founds
+            valid.flights.each b;
+        names = λ i j d before within same.
+            let within_flights : j < length draft.flights = omega arith in
+            let some : FlightDraft = any_flight draft.flights (omega arith) in
+            valid.flights.names i j some before within_flights
+            (sym (same_names draft.flights founds b i some d (omega arith)) ∙ same
+            ∙ same_names draft.flights founds b j some d within_flights);
+        nodes_few = omega arith;
+      };
       tables = valid.tables;
-      table_names = valid.table_names;
-      connections_few = valid.connections_few;
-      connections = λ k d h. connection_is draft.flights founds (get_or draft.connections k d) b
-          (valid.connections k d h);
-      connected_once = valid.connected_once;
+      connections = record {
+        few = valid.connections.few;
+        each = λ k d h. connection_is draft.flights founds (get_or draft.connections k d) b
+            (valid.connections.each k d h);
+        once = valid.connections.once;
+      };
     }
 
 pub passed_within : (draft : DraftParts) → IsValidDraft draft
     → All (λ flight. length flight.passed ≤ 30) draft.flights
 passed_within draft valid k d h =
-    let network = (valid.flights k d h).network in
+    let network = (valid.flights.each k d h).network in
     let few = passed_few draft.places (get_or draft.flights k d) network in
     let most = network.reached_few in
     omega arith

@@ -158,19 +158,27 @@ after_records at draft last (fields ∷ rows) valid e =
 day_alone : (day : Day) → IsDay day → IsValidDraft (no_parts day)
 day_alone day valid = record {
   day = valid;
-  places_few = omega arith;
-  places = λ k d h. absurd (omega arith);
-  place_names = λ i j d before h. absurd (omega arith);
-  flights_few = omega arith;
-  flights = λ k d h. absurd (omega arith);
-  flight_names = λ i j d before h. absurd (omega arith);
-  nodes_few = omega arith;
-  tables_few = omega arith;
-  tables = λ k d h. absurd (omega arith);
-  table_names = λ i j d before h. absurd (omega arith);
-  connections_few = omega arith;
-  connections = λ k d h. absurd (omega arith);
-  connected_once = λ i j d before h. absurd (omega arith);
+  places = record {
+    few = omega arith;
+    each = λ k d h. absurd (omega arith);
+    names = λ i j d before h. absurd (omega arith);
+  };
+  flights = record {
+    few = omega arith;
+    each = λ k d h. absurd (omega arith);
+    names = λ i j d before h. absurd (omega arith);
+    nodes_few = omega arith;
+  };
+  tables = record {
+    few = omega arith;
+    each = λ k d h. absurd (omega arith);
+    names = λ i j d before h. absurd (omega arith);
+  };
+  connections = record {
+    few = omega arith;
+    each = λ k d h. absurd (omega arith);
+    once = λ i j d before h. absurd (omega arith);
+  };
 }
 
 day_of_kind : (fields : Fields) (of_kind : Option Kind) (day : Day)

@@ -3,7 +3,7 @@ use Rattle.std.specs.Prelude.{◌≡◌, ◌≢◌, ℕ, ◌+◌, ◌<◌, ◌�
 use Rattle.std.specs.List.{list_any}
 use Rattle.flow_types.specs.Capacities.{has_kind}
 use Rattle.flow_types.specs.Routes.{is_airport, is_sector}
-use Rattle.flow_types.specs.Valid.{is_cost, IsDay, IsOtherConnection, IsPlace, IsTable}
+use Rattle.flow_types.specs.Valid.{ArePlaces, AreTables, is_cost, IsDay, IsOtherConnection}
 use Rattle.flow_types.specs.Words.{is_name}
 use Rattle.flow_types.specs.declared.flight.Connection.{Connection}
 use Rattle.flow_types.specs.declared.flight.Cost.TheVariants.{Tables}
@@ -19,7 +19,7 @@ use Rattle.scenario_reader.specs.declared.capacities.CapChange.{CapChange}
 use Rattle.scenario_reader.specs.declared.tables.Pricing.{Pricing}
 use Rattle.scenario_reader.specs.declared.flight_draft.PlaceLeg.{PlaceLeg}
 use Rattle.scenario_reader.specs.declared.flight_draft.Hours.{Hours}
-use Rattle.flow_types.specs.Limits.{most_capacity, most_connections, most_delay, most_flights, most_legs, most_nodes_in_all, most_places, most_tables}
+use Rattle.flow_types.specs.Limits.{most_capacity, most_connections, most_delay, most_flights, most_legs, most_nodes_in_all}
 
 -- within the day, and not back in time
 pub record IsHours (periods : ℕ) (hours : Hours) : Type 0 where
@@ -121,19 +121,23 @@ pub record IsPricing (flights : List FlightDraft) (tables : List CostTable)
       → IsTrue (is_cost tables flight.hours.mg flight.hours.md
       (Tables pricing.total pricing.credit))
 
+-- flights that can become valid ones
+pub record AreFlightDrafts (periods : ℕ) (places : List Place) (tables : List CostTable)
+    (flights : List FlightDraft) : Type 0 where
+  pub few : length flights ≤ most_flights
+  pub each : All (IsFlightDraft periods places tables) flights
+  pub names : AllPairs (λ a b. a.name ≢ b.name) flights
+  pub nodes_few : node_total flights ≤ most_nodes_in_all
+
+pub record AreMeetings (flights : List FlightDraft) (connections : List Connection) : Type 0 where
+  pub few : length connections ≤ most_connections
+  pub each : All (IsMeeting flights) connections
+  pub once : AllPairs IsOtherConnection connections
+
 -- all that has been read keeps the rules
 pub record IsValidDraft (draft : DraftParts) : Type 0 where
   pub day : IsDay draft.day
-  pub places_few : length draft.places ≤ most_places
-  pub places : All (IsPlace draft.day.periods) draft.places
-  pub place_names : AllPairs (λ a b. a.name ≢ b.name) draft.places
-  pub flights_few : length draft.flights ≤ most_flights
-  pub flights : All (IsFlightDraft draft.day.periods draft.places draft.tables) draft.flights
-  pub flight_names : AllPairs (λ a b. a.name ≢ b.name) draft.flights
-  pub nodes_few : node_total draft.flights ≤ most_nodes_in_all
-  pub tables_few : length draft.tables ≤ most_tables
-  pub tables : All IsTable draft.tables
-  pub table_names : AllPairs (λ a b. a.name ≢ b.name) draft.tables
-  pub connections_few : length draft.connections ≤ most_connections
-  pub connections : All (IsMeeting draft.flights) draft.connections
-  pub connected_once : AllPairs IsOtherConnection draft.connections
+  pub places : ArePlaces draft.day.periods draft.places
+  pub flights : AreFlightDrafts draft.day.periods draft.places draft.tables draft.flights
+  pub tables : AreTables draft.tables
+  pub connections : AreMeetings draft.flights draft.connections

@@ -168,7 +168,8 @@ module _ (parts : Parts) (turn : Connection) (old : List Access)
   last = last_of (slice_get parts.flights turn.first)
 
   joined : IsConnection parts.flights turn
-  joined = All-contains (IsConnection parts.flights) parts.connections turn valid.connections on
+  joined = All-contains (IsConnection parts.flights) parts.connections turn
+      valid.connections.each on
 
   turn_kept : (other : Box) → IsTight parts other → IsTightTurn parts other turn
   turn_kept other tight =

@@ -180,7 +180,8 @@ module _ (parts : Parts) (valid : IsScenario parts) (plan : List (List Stop)) (b
   pub plan_tight : IsTight parts here
   plan_tight = record {
     rows = row_tight;
-    turns = λ k d below. turn_tight (get_or parts.connections k d) (valid.connections k d below)
+    turns = λ k d below. turn_tight (get_or parts.connections k d)
+        (valid.connections.each k d below)
         (turns k d below);
   }
 

@@ -30,7 +30,7 @@ pub flight_in : (parts : Parts) (f : ℕ) (flight : Flight) → IsScenario parts
 flight_in parts f flight valid is =
     subst (IsFlight parts.day.periods parts.places parts.tables)
     (get_or_from_slice_get parts.flights f flight flight is)
-    (valid.flights f flight (slice_get_within parts.flights f flight is))
+    (valid.flights.each f flight (slice_get_within parts.flights f flight is))
 
 hours_proper : (parts : Parts) (flight : Flight) (node : ℕ) → IsScenario parts
     → IsFlight parts.day.periods parts.places parts.tables flight
@@ -150,5 +150,5 @@ root_accesses parts accesses cell valid all so_far = record {
   sound = λ f n. subst (λ (a : Access). IsSound a.window)
       (sym (root_all parts accesses cell valid all so_far f n))
       (root_sound parts f n valid (slice_get parts.flights f) refl);
-  few = omega (arith, so_far.count, valid.flights_few);
+  few = omega (arith, so_far.count, valid.flights.few);
 }

@@ -190,23 +190,31 @@ module _ (leave arrive inside : ℕ) (few_leave : leave ≤ most_capacity)
       periods_from = omega arith;
       periods_to = omega arith;
     };
-    places_few = omega arith;
-    places = places_are;
-    place_names = pairs_three (λ (a b : Place). a.name ≢ b.name) _ _ _ (λ is. let letter : 79 ≡ 68 =
-        by_letter 0 is in omega (arith, letter)) (λ is. let letter : 79 ≡ 83 = by_letter 0 is in
-        omega (arith, letter)) (λ is. let letter : 68 ≡ 83 = by_letter 0 is in
-        omega (arith, letter));
-    flights_few = omega arith;
-    flights = all_two (IsFlight 8 (places_with leave arrive inside) []) there second there_flies
-        flies;
-    flight_names = pairs_two (λ (a b : Flight). a.name ≢ b.name) there second other;
-    nodes_few = omega (arith, short);
-    tables_few = omega arith;
-    tables = λ k d within. absurd (omega (arith, within));
-    table_names = λ i j d less within. absurd (omega (arith, within));
-    connections_few = omega (arith, few);
-    connections = each;
-    connected_once = once;
+    places = record {
+      few = omega arith;
+      each = places_are;
+      names = pairs_three (λ (a b : Place). a.name ≢ b.name) _ _ _
+          (λ is. let letter : 79 ≡ 68 = by_letter 0 is in omega (arith, letter))
+          (λ is. let letter : 79 ≡ 83 = by_letter 0 is in omega (arith, letter))
+          (λ is. let letter : 68 ≡ 83 = by_letter 0 is in omega (arith, letter));
+    };
+    flights = record {
+      few = omega arith;
+      each = all_two (IsFlight 8 (places_with leave arrive inside) []) there second there_flies
+          flies;
+      names = pairs_two (λ (a b : Flight). a.name ≢ b.name) there second other;
+      nodes_few = omega (arith, short);
+    };
+    tables = record {
+      few = omega arith;
+      each = λ k d within. absurd (omega (arith, within));
+      names = λ i j d less within. absurd (omega (arith, within));
+    };
+    connections = record {
+      few = omega (arith, few);
+      each = each;
+      once = once;
+    };
   }
 
   pub two_flights-valid : IsScenario (two_flights leave arrive inside)

@@ -21,7 +21,7 @@ first_leave-first-requires c =
     (sym (c.of_flight.ensures ∙ c.requires.turns.departures c.args.flight c.requires.flight))
     (others_there Departure c.args.flight (length c.args.loads.now.arrives)
     (parts_of c.args.s.now).flights (parts_of c.args.s.now).connections c.requires.loads.arrives
-    c.args.s.now.valid.connections)
+    c.args.s.now.valid.connections.each)
 
 pub arrive_limit-limit-requires : goal.arrive_limit-limit-requires
 arrive_limit-limit-requires c =
@@ -29,7 +29,7 @@ arrive_limit-limit-requires c =
     (sym (c.of_flight-2.ensures ∙ c.requires.turns.arrivals c.args.flight c.requires.flight))
     (others_there Arrival c.args.flight (length c.args.loads.now.leaves)
     (parts_of c.args.s.now).flights (parts_of c.args.s.now).connections c.requires.loads.leaves
-    c.args.s.now.valid.connections)
+    c.args.s.now.valid.connections.each)
 
 pub returns-clause-rates : goal.returns-clause-rates
 returns-clause-rates c = λ trips details are is.

@@ -19,7 +19,7 @@ add_up_later-requires-clause-few c =
     let own = turns_at_end c.args.end (parts_of c.args.s.now) c.args.turns.now c.requires.turns in
     let few = turns_few c.args.end c.args.flight 0 (parts_of c.args.s.now).connections in
     let is = ap length (c.of_flight.ensures ∙ own c.args.flight c.requires.flight) in
-    omega (arith, few, is, c.args.s.now.valid.connections_few)
+    omega (arith, few, is, c.args.s.now.valid.connections.few)
 
 pub returns-clause-costs : goal.returns-clause-costs
 returns-clause-costs c = λ t low high.

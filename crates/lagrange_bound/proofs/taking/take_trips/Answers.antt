@@ -24,7 +24,7 @@ plus-sum-requires-clause-sum c =
       c.loop-number-test.true,
       c.loop-number.auto.number-end,
       ap length c.flights-number-end.ensures,
-      c.args.s.now.valid.flights_few,
+      c.args.s.now.valid.flights.few,
     ))
     c.loop-number.invariant.0)
 

@@ -11,7 +11,7 @@ overflow_cast-at c =
     let parts = parts_of c.args.s.now in
     let same = AreTrips-length parts.day.periods parts.flights c.args.plan.now c.requires in
     let long = ap length c.items-trips.ensures in
-    omega (arith, c.args.s.now.valid.flights_few)
+    omega (arith, c.args.s.now.valid.flights.few)
 
 pub trip_cost-cost-requires : goal.trip_cost-cost-requires
 trip_cost-cost-requires c =
@@ -25,7 +25,7 @@ overflow_add-cost c =
     let parts = parts_of c.args.s.now in
     let same = AreTrips-length parts.day.periods parts.flights c.args.plan.now c.requires in
     let long = ap length c.items-trips.ensures in
-    omega (arith, ints, c.args.s.now.valid.flights_few)
+    omega (arith, ints, c.args.s.now.valid.flights.few)
 
 pub loop-at-preserved : goal.loop-at-preserved
 loop-at-preserved c =
@@ -41,7 +41,7 @@ loop-at-preserved c =
     let value = c.trip_cost-cost.ensures.value
     ∙ ap (trip_cost_at parts.tables (flight_at c.args.s.now at))
     (c.items.ensures ∙ c.index-trips-at.is) in
-    let few = c.args.s.now.valid.flights_few in
+    let few = c.args.s.now.valid.flights.few in
     record {
       so_far = omega (arith, ints, next, value);
       low = omega (arith, ints);

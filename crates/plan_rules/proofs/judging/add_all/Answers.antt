@@ -21,7 +21,7 @@ pub overflow_cast-at : goal.overflow_cast-at
 overflow_cast-at c =
     let parts = parts_of c.args.s.now in
     let same = AreTrips-length parts.day.periods parts.flights c.args.plan.now c.requires.trips in
-    omega (arith, c.args.s.now.valid.flights_few)
+    omega (arith, c.args.s.now.valid.flights.few)
 
 pub add-requires-clause-flight : goal.add-requires-clause-flight
 add-requires-clause-flight c =

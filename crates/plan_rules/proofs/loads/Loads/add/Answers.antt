@@ -12,7 +12,7 @@ returns-clause-trips c =
     slice_get_read parts.flights _ c.args.flight flight refl c.requires.flight
     (rw c.flights.ensures at c.index-flights-flight.is) in
     λ trips are absent trip.
-    AreLoads-add parts c.args.s.now.valid.flights_few trips are.each c.args.flight flight
+    AreLoads-add parts c.args.s.now.valid.flights.few trips are.each c.args.flight flight
     [] c.args.stops.now here absent
     (trip_there parts.day.periods flight c.args.stops.now (trip flight here)) c.args.self.now
     c.add_trip.new.self refl are c.add_trip.ensures c.requires.flight

@@ -12,6 +12,6 @@ returns-clause-trips c =
     slice_get_read parts.flights _ c.args.flight flight refl c.requires.flight
     (rw c.flights.ensures at c.index-flights-flight.is) in
     λ trips are held.
-    AreLoads-remove parts c.args.s.now.valid.flights_few trips are.each c.args.flight flight
+    AreLoads-remove parts c.args.s.now.valid.flights.few trips are.each c.args.flight flight
     c.args.stops.now [] here held tt c.args.self.now c.take_trip.new.self refl are
     c.take_trip.ensures c.requires.flight
