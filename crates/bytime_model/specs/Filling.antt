@@ -1,6 +1,6 @@
 -- What each step of filling a row, or of adding up what flights cost, does. No public clause cites
 -- these.
-use Rattle.std.specs.Prelude.{◌≡◌, Bool, false, true, ℕ, ◌-◌, ◌==◌, List, [], ◌++◌, length, slice_get, if◌then◌else◌, ℤ, pos, neg_ℤ, ◌≤ℤ◌}
+use Rattle.std.specs.Prelude.{◌≡◌, Bool, false, true, ℕ, ◌-◌, ◌==◌, List, [], ◌++◌, length, slice_get, if◌then◌else◌, pos}
 use Rattle.flow_types.specs.declared.flight.Flight.{Flight}
 use Rattle.flow_types.specs.declared.parts.Parts.{Parts}
 use Rattle.flow_types.specs.declared.place.CapKind.{CapKind}

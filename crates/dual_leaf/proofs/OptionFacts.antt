@@ -7,10 +7,9 @@ use Rattle.std.specs.List.{Any}
 use Rattle.exact_sums.proofs.ItemFacts.{item_there}
 use Rattle.flow_types.specs.declared.parts.Parts.{Parts}
 use Rattle.flow_types.specs.declared.plan.Stop.{Stop}
-use Rattle.flow_types.specs.Feasible.{IsFeasible}
 use Rattle.time_windows.specs.declared.access.Access.{Access}
 use Rattle.time_windows.specs.declared.access.Window.{Window}
-use Rattle.time_windows.specs.Boxes.{Box, IsBoxOf, IsClosedMust, IsInBox, IsInWindow, IsWindowWithin, root_box}
+use Rattle.time_windows.specs.Boxes.{Box, IsBoxOf, IsClosedMust, IsInWindow, IsWindowWithin, root_box}
 use Rattle.time_windows.specs.Plans.{HasNoPlan}
 use Rattle.time_windows.proofs.PlanFacts.{planned}
 use Rattle.dual_leaf.specs.declared.options.Kind.{Kind}

@@ -1,11 +1,10 @@
 -- The bound of a leaf on a tight box, or why it has none.
-use Rattle.std.specs.Prelude.{◌≡◌, ◌⊎◌, ◌≢◌, ℕ, ◌^◌, ◌<◌, List, Result, Ok, Err, ℤ, pos, ◌≤ℤ◌, unsigned_abs}
+use Rattle.std.specs.Prelude.{◌≡◌, ◌⊎◌, ◌≢◌, ℕ, ◌^◌, ◌<◌, List, Result, Ok, Err, ℤ, pos, ◌≤ℤ◌}
 use Rattle.flow_types.specs.declared.bound.Bound.{Bound}
 use Rattle.flow_types.specs.declared.bound.Bound.TheVariants.{AtLeast, NoPlan}
 use Rattle.flow_types.specs.declared.parts.Parts.{Parts}
 use Rattle.flow_types.specs.declared.plan.Stop.{Stop}
 use Rattle.flow_types.specs.Costs.{plan_cost}
-use Rattle.flow_types.specs.Feasible.{IsFeasible}
 use Rattle.flight_routes.specs.Prices.{PriceTable}
 use Rattle.priced_plans.specs.PricedBound.{IsRoundedUp}
 use Rattle.flow_types.specs.Bounds.{IsNearBound, IsNearer}

@@ -1,7 +1,6 @@
 -- What the trips in a unit box cost, one flight after another.
 use Rattle.std.specs.Prelude.{◌≡◌, ℕ, ◌*◌, List, [], ◌∷◌, ◌++◌, length, Option, None, Some, slice_get, ℤ}
-use Rattle.flow_types.specs.declared.bound.Bound.{Bound}
-use Rattle.flow_types.specs.declared.bound.Bound.TheVariants.{AtLeast, NoPlan}
+use Rattle.flow_types.specs.declared.bound.Bound.TheVariants.{NoPlan}
 use Rattle.flow_types.specs.declared.parts.Parts.{Parts}
 use Rattle.flow_types.specs.declared.plan.Stop.{Stop}
 use Rattle.flow_types.specs.Costs.{plan_cost, trip_cost_at}

@@ -1,9 +1,8 @@
 -- What the record of a search of the root box says of its day.
-use Rattle.std.proofs.Common.{List, [], ◌∷◌, length, slice_get, ◌≡◌, ℕ, zero, suc, ◌+◌, ◌-◌, ◌*◌, ◌≤◌, ◌⊎◌, inl, inr, Option, None, Some, IfSome, option_map, ℤ, All, true, refl, sym, ap, ◌∙◌, subst, if◌then◌else◌, arith}
+use Rattle.std.proofs.Common.{List, [], ◌∷◌, length, slice_get, ◌≡◌, ℕ, zero, suc, ◌+◌, ◌-◌, ◌*◌, ◌≤◌, ◌⊎◌, inl, inr, Option, None, Some, IfSome, option_map, ℤ, All, refl, ap, ◌∙◌, subst, if◌then◌else◌, arith}
 use Rattle.std.proofs.Math.Path.{fun_ext}
 use Rattle.std.proofs.lemmas.List.Elements.{All-head, All-tail, All-weaker}
 use Rattle.std.proofs.lemmas.Cmp.{int_eq_equiv}
-use Rattle.std.specs.Ordering.{int_eq}
 use Rattle.flow_types.specs.declared.bound.Bound.{Bound}
 use Rattle.flow_types.specs.declared.bound.Bound.TheVariants.{AtLeast, NoPlan}
 use Rattle.flow_types.specs.declared.parts.Parts.{Parts}
@@ -21,7 +20,6 @@ use Rattle.tree_search.specs.Nodes.{cost_of, cutoff_after}
 use Rattle.tree_search.specs.Records.{IsClosed, IsSearchRecord}
 use Rattle.tree_search.specs.declared.found.Budget.{Budget}
 use Rattle.tree_search.specs.declared.found.Found.{Found}
-use Rattle.flow_cli.specs.declared.status.Status.{Status}
 use Rattle.flow_cli.specs.declared.status.Status.TheVariants.{Done, Infeasible, OpenGap}
 use Rattle.flow_cli.specs.Planning.{IsEnough, IsOpen, IsSpent, last_cost, last_plan}
 use Rattle.flow_cli.specs.Status.{status_of}

@@ -1,5 +1,6 @@
 -- What a valid scenario is, part by part.
-use Rattle.std.specs.Prelude.{◌≡◌, ◌≢◌, ℕ, ◌+◌, ◌<◌, ◌≤◌, Bool, ◌&&◌, nat_le, List, length, Option, Some, None, slice_get, IsTrue, All, AllPairs, sum_by, ℤ, pos, neg_ℤ, ◌≤ℤ◌}
+use Rattle.std.specs.Prelude.{◌≡◌, ◌≢◌, ℕ, ◌+◌, ◌<◌, ◌≤◌, Bool, ◌&&◌, nat_le, List, length, Option, Some, None, slice_get, IsTrue, All, AllPairs, sum_by, ℤ}
+use Rattle.exact_sums.specs.Near.{IsNear}
 use Rattle.flow_types.specs.declared.day.Day.{Day}
 use Rattle.flow_types.specs.declared.flight.Connection.{Connection}
 use Rattle.flow_types.specs.declared.flight.Cost.{Cost}
@@ -68,9 +69,8 @@ pub record IsFlight (periods : ℕ) (places : List Place) (tables : List CostTab
   pub cost : IsTrue (is_cost tables flight.mg flight.md flight.cost)
 
 -- no further from zero than a value may be
-pub record IsValue (v : ℤ) : Type 0 where
-  pub low : neg_ℤ (pos limits.most_value) ≤ℤ v
-  pub high : v ≤ℤ pos limits.most_value
+abbrev pub IsValue : ℤ → Type 0
+IsValue v = IsNear limits.most_value v
 
 pub record IsTable (table : CostTable) : Type 0 where
   pub name : IsTrue (is_name table.name)

@@ -1,14 +1,13 @@
 -- The bound that goes with the greedy plan: what all flights would cost if each were alone.
-use Rattle.std.specs.Prelude.{◌≡◌, ℕ, zero, suc, ◌<◌, List, length, slice_get, Option, None, Some, ℤ, pos, neg_ℤ, ◌+ℤ◌, ◌≤ℤ◌}
+use Rattle.std.specs.Prelude.{◌≡◌, ℕ, zero, suc, ◌<◌, List, length, slice_get, ℤ, pos, ◌+ℤ◌}
 use Rattle.exact_sums.specs.Leasts.{IsLeastAt}
 use Rattle.flow_types.specs.declared.bound.Bound.{Bound}
 use Rattle.flow_types.specs.declared.bound.Bound.TheVariants.{AtLeast, NoPlan}
 use Rattle.flow_types.specs.declared.parts.Parts.{Parts}
 use Rattle.flow_types.specs.declared.plan.Stop.{Stop}
-use Rattle.flow_types.specs.Costs.{plan_cost, trip_cost_at}
-use Rattle.flow_types.specs.Feasible.{AreTrips}
+use Rattle.flow_types.specs.Costs.{trip_cost_at}
 use Rattle.flight_routes.specs.Inside.{IsTripIn}
-use Rattle.time_windows.specs.Boxes.{Box, IsInBox}
+use Rattle.time_windows.specs.Boxes.{Box}
 
 -- a flight of which no trip is in the box
 pub record HasNoTrip (parts : Parts) (box : Box) (number : ℕ) : Type 0 where

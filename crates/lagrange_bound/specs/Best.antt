@@ -1,5 +1,5 @@
 -- The best of so many rounds: the prices whose bound is the greatest.
-use Rattle.std.specs.Prelude.{ℕ, ◌≤◌, ◌≤ℤ◌}
+use Rattle.std.specs.Prelude.{ℕ, ◌≤◌}
 use Rattle.flow_types.specs.declared.bound.Bound.{Bound}
 use Rattle.flow_types.specs.Bounds.{IsAtMost}
 use Rattle.flow_types.specs.declared.parts.Parts.{Parts}

@@ -1,12 +1,10 @@
 -- The words of a set, and the bits that tell which of them aren't 0.
-use Rattle.std.proofs.Common.{◌≡◌, ◌≢◌, ◌⊎◌, ℕ, zero, suc, ◌+◌, ◌*◌, ◌/◌, ◌%◌, ◌^◌, ◌<◌, ◌≤◌, ◌==◌, Bool, false, true, not, List, [], ◌∷◌, All, length, get_or, replicate, slice_index, inl, inr, refl, sym, ◌∙◌, ap, subst, arith}
-use Rattle.std.specs.Int.{bit_at}
+use Rattle.std.proofs.Common.{◌≡◌, ◌≢◌, ◌⊎◌, ℕ, ◌+◌, ◌/◌, ◌^◌, ◌<◌, ◌≤◌, ◌==◌, Bool, false, true, not, List, length, replicate, slice_index, inl, inr, refl, sym, ◌∙◌, ap, arith}
 use Rattle.std.proofs.lemmas.Bool.{cases_eq, cases_lt, eq-eqb, eqb-true}
 use Rattle.std.proofs.lemmas.List.{get_or_past, length-replicate}
 use Rattle.std.proofs.lemmas.List.Elements.{All-replicate}
 use Rattle.number_set.proofs.BitFacts.{no_bit, none_in}
-use Rattle.std.proofs.lemmas.Nat.Bits.{bit_at-lt, bit_at-zero}
-use Rattle.number_set.specs.Numbers.{AreKept, ArePut, IsBitPut, IsFirstBit, IsFirstIn, IsChanged, IsFirst, Numbers, has, has_bit, words_for}
+use Rattle.number_set.specs.Numbers.{AreKept, ArePut, IsBitPut, IsFirstBit, IsFirstIn, IsChanged, IsFirst, has, has_bit, words_for}
 
 no_true : {b : Bool} → b ≡ false → b ≡ true → ⊥
 no_true none is = let same : true ≡ false = sym is ∙ none in let e : ⊥ = cc in e

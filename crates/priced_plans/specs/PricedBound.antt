@@ -1,15 +1,11 @@
 -- The bound that the value of prices tells.
-use Rattle.std.specs.Prelude.{ℕ, Option, None, Some, List, ℤ, pos, ◌*ℤ◌, ◌≤ℤ◌, ◌<◌, ◌^◌, unsigned_abs}
+use Rattle.std.specs.Prelude.{ℕ, Option, None, Some, ℤ, pos, ◌*ℤ◌, ◌≤ℤ◌}
 use Rattle.flow_types.specs.declared.bound.Bound.{Bound}
 use Rattle.flow_types.specs.declared.bound.Bound.TheVariants.{AtLeast, NoPlan}
 use Rattle.flow_types.specs.declared.parts.Parts.{Parts}
-use Rattle.flow_types.specs.declared.plan.Stop.{Stop}
-use Rattle.flow_types.specs.Costs.{plan_cost}
-use Rattle.flow_types.specs.Feasible.{IsFeasible}
 use Rattle.flight_routes.specs.Prices.{PriceTable}
-use Rattle.time_windows.specs.Boxes.{Box, IsInBox}
+use Rattle.time_windows.specs.Boxes.{Box}
 use Rattle.priced_plans.specs.Values.{IsPricedValue}
-use Rattle.time_windows.specs.Plans.{HasNoPlan}
 use Rattle.priced_plans.specs.Valuing.{LacksTrip}
 
 -- the value divided by the weight and rounded up: the least number that is no less

@@ -1,5 +1,5 @@
 -- The value of prices as it is found, step by step.
-use Rattle.std.specs.Prelude.{ℕ, ◌*◌, ◌<◌, ◌^◌, List, length, sum_by, Option, None, Some, ℤ, ◌+ℤ◌}
+use Rattle.std.specs.Prelude.{ℕ, ◌*◌, ◌<◌, ◌^◌, List, length, sum_by}
 use Rattle.std.specs.List.{range_with_len}
 use Rattle.flow_types.specs.declared.bound.PriceKey.{PriceKey}
 use Rattle.flow_types.specs.declared.parts.Parts.{Parts}

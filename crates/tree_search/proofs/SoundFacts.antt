@@ -6,7 +6,6 @@ use Rattle.flow_types.specs.declared.bound.Bound.TheVariants.{AtLeast, NoPlan}
 use Rattle.flow_types.specs.declared.parts.Parts.{Parts}
 use Rattle.flow_types.specs.declared.plan.Stop.{Stop}
 use Rattle.flow_types.specs.Costs.{plan_cost}
-use Rattle.flow_types.specs.Feasible.{IsFeasible}
 use Rattle.flow_types.specs.Valid.{IsScenario}
 use Rattle.time_windows.specs.Boxes.{Box, IsInBox}
 use Rattle.time_windows.proofs.PlanFacts.{plan_kept}
