@@ -1,9 +1,8 @@
 -- What the record of a search of the root box says of its day.
-use Rattle.std.proofs.Common.{List, [], ◌∷◌, length, slice_get, ◌≡◌, ℕ, zero, suc, ◌+◌, ◌-◌, ◌*◌, ◌≤◌, ◌⊎◌, inl, inr, Option, None, Some, IfSome, option_map, ℤ, All, true, refl, sym, ap, ◌∙◌, subst, if◌then◌else◌, arith}
+use Rattle.std.proofs.Common.{List, [], ◌∷◌, length, slice_get, ◌≡◌, ℕ, zero, suc, ◌+◌, ◌-◌, ◌*◌, ◌≤◌, ◌⊎◌, inl, inr, Option, None, Some, IfSome, option_map, ℤ, All, refl, ap, ◌∙◌, subst, if◌then◌else◌, arith}
 use Rattle.std.proofs.Math.Path.{fun_ext}
 use Rattle.std.proofs.lemmas.List.Elements.{All-head, All-tail, All-weaker}
 use Rattle.std.proofs.lemmas.Cmp.{int_eq_equiv}
-use Rattle.std.specs.Ordering.{int_eq}
 use Rattle.flow_types.specs.declared.bound.Bound.{Bound}
 use Rattle.flow_types.specs.declared.bound.Bound.TheVariants.{AtLeast, NoPlan}
 use Rattle.flow_types.specs.declared.parts.Parts.{Parts}
@@ -21,10 +20,10 @@ use Rattle.tree_search.specs.Nodes.{cost_of, cutoff_after}
 use Rattle.tree_search.specs.Records.{IsClosed, IsPlanIn, IsSearchRecord, bound_of_cost}
 use Rattle.tree_search.specs.declared.found.Budget.{Budget}
 use Rattle.tree_search.specs.declared.found.Found.{Found}
-use Rattle.flow_cli.specs.declared.status.Status.{Status}
+use Rattle.delay_report.specs.declared.claim.Outcome.TheVariants.{Open, Optimal}
 use Rattle.flow_cli.specs.declared.status.Status.TheVariants.{Done, Infeasible, OpenGap}
 use Rattle.flow_cli.specs.Planning.{IsEnough, IsOpen, IsSpent, last_cost, last_plan}
-use Rattle.flow_cli.specs.Status.{status_of}
+use Rattle.flow_cli.specs.Status.{status_by, status_of}
 
 -- a record on a box that is the root box is one on that
 pub record_of_day : (parts : Parts) (box : Box) (budget : Budget) (found : Found)
@@ -87,7 +86,7 @@ shut : (cost : Option ℤ) → status_of cost (bound_of_cost cost) ≡ OpenGap �
 shut None gap = let e : Infeasible ≡ OpenGap = gap in cc
 shut (Some cost) gap =
     let e : Done ≡ OpenGap =
-    subst (λ b. (if b then Done else OpenGap) ≡ OpenGap) (int_eq_equiv.refl cost) gap in
+    subst (λ b. status_by (if b then Optimal else Open) ≡ OpenGap) (int_eq_equiv.refl cost) gap in
     cc
 
 closed_is_shut : (parts : Parts) (found : Found) → IsClosed parts found → IsOpen parts found → ⊥
