@@ -1,29 +1,24 @@
 -- No answer is that it wasn't written.
-use Rattle.std.proofs.Common.{◌≡◌, ◌∙◌, sym, inl, inr, ℕ, List, Option, None, Some, ℤ, true, false, Bool, if◌then◌else◌}
-use Rattle.std.specs.Ordering.{int_eq}
+use Rattle.std.proofs.Common.{◌≡◌, ◌∙◌, sym, inl, inr, ℕ, List, Option, None, Some}
 use Rattle.flow_outside.specs.Seen.{FilesSeen}
-use Rattle.flow_types.specs.declared.bound.Bound.{Bound}
-use Rattle.flow_types.specs.declared.bound.Bound.TheVariants.{AtLeast, NoPlan}
 use Rattle.flow_types.specs.declared.parts.Parts.{Parts}
 use Rattle.flow_types.specs.declared.plan.Stop.{Stop}
-use Rattle.flow_cli.specs.declared.status.Status.{Status}
+use Rattle.delay_report.specs.Claims.{outcome_of}
+use Rattle.delay_report.specs.declared.claim.Outcome.{Outcome}
+use Rattle.delay_report.specs.declared.claim.Outcome.TheVariants as outcome
 use Rattle.flow_cli.specs.declared.status.Status.TheVariants.{BadPlan, BadScenario, Broken, Done, Infeasible, OpenGap, ReadFault, TooLong, Usage, WriteFault}
 use Rattle.flow_cli.specs.Answer.{IsAnswer}
 use Rattle.flow_cli.specs.Judging.{IsOfPlanOf, IsVerdict}
 use Rattle.flow_cli.specs.Outside.{Change, Printed}
 use Rattle.flow_cli.specs.Planning.{last_cost}
 use Rattle.flow_cli.specs.Reading.{IsUnread, IsWithoutDay}
-use Rattle.flow_cli.specs.Status.{status_of}
+use Rattle.flow_cli.specs.Status.{status_by}
 use Rattle.flow_cli.specs.Words.{Asked, Judged, Planned}
 
-of_day : (cost : Option ℤ) (bound : Bound) → status_of cost bound ≡ WriteFault → ⊥
-of_day cost NoPlan is = let e : Infeasible ≡ WriteFault = is in cc
-of_day None (AtLeast least) is = let e : OpenGap ≡ WriteFault = is in cc
-of_day (Some cost) (AtLeast least) is = by (int_eq cost least) is
-  where
-    by : (b : Bool) → (if b then Done else OpenGap) ≡ WriteFault → ⊥
-    by true is = let e : Done ≡ WriteFault = is in cc
-    by false is = let e : OpenGap ≡ WriteFault = is in cc
+of_day : (o : Outcome) → status_by o ≡ WriteFault → ⊥
+of_day outcome.Optimal is = let e : Done ≡ WriteFault = is in cc
+of_day outcome.Infeasible is = let e : Infeasible ≡ WriteFault = is in cc
+of_day outcome.Open is = let e : OpenGap ≡ WriteFault = is in cc
 
 module _ (files : Change FilesSeen) (name : List ℕ) (answer : Printed)
     (fault : answer.status ≡ WriteFault) where
@@ -50,7 +45,7 @@ no_write_fault files None answer is fault =
     let e : Usage ≡ WriteFault = sym is.ends ∙ fault in cc
 no_write_fault files (Some (Planned name budget)) answer (inl is) fault =
     let day = is.planned in
-    of_day (last_cost is.parts day.found) day.found.bound (sym day.ends ∙ fault)
+    of_day (outcome_of (last_cost is.parts day.found) day.found.bound) (sym day.ends ∙ fault)
 no_write_fault files (Some (Planned name budget)) answer (inr is) fault =
     of_no_day files name answer fault is
 no_write_fault files (Some (Judged name plan)) answer (inl is) fault =

@@ -20,9 +20,10 @@ use Rattle.tree_search.specs.Nodes.{cost_of, cutoff_after}
 use Rattle.tree_search.specs.Records.{IsClosed, IsSearchRecord}
 use Rattle.tree_search.specs.declared.found.Budget.{Budget}
 use Rattle.tree_search.specs.declared.found.Found.{Found}
+use Rattle.delay_report.specs.declared.claim.Outcome.TheVariants.{Open, Optimal}
 use Rattle.flow_cli.specs.declared.status.Status.TheVariants.{Done, Infeasible, OpenGap}
 use Rattle.flow_cli.specs.Planning.{IsEnough, IsOpen, IsSpent, last_cost, last_plan}
-use Rattle.flow_cli.specs.Status.{status_of}
+use Rattle.flow_cli.specs.Status.{status_by, status_of}
 
 -- a record on a box that is the root box is one on that
 pub record_of_day : (parts : Parts) (box : Box) (budget : Budget) (found : Found)
@@ -87,7 +88,7 @@ shut : (cost : Option ℤ) → status_of cost (bound_of cost) ≡ OpenGap → �
 shut None gap = let e : Infeasible ≡ OpenGap = gap in cc
 shut (Some cost) gap =
     let e : Done ≡ OpenGap =
-    subst (λ b. (if b then Done else OpenGap) ≡ OpenGap) (int_eq_equiv.refl cost) gap in
+    subst (λ b. status_by (if b then Optimal else Open) ≡ OpenGap) (int_eq_equiv.refl cost) gap in
     cc
 
 closed_is_shut : (parts : Parts) (found : Found) → IsClosed parts found → IsOpen parts found → ⊥

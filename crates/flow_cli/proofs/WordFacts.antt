@@ -1,5 +1,5 @@
 -- What words ask for, an option after another.
-use Rattle.std.proofs.Common.{ℕ, List, ◌∷◌, false, ◌≡◌, sym, ap, ap₂, ◌∙◌, map, option_map, if◌then◌else◌, Option, Some, None}
+use Rattle.std.proofs.Common.{ℕ, List, ◌∷◌, false, ◌≡◌, sym, ap, ap₂, ◌∙◌, map, option_map, if◌then◌else◌, Option, Some}
 use Rattle.std.specs.Option.{option_and_then}
 use Rattle.flow_cli.specs.declared.words.Given.{Given}
 use Rattle.flow_cli.specs.Words.{Asked, Planned, asked_plan, budget_of, is_word_for_name, with_option, with_options}

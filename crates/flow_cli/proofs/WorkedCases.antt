@@ -1,58 +1,16 @@
--- What is printed of worked days, byte by byte, and what words ask for.
+-- What words ask for, and a plan that keeps every rule.
 use Rattle.std.specs.Prelude.{codes}
-use Rattle.std.proofs.Common.{◌≡◌, ℕ, List, [], ◌∷◌, Some, None, pos, negsuc, refl, arith}
+use Rattle.std.proofs.Common.{◌≡◌, ℕ, List, [], ◌∷◌, Some, None, refl, arith}
 use Rattle.std.proofs.lemmas.List.Elements.{All-nil}
-use Rattle.std.specs.Fmt.{digits}
-use Rattle.flow_types.specs.declared.bound.Bound.TheVariants.{AtLeast, NoPlan}
-use Rattle.flow_types.specs.declared.parts.Parts.{Parts}
 use Rattle.flow_types.specs.declared.plan.Stop.{Stop}
 use Rattle.flow_types.specs.Feasible.{IsFeasible, KeepsTurn}
 use Rattle.worked_days.specs.Days.{plan_with, trip_at, two_flights}
 use Rattle.worked_days.proofs.WorkedDay.{beside_is, feasible_is, there_is}
 use Rattle.tree_search.specs.declared.found.Budget.{Budget}
-use Rattle.flow_cli.specs.Texts.{report_text}
 use Rattle.flow_cli.specs.Words.{Judged, Planned, asked}
 
 abbrev pub on_time : List (List Stop)
 on_time = plan_with (trip_at 0 2)
-
--- what is printed of a plan that no plan betters, of none that was found, and of none that exists
-abbrev pub optimal_text : List ℕ
-optimal_text = codes "status,optimal\ncost,0\nbound,0\nnodes,1\ntrip,F1,ORIG,0,S,0,DEST,2\ntrip,F2,ORIG,0,S,0,DEST,2\n"
-
-abbrev none_found_text : List ℕ
-none_found_text = codes "status,open\ncost,none\nbound,0\nnodes,1\n"
-
-abbrev infeasible_text : List ℕ
-infeasible_text = codes "status,infeasible\ncost,none\nbound,none\nnodes,1\n"
-
--- Both keep the schedule.
-report_of_optimal : report_text (two_flights 2 9 9) (Some on_time) (AtLeast (pos 0)) 1
-    ≡ optimal_text
-unfolding digits
-report_of_optimal = refl
-
--- One departs a period late, at a cost of 1: the bound 1 makes that optimal, and lesser ones open.
-report_of_late : report_text (two_flights 1 9 9) (Some (plan_with (trip_at 1 3)))
-    (AtLeast (pos 1)) 12
-    ≡ codes "status,optimal\ncost,1\nbound,1\nnodes,12\ntrip,F1,ORIG,0,S,0,DEST,2\ntrip,F2,ORIG,1,S,1,DEST,3\n"
-unfolding digits
-report_of_late = refl
-
-report_of_open : report_text (two_flights 1 9 9) (Some (plan_with (trip_at 1 3)))
-    (AtLeast (negsuc 7)) 1
-    ≡ codes "status,open\ncost,1\nbound,-8\nnodes,1\ntrip,F1,ORIG,0,S,0,DEST,2\ntrip,F2,ORIG,1,S,1,DEST,3\n"
-unfolding digits
-report_of_open = refl
-
--- No plan was found; no plan exists.
-report_of_none_found : report_text (two_flights 1 9 9) None (AtLeast (pos 0)) 1 ≡ none_found_text
-unfolding digits
-report_of_none_found = refl
-
-report_of_infeasible : (parts : Parts) → report_text parts None NoPlan 1 ≡ infeasible_text
-unfolding digits
-report_of_infeasible parts = refl
 
 -- The words ask for a plan where they are `plan` and one name, and for a verdict where they are
 -- `judge` and two.

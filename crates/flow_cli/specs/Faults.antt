@@ -4,7 +4,7 @@ use Rattle.std.specs.Fmt.{decimal}
 use Rattle.flow_types.specs.declared.fault.Cause.{Cause}
 use Rattle.flow_types.specs.declared.fault.Cause.TheVariants.{NoDay, UnknownKind, MissingField, ExtraField, BadName, BadNumber, BadDate, Repeated, UnknownName, OutOfRange, BackInTime, Unreached, BackLeg, Apart, Limit, ShortTable, NoRoute, DeadEnd}
 use Rattle.flow_types.specs.declared.fault.Fault.{Fault}
-use Rattle.flow_cli.specs.Lines.{field_text, line_text}
+use Rattle.text_records.specs.Lines.{field_text, line_text}
 
 -- the name of a cause
 abbrev pub cause_word : Cause → List ℕ

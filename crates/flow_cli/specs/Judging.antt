@@ -15,7 +15,7 @@ use Rattle.flow_cli.specs.declared.status.Status.TheVariants.{BadPlan, Broken, D
 use Rattle.flow_cli.specs.Faults.{fault_text}
 use Rattle.flow_cli.specs.Outside.{Change, Printed}
 use Rattle.flow_cli.specs.Reading.{IsDayOf, IsTextOf, IsUnread, IsWithoutDay}
-use Rattle.flow_cli.specs.Verdicts.{broken_text, keeps_text}
+use Rattle.delay_report.specs.Verdicts.{broken_text, keeps_text}
 
 -- the plan keeps every rule: its cost is printed
 pub record TellsCost (parts : Parts) (plan : List (List Stop)) (answer : Printed) : Type 0 where

@@ -3,11 +3,8 @@ pub mod Answers
 pub mod Exit
 pub mod Faults
 pub mod Judging
-pub mod Lines
 pub mod Outside
 pub mod Planning
 pub mod Reading
 pub mod Status
-pub mod Texts
-pub mod Verdicts
 pub mod Words

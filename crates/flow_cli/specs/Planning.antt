@@ -17,7 +17,7 @@ use Rattle.flow_cli.specs.declared.status.Status.TheVariants.{OpenGap}
 use Rattle.flow_cli.specs.Outside.{Change, Printed}
 use Rattle.flow_cli.specs.Reading.{IsDayOf, IsWithoutDay}
 use Rattle.flow_cli.specs.Status.{status_of}
-use Rattle.flow_cli.specs.Texts.{report_text}
+use Rattle.delay_report.specs.Texts.{report_text}
 
 -- the last plan that was found, if one was, and what it costs
 abbrev pub last_plan : Found → Option (List (List Stop))

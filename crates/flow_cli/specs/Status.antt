@@ -1,8 +1,9 @@
 -- The numbers of the statuses, and how a planned day ends.
-use Rattle.std.specs.Prelude.{ℕ, Option, None, Some, ℤ, if◌then◌else◌}
-use Rattle.std.specs.Ordering.{int_eq}
+use Rattle.std.specs.Prelude.{ℕ, Option, ℤ}
 use Rattle.flow_types.specs.declared.bound.Bound.{Bound}
-use Rattle.flow_types.specs.declared.bound.Bound.TheVariants.{AtLeast, NoPlan}
+use Rattle.delay_report.specs.Claims.{outcome_of}
+use Rattle.delay_report.specs.declared.claim.Outcome.{Outcome}
+use Rattle.delay_report.specs.declared.claim.Outcome.TheVariants as outcome
 use Rattle.flow_cli.specs.declared.status.Status.{Status}
 use Rattle.flow_cli.specs.declared.status.Status.TheVariants.{Done, Infeasible, OpenGap, BadScenario, BadCertificate, Usage, ReadFault, WriteFault, OutOfMemory, TooLong, Broken, BadPlan}
 
@@ -21,9 +22,12 @@ number_of TooLong = 9
 number_of Broken = 10
 number_of BadPlan = 11
 
--- optimal where the plan costs the bound, infeasible where the bound is that no plan exists, else
--- open
+-- how a planned day ends, by the outcome of its claim
+abbrev pub status_by : Outcome → Status
+status_by outcome.Optimal = Done
+status_by outcome.Infeasible = Infeasible
+status_by outcome.Open = OpenGap
+
+-- how it ends where the plan, if there is one, costs this and the bound is that
 abbrev pub status_of : Option ℤ → Bound → Status
-status_of cost NoPlan = Infeasible
-status_of None (AtLeast least) = OpenGap
-status_of (Some cost) (AtLeast least) = if int_eq cost least then Done else OpenGap
+status_of cost bound = status_by (outcome_of cost bound)

@@ -1,5 +1,5 @@
 -- The words of the command line.
-use Rattle.std.specs.Prelude.{ℕ, ◌==◌, ◌<◌, Bool, false, ◌&&◌, not, List, [], ◌∷◌, length, Option, Some, None, IfSome, nat_le, option_map, unwrap_or, codes, if◌then◌else◌}
+use Rattle.std.specs.Prelude.{ℕ, ◌==◌, ◌<◌, ◌≤◌, Bool, false, ◌&&◌, not, List, [], ◌∷◌, length, Option, Some, None, IfSome, is_some, nat_le, option_map, unwrap_or, codes, if◌then◌else◌}
 use Rattle.std.specs.Option.{option_and_then}
 use Rattle.std.specs.Str.{bytes_eq}
 use Rattle.flow_types.specs.Words.{number_of}
@@ -7,81 +7,67 @@ use Rattle.tree_search.specs.declared.found.Budget.{Budget}
 use Rattle.flow_cli.specs.declared.words.Command.{Command}
 use Rattle.flow_cli.specs.declared.words.Command.TheVariants as command
 use Rattle.flow_cli.specs.declared.words.Given.{Given}
+use Rattle.flow_cli.specs.declared.words.Limit.{Limit}
+use Rattle.flow_cli.specs.declared.words.Limit.TheVariants.{Cells, Nodes, Pivots, Rounds}
+use Rattle.flow_cli.specs.declared.words.Range.{Range}
 
 -- a name isn't empty and doesn't begin with `-`
 abbrev pub is_word_for_name : List ℕ → Bool
 is_word_for_name [] = false
 is_word_for_name (b ∷ bytes) = not (b == 45)
 
--- a number has 1 to 8 digits, and is within its range
-abbrev pub within_range : ℕ → ℕ → ℕ → Option ℕ
-within_range least most number =
-    if nat_le least number && nat_le number most then Some number else None
-
-abbrev pub number_within : ℕ → ℕ → List ℕ → Option ℕ
-number_within least most word =
-    if nat_le (length word) 8 then option_and_then (within_range least most) (number_of word)
+-- the options: what each of them limits
+abbrev pub limit_of : List ℕ → Option Limit
+limit_of word =
+    if bytes_eq word (codes "--nodes") then Some Nodes
+    else if bytes_eq word (codes "--pivots") then Some Pivots
+    else if bytes_eq word (codes "--cells") then Some Cells
+    else if bytes_eq word (codes "--rounds") then Some Rounds
     else None
+
+-- the least and the most number behind each, and the number where it isn't given
+abbrev pub between : ℕ → ℕ → ℕ → Range
+between least most default = record { least = least; most = most; default = default }
+
+abbrev pub range_of : Limit → Range
+range_of Nodes = between 1 200000 2001
+range_of Pivots = between 0 1000000 20000
+range_of Cells = between 1000 16000000 2000000
+range_of Rounds = between 0 1000 64
+
+-- a number has 1 to 8 digits, and is within its range
+abbrev pub within_range : Range → ℕ → Option ℕ
+within_range range number =
+    if nat_le range.least number && nat_le number range.most then Some number else None
+
+abbrev pub number_within : Range → List ℕ → Option ℕ
+number_within range word =
+    if nat_le (length word) 8 then option_and_then (within_range range) (number_of word) else None
 
 -- no option is given yet
 abbrev pub nothing_given : Given
 nothing_given = record { nodes = None; pivots = None; cells = None; rounds = None }
 
--- each option is given at most once
-abbrev pub once : Option ℕ → Option ℕ → Option ℕ
-once None number = number
-once (Some given) number = None
+abbrev pub is_given : Given → Limit → Bool
+is_given given Nodes = is_some given.nodes
+is_given given Pivots = is_some given.pivots
+is_given given Cells = is_some given.cells
+is_given given Rounds = is_some given.rounds
 
--- how many nodes a search may have, how many pivots each of its runs, and how many cells, and how
--- many rounds of prices each of its boxes
-abbrev pub with_nodes : Given → List ℕ → Option Given
-with_nodes given word =
-    option_map (λ n. record {
-      nodes = Some n;
-      pivots = given.pivots;
-      cells = given.cells;
-      rounds = given.rounds;
-    })
-    (once given.nodes (number_within 1 200000 word))
+abbrev pub with_number : Given → Limit → ℕ → Given
+with_number given Nodes number = record given { nodes = Some number }
+with_number given Pivots number = record given { pivots = Some number }
+with_number given Cells number = record given { cells = Some number }
+with_number given Rounds number = record given { rounds = Some number }
 
-abbrev pub with_pivots : Given → List ℕ → Option Given
-with_pivots given word =
-    option_map (λ n. record {
-      nodes = given.nodes;
-      pivots = Some n;
-      cells = given.cells;
-      rounds = given.rounds;
-    })
-    (once given.pivots (number_within 0 1000000 word))
+-- an option and the number behind it, beside those that are given already: each at most once
+abbrev pub with_limit : Given → List ℕ → Limit → Option Given
+with_limit given word limit =
+    if is_given given limit then None
+    else option_map (with_number given limit) (number_within (range_of limit) word)
 
-abbrev pub with_cells : Given → List ℕ → Option Given
-with_cells given word =
-    option_map (λ n. record {
-      nodes = given.nodes;
-      pivots = given.pivots;
-      cells = Some n;
-      rounds = given.rounds;
-    })
-    (once given.cells (number_within 1000 16000000 word))
-
-abbrev pub with_rounds : Given → List ℕ → Option Given
-with_rounds given word =
-    option_map (λ n. record {
-      nodes = given.nodes;
-      pivots = given.pivots;
-      cells = given.cells;
-      rounds = Some n;
-    })
-    (once given.rounds (number_within 0 1000 word))
-
--- an option and the number behind it, beside those that are given already
 abbrev pub with_option : Given → List ℕ → List ℕ → Option Given
-with_option given option word =
-    if bytes_eq option (codes "--nodes") then with_nodes given word
-    else if bytes_eq option (codes "--pivots") then with_pivots given word
-    else if bytes_eq option (codes "--cells") then with_cells given word
-    else if bytes_eq option (codes "--rounds") then with_rounds given word
-    else None
+with_option given option word = option_and_then (with_limit given word) (limit_of option)
 
 -- options alone, each with its number behind it
 abbrev pub with_options : Given → List (List ℕ) → Option Given
@@ -90,16 +76,15 @@ with_options given (option ∷ []) = None
 with_options given (option ∷ word ∷ words) =
     option_and_then (λ more. with_options more words) (with_option given option word)
 
--- what a search may spend where no option says so is 2,001 nodes, in each run 20,000 pivots and
--- 2,000,000 cells, and on each box 64 rounds of prices
+-- what a search may spend: what is given, and else what holds without the option
 abbrev pub budget_of : Given → Budget
 budget_of given = record {
-  nodes = unwrap_or given.nodes 2001;
+  nodes = unwrap_or given.nodes (range_of Nodes).default;
   limits = record {
-    pivots = unwrap_or given.pivots 20000;
-    cells = unwrap_or given.cells 2000000;
+    pivots = unwrap_or given.pivots (range_of Pivots).default;
+    cells = unwrap_or given.cells (range_of Cells).default;
   };
-  rounds = unwrap_or given.rounds 64;
+  rounds = unwrap_or given.rounds (range_of Rounds).default;
 }
 
 -- what is asked for: that the day of a name is planned, and what that may spend, or that a plan of
@@ -136,6 +121,11 @@ asked (command ∷ words) =
 abbrev pub asked_by : Command → Asked
 asked_by (command.Plan name budget) = Planned name.now budget
 asked_by (command.Judge name plan) = Judged name.now plan.now
+
+-- a number is within its range
+pub record IsWithin (range : Range) (number : ℕ) : Type 0 where
+  pub low : range.least ≤ number
+  pub high : number ≤ range.most
 
 -- a search has a node at least
 abbrev pub IsAllowed : Given → Type 0

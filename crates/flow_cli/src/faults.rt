@@ -2,10 +2,9 @@
 ghost use Rattle.std.specs.Prelude.{◌≡◌, IfOk};
 ghost use Rattle.flow_cli.specs.Faults.{cause_word, fault_text, too_long_text};
 
-use crate::lines::{put_field, put_line, put_number};
 use flow_types::{Cause, Fault, OutOfMemory};
 use std::alloc::Global;
-use text_records::put;
+use text_records::{put, put_field, put_line, put_number};
 
 // The name of the cause.
 fn cause_word(cause: Cause) -> &'static [u8]

@@ -11,7 +11,7 @@ use crate::answer::{Answer, EarlyEnd};
 use crate::faults::fault_line;
 use crate::reading::{day_of, text_of};
 use crate::status::Status;
-use crate::verdicts::{broken_line, keeps_line};
+use delay_report::{broken_line, keeps_line};
 use flow_outside::Files;
 use flow_types::{OutOfMemory, Plan, Scenario};
 use plan_rules::{Loads, Verdict, first_broken_rules_are_first, judge};

@@ -16,10 +16,10 @@
 //!
 //! What is printed and how a run ends is said by `run`'s contract: in `specs/Answer.antt`, and for
 //! each command in `specs/Planning.antt` and `specs/Judging.antt`; what words ask for is said in
-//! `specs/Words.antt`. Where a day was planned, `run` hands back the record of the search whose
-//! numbers it printed. From the status to the number
-//! that the process ends with, and from the words of the environment to those of `run`, it is said
-//! by `exit_code`'s, in `specs/Exit.antt`.
+//! `specs/Words.antt`, and the reports and verdicts, byte by byte, in `delay_report`. Where a day
+//! was planned, `run` hands back the record of the search whose numbers it printed. From the status
+//! to the number that the process ends with, and from the words of the environment to those of
+//! `run`, it is said by `exit_code`'s, in `specs/Exit.antt`.
 //!
 //! Memory: the words, a text, the scenario, its search or the plan with its loads, and the answer.
 //! The record's last plan is printed where it lies.
@@ -29,18 +29,13 @@ mod answer;
 mod exit;
 mod faults;
 mod judging;
-mod laws;
-mod lines;
 mod planning;
 mod reading;
-mod report;
 mod running;
 mod status;
-mod verdicts;
 mod words;
 
 pub use answer::{FoundList, Ran};
 pub use exit::exit_code;
-pub use laws::{reports_are_read_as_their_plans, reports_tell_their_claims};
 pub use running::run;
 pub use status::Status;

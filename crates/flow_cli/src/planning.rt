@@ -1,19 +1,23 @@
 //! The command `plan`.
-ghost use Rattle.std.specs.Prelude.{◌≡◌, ◌<◌, IfOk, IfSome};
+ghost use Rattle.std.specs.Prelude.{◌≡◌, ◌<◌, IfOk, IfSome, length};
 ghost use Rattle.flow_outside.specs.Seen.{AreKept};
 ghost use Rattle.flow_types.specs.Scenario.{parts_of};
 ghost use Rattle.flow_types.specs.Bounds.{IsBound};
 ghost use Rattle.flow_types.specs.Feasible.{IsFeasible};
 ghost use Rattle.time_windows.specs.Boxes.{root_box};
 ghost use Rattle.tree_search.specs.Records.{IsSearchRecord};
+ghost use Rattle.delay_report.specs.Claims.{plan_in};
+ghost use Rattle.delay_report.specs.Texts.{report_text};
 ghost use Rattle.flow_cli.specs.Answers.{IfAnswered, work_status};
 ghost use Rattle.flow_cli.specs.Outside.{change, printed_by};
-ghost use Rattle.flow_cli.specs.Planning.{IsEnough, IsOfPlan, IsOpen, IsPlannedDay, IsSpent, last_plan};
+ghost use Rattle.flow_cli.specs.Planning.{IsEnough, IsOfPlan, IsOpen, IsPlannedDay, IsSpent, last_cost, last_plan};
 ghost use Rattle.flow_cli.specs.Reading.{IsQuiet};
+ghost use Rattle.flow_cli.specs.Status.{status_of};
 
 use crate::answer::{Answer, EarlyEnd};
 use crate::reading::day_of;
-use crate::report::{plan_report, status_in};
+use crate::status::Status;
+use delay_report::{Claim, plan_report};
 use flow_outside::Files;
 use flow_types::{OutOfMemory, Scenario};
 use std::alloc::Global;
@@ -43,9 +47,38 @@ fn plan_day(alloc: Global, s: &Scenario, budget: Budget) -> Result<Answer, OutOf
     ensures { IfOk result (λ answer. IsPlannedDay (parts_of s.now) budget (printed_by answer)) }
 {
     let found = search_day(alloc, s, budget)?;
-    let text = plan_report(alloc, s, &found)?;
-    let status = status_in(s, &found);
+    let (text, status) = report_of(alloc, s, &found)?;
     Ok(Answer::of_record(alloc, text, status, found)?)
+}
+
+// What is printed of a record, and the status that belongs to it.
+fn report_of(alloc: Global, s: &Scenario, found: &Found) -> Result<(Vec<u8>, Status), OutOfMemory>
+    requires { IfSome (last_plan found.now) (IsFeasible (parts_of s.now)) }
+    ensures text { IfOk result
+        (λ report. report.0.items ≡ report_text (parts_of s.now)
+        (last_plan found.now) found.now.bound (length found.now.tree)) }
+    ensures status { IfOk result
+        (λ report. report.1 ≡ status_of (last_cost (parts_of s.now) found.now) found.now.bound) }
+{
+    let claim = claim_in(s, found);
+    let text = plan_report(alloc, s, &claim)?;
+    Ok((text, Status::of_outcome(claim.outcome())))
+}
+
+// What a record claims: its last plan, if it has one, its bound and the nodes of its tree.
+fn claim_in<'a>(s: &Scenario, found: &'a Found) -> Claim<'a>
+    requires { IfSome (last_plan found.now) (IsFeasible (parts_of s.now)) }
+    ensures plan { plan_in result ≡ last_plan found.now }
+    ensures cost { result.cost ≡ last_cost (parts_of s.now) found.now }
+    ensures bound { result.bound ≡ found.now.bound }
+    ensures nodes { result.nodes ≡ length found.now.tree }
+{
+    Claim::of(
+        s,
+        found.plans.items().last(),
+        found.bound,
+        found.tree.nodes(),
+    )
 }
 
 // The record of a search of all plans of the day.

@@ -1,6 +1,8 @@
 //! How a run of the program ends.
 ghost use Rattle.std.specs.Prelude.{◌≡◌};
-ghost use Rattle.flow_cli.specs.Status.{number_of};
+ghost use Rattle.flow_cli.specs.Status.{number_of, status_by};
+
+use delay_report::Outcome;
 
 /// The answer of a run. The program ends with its number.
 #[derive(Clone, Copy, Debug, PartialEq, Eq)]
@@ -32,6 +34,17 @@ pub enum Status {
 }
 
 impl Status {
+    /// The status of a day that was planned, by the outcome of its claim.
+    pub fn of_outcome(outcome: Outcome) -> Self
+        ensures { result ≡ status_by outcome }
+    {
+        match outcome {
+            Outcome::Optimal => Status::Done,
+            Outcome::Infeasible => Status::Infeasible,
+            Outcome::Open => Status::OpenGap,
+        }
+    }
+
     /// The number that the program ends with.
     pub fn number(self) -> u8
         ensures { result ≡ number_of self }

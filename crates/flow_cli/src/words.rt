@@ -1,6 +1,6 @@
 //! The words of the command line.
-ghost use Rattle.std.specs.Prelude.{◌≡◌, ◌≤◌, ◌<◌, IfSome, map, option_map, string_bytes};
-ghost use Rattle.flow_cli.specs.Words.{IsAllowed, MaySearch, asked, asked_by, asked_plan, asked_verdict, budget_of, is_word_for_name, number_within, with_cells, with_nodes, with_option, with_options, with_pivots, with_rounds};
+ghost use Rattle.std.specs.Prelude.{◌≡◌, ◌<◌, IfSome, map, option_map, string_bytes};
+ghost use Rattle.flow_cli.specs.Words.{IsAllowed, IsWithin, MaySearch, asked, asked_by, asked_plan, asked_verdict, between, budget_of, is_given, is_word_for_name, limit_of, number_within, range_of, with_number, with_option, with_options};
 
 use flow_types::parse_number;
 use relaxed_bound::Limits;
@@ -13,6 +13,27 @@ pub enum Command<'a> {
     Plan { name: &'a str, budget: Budget },
     /// To judge the plan of the second name by the day of the first.
     Judge { name: &'a str, plan: &'a str },
+}
+
+/// What an option limits.
+#[derive(Clone, Copy)]
+pub enum Limit {
+    /// How many nodes a search may have.
+    Nodes,
+    /// How many pivots each of its runs may make.
+    Pivots,
+    /// How many cells each of its runs may fill.
+    Cells,
+    /// How many rounds of prices each of its boxes may have.
+    Rounds,
+}
+
+/// The least and the most number behind an option, and the number where it isn't given.
+#[derive(Clone, Copy)]
+pub struct Range {
+    pub least: u64,
+    pub most: u64,
+    pub default: u64,
 }
 
 /// The numbers of the options that are given.
@@ -112,119 +133,130 @@ fn with_options(given: Given, words: &[String]) -> Option<Given>
     )
 }
 
-// What is given with the option and the number behind it.
+// What is given with the option and the number behind it: each option at most once.
 fn with_option(given: Given, option: &str, number: &[u8]) -> Option<Given>
     requires given { IsAllowed given }
     ensures with { result ≡ with_option given option.now number.now }
     ensures allowed { IfSome result IsAllowed }
 {
+    let limit = limit_of(option)?;
+    if is_given(given, limit) {
+        return None;
+    }
+    let number = number_within(range_of(limit), number)?;
+    Some(with_number(given, limit, number))
+}
+
+// What the option of this word limits, if it is one.
+fn limit_of(option: &str) -> Option<Limit>
+    ensures { result ≡ limit_of option.now }
+{
     if option == "--nodes" {
-        return with_nodes(given, number);
+        return Some(Limit::Nodes);
     }
     if option == "--pivots" {
-        return with_pivots(given, number);
+        return Some(Limit::Pivots);
     }
     if option == "--cells" {
-        return with_cells(given, number);
+        return Some(Limit::Cells);
     }
     if option == "--rounds" {
-        return with_rounds(given, number);
+        return Some(Limit::Rounds);
     }
     None
 }
 
-// What is given with the number of nodes that a search may have.
-fn with_nodes(given: Given, number: &[u8]) -> Option<Given>
-    requires given { IsAllowed given }
-    ensures with { result ≡ with_nodes given number.now }
-    ensures allowed { IfSome result IsAllowed }
+// The numbers that may stand behind an option, and the one that holds without it.
+fn range_of(limit: Limit) -> Range
+    ensures { result ≡ range_of limit }
 {
-    if given.nodes.is_some() {
-        return None;
+    match limit {
+        Limit::Nodes => between(1, 200_000, 2_001),
+        Limit::Pivots => between(0, 1_000_000, 20_000),
+        Limit::Cells => between(1_000, 16_000_000, 2_000_000),
+        Limit::Rounds => between(0, 1_000, 64),
     }
-    let nodes = number_within(1, 200_000, number)?;
-    Some(Given {
-        nodes: Some(nodes),
-        ..given
-    })
 }
 
-// What is given with the number of pivots that a run may make.
-fn with_pivots(given: Given, number: &[u8]) -> Option<Given>
-    requires given { IsAllowed given }
-    ensures with { result ≡ with_pivots given number.now }
-    ensures allowed { IfSome result IsAllowed }
+// A range and the number without the option.
+fn between(least: u64, most: u64, default: u64) -> Range
+    ensures { result ≡ between least most default }
 {
-    if given.pivots.is_some() {
-        return None;
+    Range {
+        least,
+        most,
+        default,
     }
-    let pivots = number_within(0, 1_000_000, number)?;
-    Some(Given {
-        pivots: Some(pivots),
-        ..given
-    })
 }
 
-// What is given with the number of cells that a run may fill.
-fn with_cells(given: Given, number: &[u8]) -> Option<Given>
-    requires given { IsAllowed given }
-    ensures with { result ≡ with_cells given number.now }
-    ensures allowed { IfSome result IsAllowed }
+// Whether the option is given already.
+fn is_given(given: Given, limit: Limit) -> bool
+    ensures { result ≡ is_given given limit }
 {
-    if given.cells.is_some() {
-        return None;
+    match limit {
+        Limit::Nodes => given.nodes.is_some(),
+        Limit::Pivots => given.pivots.is_some(),
+        Limit::Cells => given.cells.is_some(),
+        Limit::Rounds => given.rounds.is_some(),
     }
-    let cells = number_within(1_000, 16_000_000, number)?;
-    Some(Given {
-        cells: Some(cells as u32),
-        ..given
-    })
 }
 
-// What is given with the number of rounds of prices that a box may have.
-fn with_rounds(given: Given, number: &[u8]) -> Option<Given>
+// What is given with the option's number.
+fn with_number(given: Given, limit: Limit, number: u64) -> Given
     requires given { IsAllowed given }
-    ensures with { result ≡ with_rounds given number.now }
-    ensures allowed { IfSome result IsAllowed }
+    requires within { IsWithin (range_of limit) number }
+    ensures with { result ≡ with_number given limit number }
+    ensures allowed { IsAllowed result }
 {
-    if given.rounds.is_some() {
-        return None;
+    match limit {
+        Limit::Nodes => Given {
+            nodes: Some(number),
+            ..given
+        },
+        Limit::Pivots => Given {
+            pivots: Some(number),
+            ..given
+        },
+        Limit::Cells => Given {
+            cells: Some(number as u32),
+            ..given
+        },
+        Limit::Rounds => Given {
+            rounds: Some(number as u32),
+            ..given
+        },
     }
-    let rounds = number_within(0, 1_000, number)?;
-    Some(Given {
-        rounds: Some(rounds as u32),
-        ..given
-    })
 }
 
 // The number that the word spells, if it is one of the range.
-fn number_within(least: u64, most: u64, word: &[u8]) -> Option<u64>
-    ensures number { result ≡ number_within least most word.now }
-    ensures within { IfSome result (λ number. (least ≤ number) × (number ≤ most)) }
+fn number_within(range: Range, word: &[u8]) -> Option<u64>
+    ensures number { result ≡ number_within range word.now }
+    ensures within { IfSome result (IsWithin range) }
 {
     if word.len() > MOST_DIGITS {
         return None;
     }
     let number = parse_number(word)?;
-    if least <= number && number <= most {
+    if range.least <= number && number <= range.most {
         return Some(number);
     }
     None
 }
 
-// What a search may spend: what is given, and else 2,001 nodes, runs of 20,000 pivots and 2,000,000
-// cells, and 64 rounds of prices a box.
+// What a search may spend: what is given, and else what holds without the option.
 fn budget_of(given: Given) -> Budget
     requires given { IsAllowed given }
     ensures budget { result ≡ budget_of given }
     ensures nodes { 0 < result.nodes }
 {
     Budget {
-        nodes: given.nodes.unwrap_or(2_001),
+        nodes: given.nodes.unwrap_or(range_of(Limit::Nodes).default),
         limits: Limits {
-            pivots: given.pivots.unwrap_or(20_000),
-            cells: given.cells.unwrap_or(2_000_000),
+            pivots: given.pivots.unwrap_or(range_of(Limit::Pivots).default),
+            cells: given.cells.unwrap_or(range_of(Limit::Cells).default as u32),
         },
-        rounds: given.rounds.unwrap_or(64),
+        rounds: given
+            .rounds
+            .unwrap_or(range_of(Limit::Rounds).default as u32),
     }
 }

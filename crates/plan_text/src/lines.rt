@@ -6,7 +6,7 @@ ghost use Rattle.plan_text.specs.Lines.{place_name, stop_text, stops_text, trip_
 
 use flow_types::{Flight, OutOfMemory, Place, Scenario, Stop, place_at};
 use std::alloc::Global;
-use text_records::put;
+use text_records::{put, put_field, put_number};
 
 // The name of the place at the node of the flight, empty where there is none.
 fn place_name<'a>(places: &'a [Place], flight: &Flight, node: u16) -> &'a [u8]
@@ -28,10 +28,8 @@ fn put_stop(
 ) -> Result<(), OutOfMemory>
     ensures { OnOk result (out.new.items ≡ out.old.items ++ stop_text places.now flight.now stop) }
 {
-    put(out, b",")?;
-    put(out, place_name(places, flight, stop.node))?;
-    put(out, b",")?;
-    put(out, stop.time.to_string(alloc)?.as_bytes())
+    put_field(out, place_name(places, flight, stop.node))?;
+    put_number(alloc, out, u64::from(stop.time))
 }
 
 // Adds the stops of the flight.

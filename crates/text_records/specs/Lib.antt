@@ -3,3 +3,4 @@ pub mod Rows
 pub mod Reader
 pub mod Fields
 pub mod Names
+pub mod Lines

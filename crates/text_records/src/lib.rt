@@ -22,7 +22,7 @@
 //!
 //! A `NameIndex` is the names that were told so far, seen as the list; `known_in` and `new_name`
 //! read the fields that name what is known and what is new. `put` adds bytes to a text that is
-//! written.
+//! written, and `put_line`, `put_field` and `put_number` a line or a field.
 //!
 //! Memory: 8 KiB, the longest record, at 8 bytes a field besides its bytes, in blocks that grow by
 //! doubling, and a copy of each name. Time: the length of the text, and a look-up by hash for each
@@ -39,4 +39,4 @@ pub use error::{FieldFault, RecordError, Refusal, refusal_of};
 pub use fields::{ends_after, field_in, name_in, number_in};
 pub use names::{NameIndex, known_at, known_in, new_name};
 pub use rows::Rows;
-pub use writing::put;
+pub use writing::{put, put_field, put_line, put_number};

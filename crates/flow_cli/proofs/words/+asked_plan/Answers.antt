@@ -1,4 +1,4 @@
-use Rattle.std.proofs.Common.{◌∙◌, sym, Global, map, option_map, string_bytes}
+use Rattle.std.proofs.Common.{◌∙◌, sym, Global, option_map, string_bytes}
 use Rattle.flow_cli.specs.Words.{asked_by}
 use Rattle.flow_cli.proofs.WordFacts.{an_option_before}
 use Rattle.flow_cli.proofs.words.+asked_plan.Goals as goal

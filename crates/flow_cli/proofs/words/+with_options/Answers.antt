@@ -1,4 +1,4 @@
-use Rattle.std.proofs.Common.{Global, map, string_bytes}
+use Rattle.std.proofs.Common.{Global, string_bytes}
 use Rattle.flow_cli.proofs.WordFacts.{one_more_option}
 use Rattle.flow_cli.proofs.words.+with_options.Goals as goal
 

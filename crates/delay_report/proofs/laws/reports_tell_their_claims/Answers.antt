@@ -1,5 +1,5 @@
-use Rattle.flow_cli.proofs.ReportFacts.{told_bound, told_cost, told_nodes}
-use Rattle.flow_cli.proofs.laws.reports_tell_their_claims.Goals as goal
+use Rattle.delay_report.proofs.ReportFacts.{told_bound, told_cost, told_nodes}
+use Rattle.delay_report.proofs.laws.reports_tell_their_claims.Goals as goal
 
 pub returns-clause-cost : goal.returns-clause-cost
 returns-clause-cost c = told_cost

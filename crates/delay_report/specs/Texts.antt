@@ -1,4 +1,4 @@
--- What is printed of a day that was planned, byte by byte.
+-- What is printed of a claim, byte by byte.
 use Rattle.std.specs.Prelude.{ℕ, ◌<◌, ◌^◌, List, [], ◌∷◌, ◌++◌, Option, None, Some, codes, ℤ, option_map}
 use lib.Signed.{mag}
 use Rattle.std.specs.Fmt.{decimal, signed_decimal}
@@ -10,16 +10,16 @@ use Rattle.flow_types.specs.declared.place.Place.{Place}
 use Rattle.flow_types.specs.declared.plan.Stop.{Stop}
 use Rattle.flow_types.specs.Costs.{plan_cost}
 use Rattle.plan_text.specs.Lines.{trip_text}
-use Rattle.flow_cli.specs.declared.status.Status.{Status}
-use Rattle.flow_cli.specs.declared.status.Status.TheVariants.{Done, Infeasible}
-use Rattle.flow_cli.specs.Lines.{line_text}
-use Rattle.flow_cli.specs.Status.{status_of}
+use Rattle.text_records.specs.Lines.{line_text}
+use Rattle.delay_report.specs.Claims.{outcome_of}
+use Rattle.delay_report.specs.declared.claim.Outcome.{Outcome}
+use Rattle.delay_report.specs.declared.claim.Outcome.TheVariants.{Infeasible, Open, Optimal}
 
--- the word for a status
-abbrev pub status_word : Status → List ℕ
-status_word Done = codes "optimal"
-status_word Infeasible = codes "infeasible"
-status_word status = codes "open"
+-- the word for an outcome
+abbrev pub outcome_word : Outcome → List ℕ
+outcome_word Optimal = codes "optimal"
+outcome_word Infeasible = codes "infeasible"
+outcome_word Open = codes "open"
 
 -- a cost, or that there is no plan; a bound, or that there is none
 abbrev pub cost_word : Option ℤ → List ℕ
@@ -33,7 +33,7 @@ bound_word (AtLeast least) = signed_decimal least
 -- four lines: the status, the cost, the bound, and how many nodes the search has
 abbrev pub claim_text : Option ℤ → Bound → ℕ → List ℕ
 claim_text cost bound nodes =
-    line_text (codes "status,") (status_word (status_of cost bound))
+    line_text (codes "status,") (outcome_word (outcome_of cost bound))
     ++ (line_text (codes "cost,") (cost_word cost)
     ++ (line_text (codes "bound,") (bound_word bound)
     ++ line_text (codes "nodes,") (decimal nodes)))

@@ -21,11 +21,11 @@ use Rattle.text_records.proofs.LineFacts.{ArePlainLines, IsPlain, line_of, lines
 use Rattle.plan_text.specs.Plans.{none_read, plan_from, plan_of, records_step}
 use Rattle.plan_text.proofs.ReadingFacts.{plan_is}
 use Rattle.plan_text.proofs.PlansAgain.{all_read, passed_over, plain_trips, trip_is_line, trip_rows, trips_of_all}
-use Rattle.flow_cli.specs.declared.status.Status.{Status}
-use Rattle.flow_cli.specs.declared.status.Status.TheVariants as status
-use Rattle.flow_cli.specs.Lines.{line_text}
-use Rattle.flow_cli.specs.Status.{status_of}
-use Rattle.flow_cli.specs.Texts.{IsShort, IsShortBound, bound_word, claim_text, cost_word, plan_text, report_text, status_word, trips_text}
+use Rattle.text_records.specs.Lines.{line_text}
+use Rattle.delay_report.specs.Claims.{outcome_of}
+use Rattle.delay_report.specs.declared.claim.Outcome.{Outcome}
+use Rattle.delay_report.specs.declared.claim.Outcome.TheVariants.{Infeasible, Open, Optimal}
+use Rattle.delay_report.specs.Texts.{IsShort, IsShortBound, bound_word, claim_text, cost_word, outcome_word, plan_text, report_text, trips_text}
 
 -- a record of two fields
 abbrev pair : List ℕ → List ℕ → Fields
@@ -33,26 +33,17 @@ pair label word = label ∷ word ∷ []
 
 abbrev pub claim_rows : Option ℤ → Bound → ℕ → List Fields → List Fields
 claim_rows cost bound nodes rows =
-    pair (codes "status") (status_word (status_of cost bound))
+    pair (codes "status") (outcome_word (outcome_of cost bound))
     ∷ pair (codes "cost") (cost_word cost)
     ∷ pair (codes "bound") (bound_word bound) ∷ pair (codes "nodes") (decimal nodes) ∷ rows
 
 abbrev cost_of : Parts → Option (List (List Stop)) → Option ℤ
 cost_of parts plan = option_map (plan_cost parts.tables parts.flights) plan
 
-plain_status : (s : Status) → IsPlain (status_word s)
-plain_status status.Done = refl
-plain_status status.Infeasible = refl
-plain_status status.OpenGap = refl
-plain_status status.BadScenario = refl
-plain_status status.BadCertificate = refl
-plain_status status.Usage = refl
-plain_status status.ReadFault = refl
-plain_status status.WriteFault = refl
-plain_status status.OutOfMemory = refl
-plain_status status.TooLong = refl
-plain_status status.Broken = refl
-plain_status status.BadPlan = refl
+plain_outcome : (outcome : Outcome) → IsPlain (outcome_word outcome)
+plain_outcome Optimal = refl
+plain_outcome Infeasible = refl
+plain_outcome Open = refl
 
 plain_cost : (cost : Option ℤ) → IsPlain (cost_word cost)
 plain_cost None = refl
@@ -65,7 +56,7 @@ plain_bound (AtLeast least) = plain_signed least
 plain_claim : (cost : Option ℤ) (bound : Bound) (nodes : ℕ) (rows : List Fields)
     → ArePlainLines rows → ArePlainLines (claim_rows cost bound nodes rows)
 plain_claim cost bound nodes rows plain = (
-  (refl, (plain_status (status_of cost bound), tt)),
+  (refl, (plain_outcome (outcome_of cost bound), tt)),
   (
     (refl, (plain_cost cost, tt)),
     ((refl, (plain_bound bound, tt)), ((refl, (plain_decimal nodes, tt)), plain)),
@@ -90,13 +81,13 @@ trips_are_lines places (flight ∷ flights) (trip ∷ plan) =
 claim_is_lines : (cost : Option ℤ) (bound : Bound) (nodes : ℕ) (rows : List Fields)
     → claim_text cost bound nodes ++ lines_of rows ≡ lines_of (claim_rows cost bound nodes rows)
 claim_is_lines cost bound nodes rows =
-    let a = line_text (codes "status,") (status_word (status_of cost bound)) in
+    let a = line_text (codes "status,") (outcome_word (outcome_of cost bound)) in
     let b = line_text (codes "cost,") (cost_word cost) in
     let c = line_text (codes "bound,") (bound_word bound) in
     let d = line_text (codes "nodes,") (decimal nodes) in
     let p = lines_of rows in
-    let is_a : a ≡ line_of (pair (codes "status") (status_word (status_of cost bound))) =
-    label_line (codes "status") (status_word (status_of cost bound)) in
+    let is_a : a ≡ line_of (pair (codes "status") (outcome_word (outcome_of cost bound))) =
+    label_line (codes "status") (outcome_word (outcome_of cost bound)) in
     let is_b : b ≡ line_of (pair (codes "cost") (cost_word cost)) =
     label_line (codes "cost") (cost_word cost) in
     let is_c : c ≡ line_of (pair (codes "bound") (bound_word bound)) =
@@ -149,7 +140,7 @@ plan_of_report parts plan bound nodes valid feasible =
     let rows = trip_rows parts.places parts.flights plan in
     let none = none_read parts.flights in
     let told : records_step parts 1 none (claim_rows cost bound nodes rows) ≡ Ok (map Some plan) =
-    passed_over parts 1 none (codes "status") (status_word (status_of cost bound) ∷ [])
+    passed_over parts 1 none (codes "status") (outcome_word (outcome_of cost bound) ∷ [])
     (pair (codes "cost") (cost_word cost) ∷ pair (codes "bound") (bound_word bound)
     ∷ pair (codes "nodes") (decimal nodes) ∷ rows) refl
     ∙ passed_over parts 2 none (codes "cost") (cost_word cost ∷ [])

@@ -1,7 +1,7 @@
 use Rattle.std.proofs.Common.{◌≡◌, ◌++◌, drop}
 use Rattle.flow_types.specs.Scenario.{parts_of}
-use Rattle.flow_cli.specs.Texts.{trips_text}
-use Rattle.flow_cli.proofs.report.put_trips.Given as goal
+use Rattle.delay_report.specs.Texts.{trips_text}
+use Rattle.delay_report.proofs.report.put_trips.Given as goal
 
 -- the text so far, and the trips that are left, are the whole
 abbrev pub invariant-loop-at : goal.invariant-loop-at

@@ -7,9 +7,9 @@ ghost use Rattle.flow_types.specs.Costs.{plan_cost};
 ghost use Rattle.flow_types.specs.Feasible.{IsFeasible};
 ghost use Rattle.flow_types.specs.Valid.{IsScenario};
 ghost use Rattle.plan_text.specs.Plans.{plan_of};
-ghost use Rattle.flow_cli.specs.Texts.{IsShort, IsShortBound, report_text};
+ghost use Rattle.delay_report.specs.Texts.{IsShort, IsShortBound, report_text};
 
-/// What `plan` prints of a plan is a text of that plan: for a valid scenario and a plan that keeps
+/// The report of a plan is a text of that plan: for a valid scenario and a plan that keeps
 /// every rule, it is read as this plan, whatever bound and number of nodes it claims.
 pub fn reports_are_read_as_their_plans()
     ensures { (parts : Parts) (plan : List (List Stop)) (bound : Bound) (nodes : ℕ)

@@ -1,7 +1,7 @@
 use Rattle.std.proofs.Common.{◌≡◌, ◌++◌, ◌∙◌, ◌<◌, ◌≤◌, length, min, ap, rules}
 use Rattle.flow_types.specs.Scenario.{parts_of}
-use Rattle.flow_cli.proofs.TextFacts.{none_left, one_more}
-use Rattle.flow_cli.proofs.report.put_trips.Goals as goal
+use Rattle.delay_report.proofs.TextFacts.{none_left, one_more}
+use Rattle.delay_report.proofs.report.put_trips.Goals as goal
 
 pub loop-at-preserved : goal.loop-at-preserved
 loop-at-preserved c =

@@ -11,7 +11,7 @@ use Rattle.plan_rules.specs.declared.broken.Broken.{Broken}
 use Rattle.plan_rules.specs.declared.broken.Broken.TheVariants as broken
 use Rattle.plan_rules.specs.declared.broken.Overload.{Overload}
 use Rattle.plan_text.specs.Lines.{place_name}
-use Rattle.flow_cli.specs.Lines.{field_text, line_text}
+use Rattle.text_records.specs.Lines.{field_text, line_text}
 
 -- the cost of a plan that keeps every rule
 abbrev pub keeps_text : ℤ → List ℕ

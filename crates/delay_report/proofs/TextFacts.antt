@@ -9,7 +9,7 @@ use Rattle.flow_types.specs.declared.flight.Flight.{Flight}
 use Rattle.flow_types.specs.declared.place.Place.{Place}
 use Rattle.flow_types.specs.declared.plan.Stop.{Stop}
 use Rattle.plan_text.specs.Lines.{trip_text}
-use Rattle.flow_cli.specs.Texts.{trips_text}
+use Rattle.delay_report.specs.Texts.{trips_text}
 
 no_flights : (places : List Place) (plan : List (List Stop)) → trips_text places [] plan ≡ []
 no_flights places [] = refl

@@ -7,7 +7,7 @@ use Rattle.plan_rules.specs.declared.broken.Broken.{Broken}
 use Rattle.plan_rules.specs.declared.broken.Broken.TheVariants as broken
 use Rattle.plan_rules.specs.FirstBroken.{over}
 use Rattle.worked_days.specs.Days.{plan_with, there_and_back, trip_at}
-use Rattle.flow_cli.specs.Verdicts.{broken_text, keeps_text}
+use Rattle.delay_report.specs.Verdicts.{broken_text, keeps_text}
 
 abbrev line_of : Broken → List ℕ
 line_of rule = broken_text (there_and_back 1 2) (plan_with (trip_at 3 5)) rule

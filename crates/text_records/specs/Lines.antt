@@ -1,4 +1,4 @@
--- What lines of printed texts are made of.
+-- What lines of texts that are written are made of.
 use Rattle.std.specs.Prelude.{ℕ, List, ◌++◌, codes}
 
 -- a line: what it says, and its word

@@ -4,14 +4,13 @@ ghost use Rattle.std.specs.Fmt.{decimal};
 ghost use Rattle.flow_types.specs.Scenario.{parts_of};
 ghost use Rattle.plan_rules.specs.BrokenRules.{stop_at};
 ghost use Rattle.plan_text.specs.Lines.{place_name};
-ghost use Rattle.flow_cli.specs.Lines.{field_text};
-ghost use Rattle.flow_cli.specs.Verdicts.{broken_fields, broken_text, flight_field, flight_name, keeps_text, over_fields, place_field, place_of_stop, time_of_stop, turn_fields};
+ghost use Rattle.text_records.specs.Lines.{field_text};
+ghost use Rattle.delay_report.specs.Verdicts.{broken_fields, broken_text, flight_field, flight_name, keeps_text, over_fields, place_field, place_of_stop, time_of_stop, turn_fields};
 
-use crate::lines::{put_field, put_line, put_number};
 use flow_types::{Connection, OutOfMemory, Plan, Scenario, Stop, place_at};
 use plan_rules::{Broken, Overload};
 use std::alloc::Global;
-use text_records::put;
+use text_records::{put, put_field, put_line, put_number};
 
 /// The line of a plan that keeps every rule, at its cost.
 pub fn keeps_line(alloc: Global, cost: i64) -> Result<Vec<u8>, OutOfMemory>

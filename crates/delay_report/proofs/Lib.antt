@@ -1,0 +1,4 @@
+pub mod ReportFacts
+pub mod TextFacts
+mod WorkedReports
+mod WorkedVerdicts

@@ -1,5 +1,0 @@
-use Rattle.flow_cli.proofs.ReportFacts.{plan_of_report}
-use Rattle.flow_cli.proofs.laws.reports_are_read_as_their_plans.Goals as goal
-
-pub returns : goal.returns
-returns c = plan_of_report
