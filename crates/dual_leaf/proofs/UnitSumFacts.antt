@@ -26,7 +26,7 @@ use Rattle.greedy_plan.proofs.FeasibleFacts.{chosen_more, chosen_none, greedy_fe
 use Rattle.dual_leaf.specs.Leaf.{IsBoundOn, IsCostIn, IsUnitBox}
 use Rattle.priced_plans.specs.PricedBound.{IsNearBound}
 use Rattle.dual_leaf.specs.UnitSums.{IsNext, IsNextTrip, IsSoFar, IsSumOf, bound_of}
-use Rattle.dual_leaf.proofs.SumsFacts.{abs_le}
+use Rattle.valid_cuts.proofs.SumsFacts.{abs_le}
 use Rattle.dual_leaf.proofs.UnitBoxFacts.{one_trip}
 use Rattle.dual_leaf.proofs.UnitFitFacts.{trip_fits}
 
