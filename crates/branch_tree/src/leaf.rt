@@ -1,18 +1,6 @@
 //! Leaves.
 
-use bytime_model::RowName;
-use flow_types::Sequence;
-
-/// A row of the by-time program, and how often it is counted.
-#[derive(Clone, Copy, Debug, PartialEq, Eq)]
-pub struct Multiplier {
-    pub row: RowName,
-    /// Below 2^62.
-    pub value: u64,
-}
-
-/// A list of multipliers.
-pub type Multipliers = Sequence<Multiplier>;
+use bytime_model::Multipliers;
 
 /// Why no plan of a box costs less than its bound.
 #[derive(Debug, Drop)]

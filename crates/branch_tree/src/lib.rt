@@ -30,5 +30,5 @@
 mod leaf;
 mod tree;
 
-pub use leaf::{Leaf, Multiplier, Multipliers};
+pub use leaf::Leaf;
 pub use tree::{Tree, TreeNode, TreeNodes};

@@ -1,6 +1,7 @@
 -- Naming the rows: names of all numbers from one on, one after the other.
-use Rattle.std.proofs.Common.{◌≡◌, ℕ, zero, suc, ◌+◌, ◌-◌, ◌≤◌, List, [], ◌∷◌, ◌++◌, map, sym, ◌∙◌, ap, arith}
-use Rattle.std.proofs.lemmas.List.{append-nil, append_assoc}
+use Rattle.std.proofs.Common.{◌≡◌, ℕ, zero, suc, ◌+◌, ◌-◌, ◌<◌, ◌≤◌, List, [], ◌∷◌, ◌++◌, length, get_or, map, take, sym, ◌∙◌, ap, arith, take_all}
+use Rattle.std.proofs.lemmas.Grind.{flat_map-append}
+use Rattle.std.proofs.lemmas.List.{append-nil, append_assoc, take_more}
 use Rattle.std.proofs.lemmas.List.FromFn.{map-range_with_len_more}
 use Rattle.std.specs.List.{flat_map, range_with_len}
 use Rattle.bytime_model.specs.declared.names.RowName.{RowName}
@@ -66,3 +67,33 @@ listed_more part to start old new listed more =
           ∙ ap (λ names. start ++ names) (sym (range_more part 0 to))
           ∙ ap (λ n. start ++ flat_map part (range_with_len 0 n)) next;
     }
+
+-- a loop over a list, each item of which has several
+pub record AreTaken {X : Type 0} (part : X → List RowName) (xs : List X) (i : ℕ)
+    (start now : List RowName) : Type 0 where
+  pub are : now ≡ start ++ flat_map part (take i xs)
+
+module _ {X : Type 0} (part : X → List RowName) (xs : List X) where
+  pub next_taken : (i : ℕ) (d : X) → i < length xs
+      → flat_map part (take (i + 1) xs) ≡ flat_map part (take i xs) ++ part (get_or xs i d)
+  next_taken i d within =
+      ap (flat_map part) (take_more xs i d within)
+      ∙ flat_map-append part (take i xs) (get_or xs i d ∷ [])
+      ∙ ap (λ names. flat_map part (take i xs) ++ names) (append-nil (part (get_or xs i d)))
+
+  pub taken_none : (start : List RowName) → AreTaken part xs 0 start start
+  taken_none start = record { are = sym (append-nil start) }
+
+  pub taken_more : (i : ℕ) (d : X) (start old new : List RowName) → i < length xs
+      → AreTaken part xs i start old → new ≡ old ++ part (get_or xs i d)
+      → AreTaken part xs (i + 1) start new
+  taken_more i d start old new within taken more = record {
+    are = more ∙ ap (λ names. names ++ part (get_or xs i d)) taken.are
+        ∙ append_assoc start (flat_map part (take i xs)) (part (get_or xs i d))
+        ∙ ap (λ names. start ++ names) (sym (next_taken i d within));
+  }
+
+  pub taken_all : (i : ℕ) (start now : List RowName) → length xs ≤ i
+      → AreTaken part xs i start now → now ≡ start ++ flat_map part xs
+  taken_all i start now past taken =
+      taken.are ∙ ap (λ list. start ++ flat_map part list) (take_all i xs past)

@@ -1,12 +1,11 @@
 -- Like terms are collected in every row, and in the cost row.
-use Rattle.std.proofs.Common.{◌≡◌, ◌≢◌, ℕ, zero, suc, ◌+◌, ◌-◌, ◌<◌, ◌≤◌, ◌==◌, Bool, true, false, ◌&&◌, nat_le, nat_lt, List, [], ◌∷◌, length, Option, None, Some, slice_get, get_or, All, AllPairs, if◌then◌else◌, ℤ, pos, inl, inr, ◌⊎◌, refl, sym, ◌∙◌, ap, subst, arith}
-use Rattle.std.proofs.lemmas.Bool.{and_parts, eqb-true, leb-true, ltb-true}
-use Rattle.std.proofs.lemmas.List.Elements.{All-head, All-nil, All-tail}
+use Rattle.std.proofs.Common.{◌≡◌, ◌≢◌, ℕ, zero, suc, ◌+◌, ◌-◌, ◌<◌, ◌≤◌, ◌==◌, Bool, true, false, nat_le, List, [], ◌∷◌, length, Option, None, Some, slice_get, All, AllPairs, if◌then◌else◌, ℤ, pos, inl, inr, ◌⊎◌, refl, sym, ◌∙◌, ap, subst, arith}
+use Rattle.std.proofs.lemmas.Bool.{eqb-true, leb-true}
+use Rattle.std.proofs.lemmas.List.Elements.{All-head, All-tail}
 use Rattle.std.proofs.lemmas.Bool.Decides.{Decides-int_eq}
 use Rattle.std.proofs.lemmas.Int.{ints}
 use Rattle.std.specs.List.{flat_map, range_with_len}
 use Rattle.std.specs.Ordering.{int_eq}
-use Rattle.exact_sums.proofs.ShortLists.{no_pairs}
 use Rattle.exact_sums.proofs.ItemFacts.{All-item}
 use Rattle.flow_types.specs.declared.flight.Connection.{Connection}
 use Rattle.flow_types.specs.declared.flight.Flight.{Flight}
@@ -18,15 +17,13 @@ use Rattle.flow_types.specs.Routes.{IsLeg, IsOtherLeg}
 use Rattle.flow_types.specs.Valid.{IsConnection, IsFlight, IsScenario, destination_of, origin_of}
 use Rattle.time_windows.proofs.PlanFacts.{found_at}
 use Rattle.time_windows.proofs.RootFacts.{flight_in}
-use Rattle.bytime_model.specs.declared.names.RowName.{RowName}
-use Rattle.bytime_model.specs.declared.names.RowName.TheVariants.{Arr, Connect, Cut, Dep, Enter, Leave, Mono, Occupy, Sector, Top}
 use Rattle.bytime_model.specs.declared.variables.Term.{Term}
 use Rattle.bytime_model.specs.declared.variables.Var.{Var}
 use Rattle.bytime_model.specs.declared.variables.Var.TheVariants.{By, Inside}
 use Rattle.bytime_model.specs.CostRow.{cost_row, flight_terms, late_step, late_terms, most_late, most_wait, steps, unless_zero, wait_step, wait_terms}
-use Rattle.bytime_model.specs.Rows.{AreCollected, AreOther, AtMost, back_term, by_before, connect_terms, enter_terms, enters_in, is_node, is_row, last_node, leave_terms, minus_one, no_row, node_from, occupy_terms, of_connection, of_flight, on_term, on_terms, one, over_flights, row_of, row_terms, stay_terms, stay_terms_at, term_of, turn_terms, use_terms}
+use Rattle.bytime_model.specs.Rows.{AreCollected, AreOther, back_term, by_before, connect_terms, enter_terms, enters_in, last_node, leave_terms, minus_one, node_from, occupy_terms, of_connection, of_flight, on_term, on_terms, one, over_flights, stay_terms, stay_terms_at, term_of, turn_terms, use_terms}
 use Rattle.bytime_model.specs.Values.{is_plain}
-use Rattle.bytime_model.proofs.SmallFacts.{all_over, row_units}
+use Rattle.bytime_model.proofs.SmallFacts.{all_over}
 use Rattle.bytime_model.proofs.NameLists.{Ascending, Each, ascending_append, ascending_flat, ascending_if, ascending_pairs, each_all, each_append, each_if, each_weaker}
 
 -- what a variable is of
@@ -46,7 +43,7 @@ abbrev is_by : Var → Bool
 is_by (By f n t) = true
 is_by (Inside f n t) = false
 
-abbrev Once : List Term → Type 0
+abbrev pub Once : List Term → Type 0
 Once = Ascending AreOther
 
 abbrev HasFlight : ℕ → Term → Type 0
@@ -67,7 +64,7 @@ other_flight f g a b other one two same = other (sym one ∙ ap flight_of same �
 other_node : (n m : ℕ) (a b : Term) → n ≢ m → HasNode n a → HasNode m b → AreOther a b
 other_node n m a b other one two same = other (sym one ∙ ap node_of same ∙ two)
 
-other_time : (t u : ℕ) (a b : Term) → t ≢ u → HasTime t a → HasTime u b → AreOther a b
+pub other_time : (t u : ℕ) (a b : Term) → t ≢ u → HasTime t a → HasTime u b → AreOther a b
 other_time t u a b other one two same = other (sym one ∙ ap time_of same ∙ two)
 
 -- parts of a list, where the parts of different items have nothing in common
@@ -176,7 +173,7 @@ module _ (f : ℕ) where
 
   module _ (nodes : ℕ) (flight : Flight) (each : All (IsLeg nodes) flight.legs)
       (apart : AllPairs IsOtherLeg flight.legs) where
-    leave_once : (n t : ℕ) → Once (leave_terms f flight n t)
+    pub leave_once : (n t : ℕ) → Once (leave_terms f flight n t)
     leave_once n t = (
       parts_each (IsOn n) (on_term f n t) (on_is n t) (IsLeg nodes)
           (AreOther (term_of one (By f n t))) flight.legs each
@@ -188,7 +185,7 @@ module _ (f : ℕ) where
       on_once n t flight.legs apart,
     )
 
-    enter_once : (n t : ℕ) → Once (enter_terms f flight n t)
+    pub enter_once : (n t : ℕ) → Once (enter_terms f flight n t)
     enter_once n t = (
       parts_each (IsBack n) (back_term f n t) (back_is n t) (IsLeg nodes)
           (AreOther (term_of one (By f n t))) flight.legs each
@@ -204,7 +201,7 @@ module _ (f : ℕ) where
         → AreOther a (term_of minus_one (Inside f n t))
     inside_other n t a by same = absurd (let e : true ≡ false = sym by ∙ ap is_by same in cc)
 
-    occupy_once : (n t : ℕ) → Once (occupy_terms f flight n t)
+    pub occupy_once : (n t : ℕ) → Once (occupy_terms f flight n t)
     occupy_once n t =
         let leave = leave_once n t in
         let last = term_of minus_one (Inside f n t) in
@@ -319,7 +316,7 @@ steps_each P step variable from (suc count) is =
     (step_each P (step from) (variable from) (is from))
     (steps_each P step variable (from + 1) count is)
 
-abbrev IsNotZero : Term → Type 0
+abbrev pub IsNotZero : Term → Type 0
 IsNotZero term = term.factor ≢ pos 0
 
 not_0 : (factor : ℤ) → IsNot0 factor → factor ≢ pos 0
@@ -327,7 +324,7 @@ not_0 factor other same =
     let is : int_eq factor (pos 0) ≡ true = (Decides-int_eq factor (pos 0)).1 same in
     absurd cc
 
-unit_not_0 : (factor : ℤ) → (factor ≡ one) ⊎ (factor ≡ minus_one) → factor ≢ pos 0
+pub unit_not_0 : (factor : ℤ) → (factor ≡ one) ⊎ (factor ≡ minus_one) → factor ≢ pos 0
 unit_not_0 factor (inl is) same = absurd (omega (arith, ints, is, same))
 unit_not_0 factor (inr is) same = absurd (omega (arith, ints, is, same))
 
@@ -421,7 +418,7 @@ module _ (parts : Parts) where
           before_once connection.first last t connection.turnaround,
         )
 
-    connect_once : (c t : ℕ) (found : Option Connection) → slice_get parts.connections c ≡ found
+    pub connect_once : (c t : ℕ) (found : Option Connection) → slice_get parts.connections c ≡ found
         → Once (of_connection (λ connection. connect_terms parts.flights connection t) found)
     connect_once c t None is = tt
     connect_once c t (Some connection) is =
@@ -430,61 +427,20 @@ module _ (parts : Parts) where
         scenario.connections.each
         is)
 
-    capacity_once : (k : CapKind) (place t : ℕ)
+    pub capacity_once : (k : CapKind) (place t : ℕ)
         → Once (over_flights (use_terms k place t) 0 parts.flights)
     capacity_once k place t =
         over_once (use_terms k place t) (λ f flight. use_flight f k place t flight)
         (IsFlight parts.day.periods parts.places parts.tables) 0 parts.flights scenario.flights.each
         (λ f flight is. use_once f parts.day.periods parts flight is k place t)
 
-    of_once : (f : ℕ) (terms : Flight → List Term) (found : Option Flight)
+    pub of_once : (f : ℕ) (terms : Flight → List Term) (found : Option Flight)
         → slice_get parts.flights f ≡ found
         → ((flight : Flight) → IsFlight parts.day.periods parts.places parts.tables flight
         → Once (terms flight))
         → Once (of_flight terms found)
     of_once f terms None is each = tt
     of_once f terms (Some flight) is each = each flight (flight_in parts f flight scenario is)
-
-    named_once : (name : RowName) → is_row parts name ≡ true → Once (row_terms parts name)
-    named_once (Mono f n t) is =
-        let ends = and_parts (nat_lt 0 t) (nat_lt t parts.day.periods)
-        (and_parts (is_node (slice_get parts.flights f) n)
-        (nat_lt 0 t && nat_lt t parts.day.periods) is).1 in
-        let from : 0 < t = ltb-true 0 t ends.0 in (
-          (
-            other_time (t - 1) t (term_of one (By f n (t - 1))) (term_of minus_one (By f n t))
-                (λ same. omega (arith, from, same)) refl refl,
-            tt,
-          ),
-          (tt, tt),
-        )
-    named_once (Top f n) is = (tt, tt)
-    named_once (Dep p t) is = capacity_once kind.Dep p t
-    named_once (Arr p t) is = capacity_once kind.Arr p t
-    named_once (Sector p t) is = capacity_once kind.Sector p t
-    named_once (Occupy f n t) is =
-        of_once f (λ flight. occupy_terms f flight n t) (slice_get parts.flights f) refl
-        (λ flight proper. occupy_once f (length flight.nodes) flight proper.route.each_leg
-        proper.route.once n t)
-    named_once (Enter f n t) is =
-        of_once f (λ flight. enter_terms f flight n t) (slice_get parts.flights f) refl
-        (λ flight proper. enter_once f (length flight.nodes) flight proper.route.each_leg
-        proper.route.once n t)
-    named_once (Leave f n) is =
-        of_once f (λ flight. leave_terms f flight n (parts.day.periods - 1))
-        (slice_get parts.flights f) refl
-        (λ flight proper. leave_once f (length flight.nodes) flight proper.route.each_leg
-        proper.route.once n (parts.day.periods - 1))
-    named_once (Connect c t) is = connect_once c t (slice_get parts.connections c) refl
-    named_once (Cut i) is = tt
-
-    pub row_collected : (name : RowName) → is_row parts name ≡ true
-        → AreCollected (row_terms parts name)
-    row_collected name is = record {
-      once = ascending_pairs AreOther (row_terms parts name) (named_once name is);
-      no_zero = λ k d within. unit_not_0 (get_or (row_terms parts name) k d).factor
-          (row_units parts name k d within);
-    }
 
     pub cost_collected : AreCollected (cost_row parts).terms
     cost_collected = record {
@@ -497,15 +453,3 @@ module _ (parts : Parts) where
           (λ f flight. each_all IsNotZero (flight_terms parts.tables parts.day.periods f flight)
           (priced_each f flight));
     }
-
-    -- of what a buffer holds
-    pub held_collected : (name : RowName) (held : AtMost) (told : Bool)
-        → told ≡ is_row parts name → (told ≡ true → held ≡ row_of parts name)
-        → (told ≡ false → held ≡ no_row) → AreCollected held.terms
-    held_collected name held true told row none =
-        subst (λ h. AreCollected h.terms) (sym (row refl)) (row_collected name (sym told))
-    held_collected name held false told row none =
-        subst (λ h. AreCollected h.terms) (sym (none refl)) (record {
-          once = no_pairs AreOther;
-          no_zero = All-nil IsNotZero;
-        })

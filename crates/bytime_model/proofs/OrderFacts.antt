@@ -1,5 +1,5 @@
 -- The names of the rows are in ascending order.
-use Rattle.std.proofs.Common.{◌≡◌, ℕ, ◌+◌, ◌-◌, ◌<◌, ◌≤◌, ◌==◌, Bool, true, false, ◌&&◌, ◌||◌, nat_lt, List, [], ◌∷◌, ◌++◌, length, map, slice_get, AllPairs, if◌then◌else◌, refl, sym, ◌⊎◌, inl, inr, ◌∙◌, subst, arith}
+use Rattle.std.proofs.Common.{◌≡◌, ℕ, ◌+◌, ◌-◌, ◌<◌, ◌≤◌, ◌==◌, Bool, true, false, ◌&&◌, ◌||◌, nat_lt, List, [], ◌∷◌, ◌++◌, length, map, slice_get, if◌then◌else◌, refl, sym, ◌⊎◌, inl, inr, ◌∙◌, arith}
 use Rattle.std.proofs.lemmas.Bool.{eq-eqb, eqb-true, le-ltb, lt-ltb, ltb-true}
 use Rattle.std.specs.List.{flat_map, range_with_len}
 use Rattle.flow_types.specs.declared.parts.Parts.{Parts}
@@ -8,11 +8,14 @@ use Rattle.flow_types.specs.declared.place.CapKind.TheVariants as kind
 use Rattle.flow_types.specs.Capacities.{has_kind}
 use Rattle.bytime_model.specs.declared.names.RowName.{RowName}
 use Rattle.bytime_model.specs.declared.names.RowName.TheVariants.{Connect, Enter, Leave, Mono, Occupy, Top}
-use Rattle.bytime_model.specs.AllRows.{capacity_name, capacity_names, connect_names, enter_names, leave_names, mono_names, node_count, occupy_names, over_all_nodes, over_connections, over_nodes, over_places, rows_of, top_names}
+use Rattle.bytime_model.specs.declared.kinds.RowKind.TheVariants as kinds
+use Rattle.bytime_model.specs.AllRows.{capacity_name, capacity_names, connect_names, enter_names, leave_names, mono_names, node_count, occupy_names, over_nodes, top_names}
+use Rattle.bytime_model.specs.Kinds.{rank}
+use Rattle.bytime_model.proofs.AllRowsFacts.{over_all_nodes, over_connections, over_places}
 use Rattle.bytime_model.specs.Order.{IsBefore, is_before, is_less_or, key_of}
 use Rattle.bytime_model.specs.Rows.{goes_on}
 use Rattle.bytime_model.specs.Values.{has_inside}
-use Rattle.bytime_model.proofs.NameLists.{Ascending, Each, ascending_append, ascending_flat, ascending_if, ascending_map, ascending_pairs, each_append, each_flat, each_if, each_map, each_weaker}
+use Rattle.bytime_model.proofs.NameLists.{Ascending, Each, ascending_append, ascending_flat, ascending_if, ascending_map, each_append, each_flat, each_if, each_map, each_weaker}
 
 less_now : (a b : ℕ) (rest : Bool) → a < b → is_less_or a b rest ≡ true
 less_now a b rest less = rw (lt-ltb a b less) refl
@@ -81,21 +84,21 @@ before_on a b c =
     (λ one two. lt-ltb x.3 z.3 (omega (arith, ltb-true x.3 y.3 one, ltb-true y.3 z.3 two)))))
 
 -- of a kind, of a number, of two
-record HasKind (k : ℕ) (name : RowName) : Type 0 where
-  kind : (key_of name).0 ≡ k
+pub record HasKind (k : ℕ) (name : RowName) : Type 0 where
+  pub kind : (key_of name).0 ≡ k
 
-record HasFirst (k n : ℕ) (name : RowName) : Type 0 where
-  kind : (key_of name).0 ≡ k
-  first : (key_of name).1 ≡ n
+pub record HasFirst (k n : ℕ) (name : RowName) : Type 0 where
+  pub kind : (key_of name).0 ≡ k
+  pub first : (key_of name).1 ≡ n
 
-record HasSecond (k n m : ℕ) (name : RowName) : Type 0 where
-  kind : (key_of name).0 ≡ k
-  first : (key_of name).1 ≡ n
-  second : (key_of name).2 ≡ m
+pub record HasSecond (k n m : ℕ) (name : RowName) : Type 0 where
+  pub kind : (key_of name).0 ≡ k
+  pub first : (key_of name).1 ≡ n
+  pub second : (key_of name).2 ≡ m
 
 -- from a kind on
-record IsFrom (k : ℕ) (name : RowName) : Type 0 where
-  from : k ≤ (key_of name).0
+pub record IsFrom (k : ℕ) (name : RowName) : Type 0 where
+  pub from : k ≤ (key_of name).0
 
 before_kind : (k : ℕ) (a b : RowName) → HasKind k a → IsFrom (k + 1) b → IsBefore a b
 before_kind k a b one two =
@@ -147,9 +150,9 @@ before_third a b kind first second less =
     (lt-ltb x.3 y.3 less)))
 
 -- the names of a kind, in order
-record AreOf (k : ℕ) (names : List RowName) : Type 0 where
-  each : Each (HasKind k) names
-  ascending : Ascending IsBefore names
+pub record AreOf (k : ℕ) (names : List RowName) : Type 0 where
+  pub each : Each (HasKind k) names
+  pub ascending : Ascending IsBefore names
 
 -- those of all nodes, where those of each are
 record AreOfNode (k f n : ℕ) (names : List RowName) : Type 0 where
@@ -212,40 +215,35 @@ node_one : (k f n : ℕ) (name : RowName) → HasSecond k f n name → AreOfNode
 node_one k f n name has = record { each = (has, tt); ascending = (tt, tt) }
 
 -- kind by kind
-monos : (parts : Parts) → AreOf 0 (over_all_nodes parts (mono_names parts))
+pub monos : (parts : Parts) → AreOf 0 (over_all_nodes parts (mono_names parts))
 monos parts = nodes_ascend parts 0 (mono_names parts) (λ f n.
     thirds_ascend 0 f n (Mono f n) 1 (parts.day.periods - 1)
     (λ t. record { kind = refl; first = refl; second = refl }) (λ t. refl))
 
-tops : (parts : Parts) → AreOf 1 (over_all_nodes parts top_names)
+pub tops : (parts : Parts) → AreOf 1 (over_all_nodes parts top_names)
 tops parts = nodes_ascend parts 1 top_names (λ f n.
     node_one 1 f n (Top f n) (record { kind = refl; first = refl; second = refl }))
 
-occupies : (parts : Parts) → AreOf 5 (over_all_nodes parts (occupy_names parts))
+pub occupies : (parts : Parts) → AreOf 5 (over_all_nodes parts (occupy_names parts))
 occupies parts = nodes_ascend parts 5 (occupy_names parts) (λ f n.
     node_if 5 f n (has_inside (slice_get parts.flights f) n)
     (map (Occupy f n) (range_with_len 0 parts.day.periods))
     (thirds_ascend 5 f n (Occupy f n) 0 parts.day.periods
     (λ t. record { kind = refl; first = refl; second = refl }) (λ t. refl)))
 
-enters : (parts : Parts) → AreOf 6 (over_all_nodes parts (enter_names parts))
+pub enters : (parts : Parts) → AreOf 6 (over_all_nodes parts (enter_names parts))
 enters parts = nodes_ascend parts 6 (enter_names parts) (λ f n.
     node_if 6 f n (nat_lt 0 n) (map (Enter f n) (range_with_len 0 parts.day.periods))
     (thirds_ascend 6 f n (Enter f n) 0 parts.day.periods
     (λ t. record { kind = refl; first = refl; second = refl }) (λ t. refl)))
 
-leaves : (parts : Parts) → AreOf 7 (over_all_nodes parts (leave_names parts))
+pub leaves : (parts : Parts) → AreOf 7 (over_all_nodes parts (leave_names parts))
 leaves parts = nodes_ascend parts 7 (leave_names parts) (λ f n.
     node_if 7 f n (goes_on (slice_get parts.flights f) n) (Leave f n ∷ [])
     (node_one 7 f n (Leave f n) (record { kind = refl; first = refl; second = refl })))
 
-abbrev kind_number : CapKind → ℕ
-kind_number kind.Dep = 2
-kind_number kind.Arr = 3
-kind_number kind.Sector = 4
-
 capacity_key : (kind : CapKind) (p t : ℕ)
-    → HasSecond (kind_number kind) p t (capacity_name kind p t)
+    → HasSecond (rank (kinds.Places kind)) p t (capacity_name kind p t)
 capacity_key kind.Dep p t = record { kind = refl; first = refl; second = refl }
 capacity_key kind.Arr p t = record { kind = refl; first = refl; second = refl }
 capacity_key kind.Sector p t = record { kind = refl; first = refl; second = refl }
@@ -261,9 +259,10 @@ numbers_ascend k names count each ascending = record {
   ascending = ascending_flat IsBefore (HasFirst k) names 0 count (before_first k) each ascending;
 }
 
-places_ascend : (parts : Parts) (kind : CapKind) → AreOf (kind_number kind) (over_places parts kind)
+pub places_ascend : (parts : Parts) (kind : CapKind)
+    → AreOf (rank (kinds.Places kind)) (over_places parts kind)
 places_ascend parts kind =
-    let k = kind_number kind in
+    let k = rank (kinds.Places kind) in
     numbers_ascend k (capacity_names parts kind) (length parts.places)
     (λ p. each_if (HasFirst k p) (has_kind kind (slice_get parts.places p))
     (map (capacity_name kind p) (range_with_len 0 parts.day.periods))
@@ -272,7 +271,7 @@ places_ascend parts kind =
     (map (capacity_name kind p) (range_with_len 0 parts.day.periods))
     (seconds_ascend k p (capacity_name kind p) 0 parts.day.periods (capacity_key kind p)))
 
-connects : (parts : Parts) → AreOf 8 (over_connections parts)
+pub connects : (parts : Parts) → AreOf 8 (over_connections parts)
 connects parts =
     numbers_ascend 8 (connect_names parts) (length parts.connections)
     (λ c. seconds_first 8 c (Connect c) 0 parts.day.periods
@@ -281,18 +280,11 @@ connects parts =
     (λ t. record { kind = refl; first = refl; second = refl }))
 
 -- all kinds from one on
-record AreFrom (k : ℕ) (names : List RowName) : Type 0 where
-  each : Each (IsFrom k) names
-  ascending : Ascending IsBefore names
+pub record AreFrom (k : ℕ) (names : List RowName) : Type 0 where
+  pub each : Each (IsFrom k) names
+  pub ascending : Ascending IsBefore names
 
-last_kind : (k : ℕ) (names : List RowName) → AreOf k names → AreFrom k names
-last_kind k names are = record {
-  each = each_weaker (HasKind k) (IsFrom k) names
-      (λ _ has. record { from = omega (arith, has.kind) }) are.each;
-  ascending = are.ascending;
-}
-
-kind_then : (k : ℕ) (names more : List RowName) → AreOf k names → AreFrom (k + 1) more
+pub kind_then : (k : ℕ) (names more : List RowName) → AreOf k names → AreFrom (k + 1) more
     → AreFrom k (names ++ more)
 kind_then k names more are from = record {
   each = each_append (IsFrom k) names more
@@ -303,30 +295,3 @@ kind_then k names more are from = record {
   ascending = ascending_append IsBefore (HasKind k) (IsFrom (k + 1)) names more (before_kind k)
       are.each from.each are.ascending from.ascending;
 }
-
-pub rows_ascend : (parts : Parts) → AllPairs IsBefore (rows_of parts)
-rows_ascend parts =
-    let all = over_all_nodes parts in
-    let of = over_places parts in
-    let eight = over_connections parts in
-    let seven = all (leave_names parts) ++ eight in
-    let six = all (enter_names parts) ++ seven in
-    let five = all (occupy_names parts) ++ six in
-    let four = of kind.Sector ++ five in
-    let three = of kind.Arr ++ four in
-    let two = of kind.Dep ++ three in
-    let one = all top_names ++ two in
-    ascending_pairs IsBefore (rows_of parts)
-    (kind_then 0 (all (mono_names parts)) one (monos parts)
-    (kind_then 1 (all top_names) two (tops parts)
-    (kind_then 2 (of kind.Dep) three (places_ascend parts kind.Dep)
-    (kind_then 3 (of kind.Arr) four (places_ascend parts kind.Arr)
-    (kind_then 4 (of kind.Sector) five (places_ascend parts kind.Sector)
-    (kind_then 5 (all (occupy_names parts)) six (occupies parts)
-    (kind_then 6 (all (enter_names parts)) seven (enters parts)
-    (kind_then 7 (all (leave_names parts)) eight (leaves parts)
-    (last_kind 8 eight (connects parts)))))))))).ascending
-
-pub told_order : (parts : Parts) (names : List RowName) → names ≡ rows_of parts
-    → AllPairs IsBefore names
-told_order parts names are = subst (AllPairs IsBefore) (sym are) (rows_ascend parts)

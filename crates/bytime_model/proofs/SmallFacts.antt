@@ -1,6 +1,6 @@
 -- How large the factors and limits of the rows are, and how long a row is: for crates that add rows
 -- up.
-use Rattle.std.proofs.Common.{◌≡◌, ◌⊎◌, ℕ, zero, suc, ◌+◌, ◌-◌, ◌*◌, ◌^◌, ◌<◌, ◌≤◌, ◌==◌, Bool, true, false, nat_le, List, [], ◌∷◌, ◌++◌, length, slice_get, slice_index, Option, None, Some, All, if◌then◌else◌, ℤ, pos, inl, inr, refl, subst, arith}
+use Rattle.std.proofs.Common.{◌≡◌, ◌⊎◌, ℕ, zero, suc, ◌+◌, ◌-◌, ◌*◌, ◌^◌, ◌<◌, ◌≤◌, ◌==◌, Bool, true, false, nat_le, List, [], ◌∷◌, length, slice_get, slice_index, Option, None, Some, All, if◌then◌else◌, ℤ, pos, inl, inr, refl, subst, arith}
 use Rattle.std.proofs.lemmas.Bool.{cases_lt}
 use Rattle.std.proofs.lemmas.Int.{ints}
 use Rattle.std.proofs.lemmas.List.{get_or_past, length-append}
@@ -19,17 +19,15 @@ use Rattle.flow_types.specs.Limits.{most_capacity}
 use Rattle.flow_types.specs.Valid.{IsPlace, IsScenario}
 use Rattle.flow_types.proofs.CostFacts.{credit_at-within, total_at-within}
 use Rattle.time_windows.proofs.RootFacts.{flight_in}
-use Rattle.bytime_model.specs.declared.names.RowName.{RowName}
-use Rattle.bytime_model.specs.declared.names.RowName.TheVariants.{Arr, Connect, Cut, Dep, Enter, Leave, Mono, Occupy, Sector, Top}
 use Rattle.bytime_model.specs.declared.variables.Term.{Term}
 use Rattle.bytime_model.specs.declared.variables.Var.{Var}
 use Rattle.bytime_model.specs.declared.variables.Var.TheVariants.{By, Inside}
 use Rattle.bytime_model.specs.CostRow.{cost_row, flight_terms, late_step, late_step_at, late_terms, most_late, most_wait, unless_zero, wait_step, wait_step_at, wait_terms}
 use Rattle.exact_sums.specs.Near.{IsNear}
-use Rattle.bytime_model.specs.Rows.{back_term, back_terms, by_before, connect_terms, enter_terms, enters_in, last_node, leave_terms, minus_one, most_terms, node_from, occupy_terms, of_connection, of_flight, on_term, on_terms, one, over_flights, row_limit, row_terms, stay_terms, stay_terms_at, term_of, use_terms}
+use Rattle.bytime_model.specs.Rows.{back_term, back_terms, by_before, connect_terms, enters_in, last_node, minus_one, most_terms, node_from, of_connection, of_flight, on_term, on_terms, one, over_flights, stay_terms, stay_terms_at, term_of, use_terms}
 use Rattle.bytime_model.specs.Values.{is_plain}
 use Rattle.bytime_model.proofs.CostFacts.{constants_near}
-use Rattle.bytime_model.proofs.FillFacts.{back_few, before_few, on_all_few, parts_few, use_few}
+use Rattle.bytime_model.proofs.FillFacts.{before_few, use_few}
 
 -- the factor is 1 or -1
 abbrev pub IsUnit : Term → Type 0
@@ -59,11 +57,11 @@ module _ (P : Term → Type 0) where
   all_of terms None each = All-nil P
   all_of terms (Some flight) each = each flight
 
-with_one : (variable : Var) (terms : List Term) → All IsUnit terms
+pub with_one : (variable : Var) (terms : List Term) → All IsUnit terms
     → All IsUnit (term_of one variable ∷ terms)
 with_one variable terms all = All-cons IsUnit (term_of one variable) terms (inl refl) all
 
-minus : (variable : Var) → All IsUnit (term_of minus_one variable ∷ [])
+pub minus : (variable : Var) → All IsUnit (term_of minus_one variable ∷ [])
 minus variable = All-cons IsUnit (term_of minus_one variable) [] (inr refl) (All-nil IsUnit)
 
 before_units : (flight node time wait : ℕ)
@@ -77,14 +75,14 @@ entry_units flight node time =
     with_one (By flight node time) (by_before minus_one flight node time 1)
     (before_units flight node time 1)
 
-on_units : (number : ℕ) (flight : Flight) (node time : ℕ)
+pub on_units : (number : ℕ) (flight : Flight) (node time : ℕ)
     → All IsUnit (on_terms number flight node time)
 on_units number flight node time =
     all_flat IsUnit (on_term number node time) flight.legs
     (λ leg. all_if IsUnit (leg.from == node) (term_of minus_one (By number leg.to time) ∷ [])
     (minus (By number leg.to time)))
 
-back_units : (number : ℕ) (flight : Flight) (node time : ℕ)
+pub back_units : (number : ℕ) (flight : Flight) (node time : ℕ)
     → All IsUnit (back_terms number flight node time)
 back_units number flight node time =
     all_flat IsUnit (back_term number node time) flight.legs
@@ -116,46 +114,19 @@ use_units kind.Arr place time number flight =
 use_units kind.Sector place time number flight =
     stay_at_units number flight time (node_from place 0 flight.nodes)
 
-capacity_units : (parts : Parts) (kind : CapKind) (place time : ℕ)
+pub capacity_units : (parts : Parts) (kind : CapKind) (place time : ℕ)
     → All IsUnit (over_flights (use_terms kind place time) 0 parts.flights)
 capacity_units parts kind place time =
     all_over IsUnit (use_terms kind place time) 0 parts.flights
     (λ i flight. use_units kind place time i flight)
 
-connect_units : (flights : List Flight) (time : ℕ) (connection : Option Connection)
+pub connect_units : (flights : List Flight) (time : ℕ) (connection : Option Connection)
     → All IsUnit (of_connection (λ c. connect_terms flights c time) connection)
 connect_units flights time None = All-nil IsUnit
 connect_units flights time (Some c) =
     with_one (By c.second 0 time)
     (by_before minus_one c.first (last_node (slice_get flights c.first)) time c.turnaround)
     (before_units c.first (last_node (slice_get flights c.first)) time c.turnaround)
-
--- every factor of a row is 1 or -1
-pub row_units : (parts : Parts) (name : RowName) → All IsUnit (row_terms parts name)
-row_units parts (Mono f n t) =
-    with_one (By f n (t - 1)) (term_of minus_one (By f n t) ∷ []) (minus (By f n t))
-row_units parts (Top f n) =
-    with_one (By f n (parts.day.periods - 1)) [] (All-nil IsUnit)
-row_units parts (Dep p t) = capacity_units parts kind.Dep p t
-row_units parts (Arr p t) = capacity_units parts kind.Arr p t
-row_units parts (Sector p t) = capacity_units parts kind.Sector p t
-row_units parts (Occupy f n t) =
-    all_of IsUnit (λ flight. occupy_terms f flight n t) (slice_get parts.flights f)
-    (λ flight. with_one (By f n t)
-    (on_terms f flight n t ++ term_of minus_one (Inside f n t) ∷ [])
-    (All-append IsUnit (on_terms f flight n t) (term_of minus_one (Inside f n t) ∷ [])
-    (on_units f flight n t) (minus (Inside f n t))))
-row_units parts (Enter f n t) =
-    all_of IsUnit (λ flight. enter_terms f flight n t) (slice_get parts.flights f)
-    (λ flight. with_one (By f n t) (back_terms f flight n t) (back_units f flight n t))
-row_units parts (Leave f n) =
-    all_of IsUnit (λ flight. leave_terms f flight n (parts.day.periods - 1))
-    (slice_get parts.flights f)
-    (λ flight. with_one (By f n (parts.day.periods - 1))
-    (on_terms f flight n (parts.day.periods - 1))
-    (on_units f flight n (parts.day.periods - 1)))
-row_units parts (Connect c t) = connect_units parts.flights t (slice_get parts.connections c)
-row_units parts (Cut i) = All-nil IsUnit
 
 -- a capacity, wherever it is read
 cap_small : (caps : List ℕ) (period : ℕ) → All (λ c. c ≤ most_capacity) caps
@@ -166,7 +137,7 @@ cap_small caps period all = by (cases_lt period (length caps))
     by (inl within) = all period 0 within
     by (inr past) = omega (arith, get_or_past caps period 0 past)
 
-caps_small : (kind : CapKind) (parts : Parts) (place period : ℕ) (found : Option Place)
+pub caps_small : (kind : CapKind) (parts : Parts) (place period : ℕ) (found : Option Place)
     → IsScenario parts → slice_get parts.places place ≡ found
     → slice_index (caps_of kind found) period ≤ most_capacity
 caps_small kind parts place period None valid is = omega arith
@@ -179,23 +150,6 @@ caps_small kind.Arr parts place period (Some found) valid is =
 caps_small kind.Sector parts place period (Some found) valid is =
     cap_small found.first period
     (All-item (IsPlace parts.day.periods) parts.places place found valid.places.each is).first
-
--- no limit of a row is greater than a capacity may be
-pub row_limit_small : (parts : Parts) (name : RowName) → IsScenario parts
-    → row_limit parts name ≤ most_capacity
-row_limit_small parts (Mono f n t) valid = omega arith
-row_limit_small parts (Top f n) valid = omega arith
-row_limit_small parts (Dep p t) valid =
-    caps_small kind.Dep parts p t (slice_get parts.places p) valid refl
-row_limit_small parts (Arr p t) valid =
-    caps_small kind.Arr parts p t (slice_get parts.places p) valid refl
-row_limit_small parts (Sector p t) valid =
-    caps_small kind.Sector parts p t (slice_get parts.places p) valid refl
-row_limit_small parts (Occupy f n t) valid = omega arith
-row_limit_small parts (Enter f n t) valid = omega arith
-row_limit_small parts (Leave f n) valid = omega arith
-row_limit_small parts (Connect c t) valid = omega arith
-row_limit_small parts (Cut i) valid = omega arith
 
 -- two terms a flight
 over_few : (kind : CapKind) (place time k : ℕ) (flights : List Flight)
@@ -210,13 +164,13 @@ over_few kind place time k (flight ∷ flights) =
       over_few kind place time (k + 1) flights,
     )
 
-capacity_few : (parts : Parts) (kind : CapKind) (place time : ℕ) → IsScenario parts
+pub capacity_few : (parts : Parts) (kind : CapKind) (place time : ℕ) → IsScenario parts
     → length (over_flights (use_terms kind place time) 0 parts.flights) ≤ most_terms
 capacity_few parts kind place time valid =
     omega (arith, over_few kind place time 0 parts.flights, valid.flights.few)
 
 -- a term a leg, and two more
-of_few : (parts : Parts) (f : ℕ) (terms : Flight → List Term) (found : Option Flight)
+pub of_few : (parts : Parts) (f : ℕ) (terms : Flight → List Term) (found : Option Flight)
     → IsScenario parts → slice_get parts.flights f ≡ found
     → ((flight : Flight) → length (terms flight) ≤ length flight.legs + 2)
     → length (of_flight terms found) ≤ most_terms
@@ -224,7 +178,7 @@ of_few parts f terms None valid is few = omega arith
 of_few parts f terms (Some flight) valid is few =
     omega (arith, few flight, (flight_in parts f flight valid is).route.legs_to_limit)
 
-connect_few : (flights : List Flight) (time : ℕ) (connection : Option Connection)
+pub connect_few : (flights : List Flight) (time : ℕ) (connection : Option Connection)
     → length (of_connection (λ c. connect_terms flights c time) connection) ≤ most_terms
 connect_few flights time None = omega arith
 connect_few flights time (Some c) =
@@ -232,31 +186,6 @@ connect_few flights time (Some c) =
       arith,
       before_few c.first (last_node (slice_get flights c.first)) time c.turnaround,
     )
-
--- no row has more terms than there is room for
-pub row_few : (parts : Parts) (name : RowName) → IsScenario parts
-    → length (row_terms parts name) ≤ most_terms
-row_few parts (Mono f n t) valid = omega arith
-row_few parts (Top f n) valid = omega arith
-row_few parts (Dep p t) valid = capacity_few parts kind.Dep p t valid
-row_few parts (Arr p t) valid = capacity_few parts kind.Arr p t valid
-row_few parts (Sector p t) valid = capacity_few parts kind.Sector p t valid
-row_few parts (Occupy f n t) valid =
-    of_few parts f (λ flight. occupy_terms f flight n t) (slice_get parts.flights f) valid refl
-    (λ flight. omega (
-      arith,
-      length-append (on_terms f flight n t) (term_of minus_one (Inside f n t) ∷ []),
-      on_all_few f n t flight.legs,
-    ))
-row_few parts (Enter f n t) valid =
-    of_few parts f (λ flight. enter_terms f flight n t) (slice_get parts.flights f) valid refl
-    (λ flight. omega (arith, parts_few (back_term f n t) flight.legs (back_few f n t)))
-row_few parts (Leave f n) valid =
-    of_few parts f (λ flight. leave_terms f flight n (parts.day.periods - 1))
-    (slice_get parts.flights f) valid refl
-    (λ flight. omega (arith, on_all_few f n (parts.day.periods - 1) flight.legs))
-row_few parts (Connect c t) valid = connect_few parts.flights t (slice_get parts.connections c)
-row_few parts (Cut i) valid = omega arith
 
 -- how far from 0 a step of the cost row may be
 pub late_step_near : (parts : Parts) (number delay : ℕ) (found : Option Flight)

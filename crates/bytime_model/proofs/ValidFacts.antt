@@ -1,29 +1,24 @@
 -- No plan that keeps every rule breaks a row.
-use Rattle.std.proofs.Common.{◌≡◌, ◌≢◌, ℕ, ◌+◌, ◌-◌, ◌<◌, ◌≤◌, Bool, true, false, ◌&&◌, not, nat_lt, List, [], ◌∷◌, ◌++◌, length, Option, None, Some, slice_get, pos, ◌≤ℤ◌, inl, inr, refl, sym, ap, subst, arith}
-use Rattle.std.proofs.lemmas.Bool.{and_parts, cases_lt, ltb-true}
+use Rattle.std.proofs.Common.{◌≡◌, ◌≢◌, ℕ, ◌+◌, ◌-◌, ◌<◌, ◌≤◌, true, List, [], ◌∷◌, ◌++◌, length, Option, None, Some, slice_get, pos, ◌≤ℤ◌, inl, inr, refl, sym, ap, subst, arith}
+use Rattle.std.proofs.lemmas.Bool.{cases_lt}
 use Rattle.std.proofs.lemmas.Int.{ints}
-use Rattle.std.proofs.lemmas.Option.{get_or_from_slice_get}
 use Rattle.std.specs.Option.{option_and_then}
 use Rattle.flow_types.specs.declared.flight.Connection.{Connection}
 use Rattle.flow_types.specs.declared.flight.Flight.{Flight}
 use Rattle.flow_types.specs.declared.parts.Parts.{Parts}
 use Rattle.flow_types.specs.declared.place.CapKind.{CapKind}
-use Rattle.flow_types.specs.declared.place.CapKind.TheVariants as kind
 use Rattle.flow_types.specs.declared.plan.Stop.{Stop}
 use Rattle.flow_types.specs.Counts.{counted}
 use Rattle.flow_types.specs.Feasible.{AreTrips, IsFeasible, KeepsTurn}
-use Rattle.flow_types.specs.Routes.{is_airport, is_sector}
 use Rattle.flow_types.specs.Trips.{IsTrip, arrival_from, arrival_of, departure_of}
 use Rattle.flow_types.specs.Valid.{IsConnection, IsScenario}
 use Rattle.time_windows.proofs.PlanFacts.{found_at, planned}
 use Rattle.time_windows.proofs.RootFacts.{flight_in}
-use Rattle.bytime_model.specs.declared.names.RowName.{RowName}
-use Rattle.bytime_model.specs.declared.names.RowName.TheVariants.{Arr, Connect, Cut, Dep, Enter, Leave, Mono, Occupy, Sector, Top}
 use Rattle.bytime_model.specs.declared.variables.Term.{Term}
 use Rattle.bytime_model.specs.declared.variables.Var.{Var}
 use Rattle.bytime_model.specs.declared.variables.Var.TheVariants.{By, Inside}
-use Rattle.bytime_model.specs.Rows.{AtMost, IsKept, IsValid, back_terms, by_before, connect_terms, enter_terms, goes_on, is_node, is_row, last_node, leave_terms, minus_one, no_row, occupy_terms, of_connection, of_flight, on_terms, one, over_flights, row_of, term_of, use_terms}
-use Rattle.bytime_model.specs.Values.{by_at, by_of, form_value, has_inside, is_plain, value_at}
+use Rattle.bytime_model.specs.Rows.{back_terms, by_before, connect_terms, enter_terms, last_node, leave_terms, minus_one, occupy_terms, of_flight, on_terms, one, over_flights, term_of, use_terms}
+use Rattle.bytime_model.specs.Values.{by_at, by_of, form_value, has_inside, value_at}
 use Rattle.bytime_model.proofs.EntryFacts.{by_few, by_later, by_skip}
 use Rattle.bytime_model.proofs.FormFacts.{form-append, form-back, form-before, form-minus, form-on, form-one}
 use Rattle.bytime_model.proofs.TripFacts.{back_le, back_sum, before, before_in, before_le, entered, left, not_by, on_le, on_sum}
@@ -81,7 +76,7 @@ module _ (parts : Parts) (plan : List (List Stop)) (scenario : IsScenario parts)
   by_few_at node time None = omega arith
   by_few_at node time (Some trip) = by_few node time trip
 
-  mono_kept : (f n t : ℕ)
+  pub mono_kept : (f n t : ℕ)
       → form_value value (term_of one (By f n (t - 1)) ∷ term_of minus_one (By f n t) ∷ [])
       ≤ℤ pos 0
   mono_kept f n t =
@@ -93,13 +88,13 @@ module _ (parts : Parts) (plan : List (List Stop)) (scenario : IsScenario parts)
         by_grows_at n (t - 1) t (slice_get plan f) (omega arith),
       )
 
-  top_kept : (f n t : ℕ) → form_value value (term_of one (By f n t) ∷ []) ≤ℤ pos 1
+  pub top_kept : (f n t : ℕ) → form_value value (term_of one (By f n t) ∷ []) ≤ℤ pos 1
   top_kept f n t =
       omega (arith, ints, form-one value (By f n t) [], by_few_at n t (slice_get plan f))
 
   module _ (f : ℕ) (flight : Flight) (trip : List Stop)
       (is : IsFlown parts.flights plan parts.day.periods f flight trip) where
-    occupy_kept : (n t : ℕ) → has_inside (Some flight) n ≡ true → n + 1 ≢ length flight.nodes
+    pub occupy_kept : (n t : ℕ) → has_inside (Some flight) n ≡ true → n + 1 ≢ length flight.nodes
         → form_value value (occupy_terms f flight n t) ≤ℤ pos 0
     occupy_kept n t has last =
         omega (
@@ -142,7 +137,7 @@ module _ (parts : Parts) (plan : List (List Stop)) (scenario : IsScenario parts)
               )),
         )
 
-    enter_kept : (n t : ℕ) → 0 < n → form_value value (enter_terms f flight n t) ≤ℤ pos 0
+    pub enter_kept : (n t : ℕ) → 0 < n → form_value value (enter_terms f flight n t) ≤ℤ pos 0
     enter_kept n t from =
         omega (
           arith,
@@ -177,7 +172,7 @@ module _ (parts : Parts) (plan : List (List Stop)) (scenario : IsScenario parts)
               )),
         )
 
-    leave_kept : (n : ℕ) → n + 1 ≢ length flight.nodes
+    pub leave_kept : (n : ℕ) → n + 1 ≢ length flight.nodes
         → form_value value (leave_terms f flight n (parts.day.periods - 1)) ≤ℤ pos 0
     leave_kept n last =
         omega (
@@ -219,7 +214,7 @@ module _ (parts : Parts) (plan : List (List Stop)) (scenario : IsScenario parts)
         )
       ]
 
-  connect_kept : (connection : Connection) (time : ℕ) → IsConnection parts.flights connection
+  pub connect_kept : (connection : Connection) (time : ℕ) → IsConnection parts.flights connection
       → KeepsTurn plan connection
       → form_value value (connect_terms parts.flights connection time) ≤ℤ pos 0
   connect_kept connection time joined keeps =
@@ -256,7 +251,7 @@ module _ (parts : Parts) (plan : List (List Stop)) (scenario : IsScenario parts)
   at_plan = value_at parts.flights plan
 
   -- a capacity is kept where its count is
-  within_capacity : (kind : CapKind) (place time capacity : ℕ)
+  pub within_capacity : (kind : CapKind) (place time capacity : ℕ)
       → counted (count_of kind place time) parts.flights plan ≤ capacity
       → form_value at_plan (over_flights (use_terms kind place time) 0 parts.flights)
       ≤ℤ pos capacity
@@ -264,84 +259,10 @@ module _ (parts : Parts) (plan : List (List Stop)) (scenario : IsScenario parts)
       omega (arith, ints, uses_le parts plan scenario feasible.trips kind place time, le)
 
   -- what holds of the flight that is there
-  of_flight_kept : (terms : Flight → List Term) (f : ℕ) (found : Option Flight)
+  pub of_flight_kept : (terms : Flight → List Term) (f : ℕ) (found : Option Flight)
       → slice_get parts.flights f ≡ found
       → ((flight : Flight) → slice_get parts.flights f ≡ Some flight
       → form_value at_plan (terms flight) ≤ℤ pos 0)
       → form_value at_plan (of_flight terms found) ≤ℤ pos 0
   of_flight_kept terms f None is each = omega (arith, ints)
   of_flight_kept terms f (Some flight) is each = each flight is
-
-  pub row_kept : (name : RowName) → is_row parts name ≡ true → IsKept at_plan (row_of parts name)
-  row_kept (Mono f n t) is = mono_kept parts plan scenario feasible.trips f n t
-  row_kept (Top f n) is = top_kept parts plan scenario feasible.trips f n (parts.day.periods - 1)
-  row_kept (Dep p t) is =
-      let both = and_parts (is_airport (slice_get parts.places p)) (nat_lt t parts.day.periods) is
-      in
-      within_capacity kind.Dep p t _ (feasible.departures p t both.0
-      (ltb-true t parts.day.periods both.1))
-  row_kept (Arr p t) is =
-      let both = and_parts (is_airport (slice_get parts.places p)) (nat_lt t parts.day.periods) is
-      in
-      within_capacity kind.Arr p t _ (feasible.arrivals p t both.0
-      (ltb-true t parts.day.periods both.1))
-  row_kept (Sector p t) is =
-      let both = and_parts (is_sector (slice_get parts.places p)) (nat_lt t parts.day.periods) is in
-      within_capacity kind.Sector p t _ (feasible.sectors p t both.0
-      (ltb-true t parts.day.periods both.1))
-  row_kept (Occupy f n t) is =
-      of_flight_kept (λ flight. occupy_terms f flight n t) f (slice_get parts.flights f) refl
-      (λ flight found. let own = flown parts plan scenario feasible.trips f flight found in
-      occupy_kept parts plan scenario feasible.trips f flight own.0 own.1 n t
-      (inside f n t flight found is)
-      (occupied_inside flight n (inside f n t flight found is)))
-    where
-      inside : (f n t : ℕ) (flight : Flight) → slice_get parts.flights f ≡ Some flight
-          → is_row parts (Occupy f n t) ≡ true → has_inside (Some flight) n ≡ true
-      inside f n t flight found is = subst (λ o. has_inside o n ≡ true) found
-          (and_parts (has_inside (slice_get parts.flights f) n) (nat_lt t parts.day.periods) is).0
-
-      occupied_inside : (flight : Flight) (n : ℕ) → has_inside (Some flight) n ≡ true
-          → n + 1 ≢ length flight.nodes
-      occupied_inside flight n inside =
-          let within = ltb-true (n + 1) (length flight.nodes)
-          (and_parts (nat_lt (n + 1) (length flight.nodes)) (not (is_plain flight n))
-          (and_parts (nat_lt 0 n) (nat_lt (n + 1) (length flight.nodes)
-          && not (is_plain flight n)) inside).1).0 in
-          λ end. omega (arith, within, end)
-  row_kept (Enter f n t) is =
-      let both = and_parts (is_node (slice_get parts.flights f) n) (nat_lt 0 n
-      && nat_lt t parts.day.periods) is in
-      let from = ltb-true 0 n (and_parts (nat_lt 0 n) (nat_lt t parts.day.periods) both.1).0 in
-      of_flight_kept (λ flight. enter_terms f flight n t) f (slice_get parts.flights f) refl
-      (λ flight found. let own = flown parts plan scenario feasible.trips f flight found in
-      enter_kept parts plan scenario feasible.trips f flight own.0 own.1 n t from)
-  row_kept (Leave f n) is =
-      of_flight_kept (λ flight. leave_terms f flight n (parts.day.periods - 1)) f
-      (slice_get parts.flights f) refl
-      (λ flight found. let own = flown parts plan scenario feasible.trips f flight found in
-      let within = ltb-true (n + 1) (length flight.nodes)
-      (subst (λ o. goes_on o n ≡ true) found is) in
-      leave_kept parts plan scenario feasible.trips f flight own.0 own.1 n
-      (λ end. omega (arith, within, end)))
-  row_kept (Connect c t) is =
-      let within = ltb-true c (length parts.connections) (and_parts
-      (nat_lt c (length parts.connections)) (nat_lt t parts.day.periods) is).0 in
-      let found = found_at parts.connections c within in
-      let same = get_or_from_slice_get parts.connections c found.0 found.0 found.1 in
-      subst (λ o. form_value at_plan (of_connection (λ connection.
-      connect_terms parts.flights connection t) o) ≤ℤ pos 0) (sym found.1)
-      (connect_kept parts plan scenario feasible.trips found.0 t
-      (subst (IsConnection parts.flights) same (scenario.connections.each c found.0 within))
-      (subst (KeepsTurn plan) same (feasible.turns c found.0 within)))
-  row_kept (Cut i) is = absurd cc
-
--- what is held is kept by every plan: the row of a name, or none
-pub row_valid : (parts : Parts) (name : RowName) (held : AtMost) (told : Bool) → IsScenario parts
-    → told ≡ is_row parts name → (told ≡ true → held ≡ row_of parts name)
-    → (told ≡ false → held ≡ no_row) → IsValid parts held
-row_valid parts name held true scenario is row none plan feasible =
-    subst (IsKept (value_at parts.flights plan)) (sym (row refl))
-    (row_kept parts plan scenario feasible name (sym is))
-row_valid parts name held false scenario is row none plan feasible =
-    subst (IsKept (value_at parts.flights plan)) (sym (none refl)) (omega (arith, ints))

@@ -1,15 +1,18 @@
 -- The names of the rows of a day, one after the other. Cuts have no part in them.
-use Rattle.std.specs.Prelude.{ℕ, ◌-◌, nat_lt, List, [], ◌∷◌, ◌++◌, length, map, Option, None, Some, slice_get, if◌then◌else◌}
+use Rattle.std.specs.Prelude.{ℕ, ◌-◌, nat_lt, List, [], ◌∷◌, length, map, Option, None, Some, slice_get, if◌then◌else◌}
 use Rattle.std.specs.List.{flat_map, range_with_len}
 use Rattle.flow_types.specs.declared.flight.Flight.{Flight}
 use Rattle.flow_types.specs.declared.parts.Parts.{Parts}
 use Rattle.flow_types.specs.declared.place.CapKind.{CapKind}
 use Rattle.flow_types.specs.declared.place.CapKind.TheVariants as kind
 use Rattle.flow_types.specs.Capacities.{has_kind}
-use Rattle.bytime_model.specs.declared.all_rows.NodeKind.{NodeKind}
-use Rattle.bytime_model.specs.declared.all_rows.NodeKind.TheVariants as of
+use Rattle.bytime_model.specs.declared.kinds.NodeKind.{NodeKind}
+use Rattle.bytime_model.specs.declared.kinds.NodeKind.TheVariants as of
+use Rattle.bytime_model.specs.declared.kinds.RowKind.{RowKind}
+use Rattle.bytime_model.specs.declared.kinds.RowKind.TheVariants as kinds
 use Rattle.bytime_model.specs.declared.names.RowName.{RowName}
 use Rattle.bytime_model.specs.declared.names.RowName.TheVariants.{Arr, Connect, Dep, Enter, Leave, Mono, Occupy, Sector, Top}
+use Rattle.bytime_model.specs.Kinds.{part_count, row_kinds}
 use Rattle.bytime_model.specs.Rows.{goes_on}
 use Rattle.bytime_model.specs.Values.{has_inside}
 
@@ -64,32 +67,24 @@ abbrev pub node_count : Option Flight → ℕ
 node_count None = 0
 node_count (Some flight) = length flight.nodes
 
--- of all nodes of a flight, of all flights, of all places, of all connections
+-- of all nodes of a flight
 abbrev pub over_nodes : Parts → (ℕ → ℕ → List RowName) → ℕ → List RowName
 over_nodes parts names f =
     flat_map (names f) (range_with_len 0 (node_count (slice_get parts.flights f)))
 
-abbrev pub over_all_nodes : Parts → (ℕ → ℕ → List RowName) → List RowName
-over_all_nodes parts names =
-    flat_map (over_nodes parts names) (range_with_len 0 (length parts.flights))
+-- the names of a kind that are of one flight, place or connection
+abbrev pub part_rows : Parts → RowKind → ℕ → List RowName
+part_rows parts (kinds.Nodes kind) f = over_nodes parts (node_names parts kind) f
+part_rows parts (kinds.Places kind) p = capacity_names parts kind p
+part_rows parts kinds.Connections c = connect_names parts c
 
-abbrev pub over_places : Parts → CapKind → List RowName
-over_places parts kind =
-    flat_map (capacity_names parts kind) (range_with_len 0 (length parts.places))
+-- those of a kind, and of several kinds, one after the other
+abbrev pub kind_rows : Parts → RowKind → List RowName
+kind_rows parts kind = flat_map (part_rows parts kind) (range_with_len 0 (part_count parts kind))
 
-abbrev pub over_connections : Parts → List RowName
-over_connections parts =
-    flat_map (connect_names parts) (range_with_len 0 (length parts.connections))
+abbrev pub kinds_rows : Parts → List RowKind → List RowName
+kinds_rows parts kinds = flat_map (kind_rows parts) kinds
 
 -- the names of all rows: by kind, then by their numbers from left to right
 abbrev pub rows_of : Parts → List RowName
-rows_of parts =
-    over_all_nodes parts (mono_names parts)
-    ++ (over_all_nodes parts top_names
-    ++ (over_places parts kind.Dep
-    ++ (over_places parts kind.Arr
-    ++ (over_places parts kind.Sector
-    ++ (over_all_nodes parts (occupy_names parts)
-    ++ (over_all_nodes parts (enter_names parts)
-    ++ (over_all_nodes parts (leave_names parts)
-    ++ over_connections parts)))))))
+rows_of parts = kinds_rows parts row_kinds

@@ -1,8 +1,13 @@
 pub mod AllRows
+pub mod Columns
 pub mod CostRow
 pub mod Filling
+pub mod Kinds
+pub mod Landing
 pub mod Left
+pub mod Multipliers
 pub mod Order
 pub mod Rows
+pub mod Table
 pub mod Values
 pub mod Visits

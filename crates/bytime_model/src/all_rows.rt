@@ -1,13 +1,14 @@
 //! The names of all rows of a day, together or part by part.
-ghost use Rattle.std.specs.Prelude.{◌≡◌, ◌++◌, ◌↔◌, [], true, AllPairs, IfOk, OnOk, map};
+ghost use Rattle.std.specs.Prelude.{◌≡◌, ◌++◌, ◌↔◌, true, AllPairs, IfOk, OnOk, map};
 ghost use Rattle.std.specs.List.{Any};
 ghost use Rattle.flow_types.specs.Scenario.{flight_at, parts_of};
 ghost use Rattle.bytime_model.specs.declared.names.RowName.TheVariants.{Connect, Enter, Leave, Mono, Occupy, Top};
-ghost use Rattle.bytime_model.specs.AllRows.{capacity_name, capacity_names, connect_names, enter_names, leave_names, mono_names, node_count, node_names, occupy_names, over_all_nodes, over_connections, over_nodes, over_places, periods_of, rows_of, top_names};
+ghost use Rattle.bytime_model.specs.AllRows.{capacity_name, capacity_names, connect_names, enter_names, kind_rows, kinds_rows, leave_names, mono_names, node_count, node_names, occupy_names, over_nodes, part_rows, periods_of, rows_of, top_names};
 ghost use Rattle.bytime_model.specs.Rows.{goes_on, is_row};
 ghost use Rattle.bytime_model.specs.declared.names.RowName.{RowName};
 ghost use Rattle.bytime_model.specs.Order.{IsBefore};
 
+use crate::kinds::{NodeKind, RowKind, part_count, row_kinds};
 use crate::names::{RowName, RowNames};
 use crate::rows::has_inside;
 use flow_types::{CapKind, OutOfMemory, Scenario, has_kind};
@@ -17,7 +18,7 @@ use std::alloc::Global;
 /// their numbers from left to right. It takes 12 bytes for each name, or up to twice that, since
 /// the list grows, and time for each name and for each leg of each node. A day at the limits may
 /// have 33 million names.
-#[tactic(auto, using(crate::proofs::AllRowsFacts::told_each, crate::proofs::OrderFacts::told_order))]
+#[tactic(auto, using(crate::proofs::KindLaws::told_each, crate::proofs::KindLaws::told_order))]
 pub fn rows_of(alloc: Global, s: &Scenario) -> Result<RowNames, OutOfMemory>
     ensures names { IfOk result (λ names. names ≡ rows_of (parts_of s.now)) }
     ensures each { IfOk result (λ names. (name : RowName) → Any (λ other. other ≡ name) names
@@ -29,85 +30,66 @@ pub fn rows_of(alloc: Global, s: &Scenario) -> Result<RowNames, OutOfMemory>
     Ok(names)
 }
 
-/// The names of this kind that are of the flight, node by node. Those of all flights, one after the
-/// other, are the names of this kind in `rows_of`. It takes 12 bytes for each name, or up to twice
-/// that, since the list grows. There are 16,384 at the most.
-pub fn flight_rows(
+/// The names of this kind that are of the flight, place or connection at the position. Those of
+/// all, one after the other, kind by kind, are `rows_of`. It takes 12 bytes for each name, or up to
+/// twice that, since the list grows. There are 16,384 at the most.
+pub fn part_rows(
     alloc: Global,
     s: &Scenario,
-    kind: NodeKind,
-    flight: u32,
+    kind: RowKind,
+    position: u32,
 ) -> Result<RowNames, OutOfMemory>
-    ensures { IfOk result (λ names. names
-        ≡ over_nodes (parts_of s.now) (node_names (parts_of s.now) kind) flight) }
+    ensures { IfOk result (λ names. names ≡ part_rows (parts_of s.now) kind position) }
 {
     let mut names = RowNames::empty(alloc);
-    add_nodes(&mut names, s, kind, flight)?;
+    add_part(&mut names, s, kind, position)?;
     Ok(names)
 }
 
-/// The names of a capacity of the place in each period, if it has such capacities. Those of all
-/// places, one after the other, are the names of this kind in `rows_of`. It takes 12 bytes for each
-/// name, or up to twice that, since the list grows. There are 512 at the most.
-pub fn place_rows(
-    alloc: Global,
-    s: &Scenario,
-    kind: CapKind,
-    place: u32,
-) -> Result<RowNames, OutOfMemory>
-    ensures { IfOk result (λ names. names ≡ capacity_names (parts_of s.now) kind place) }
-{
-    let mut names = RowNames::empty(alloc);
-    add_place(&mut names, s, kind, place)?;
-    Ok(names)
-}
-
-/// The names of the connection in each period. Those of all connections, one after the other, are
-/// the last names in `rows_of`. It takes 12 bytes for each name, or up to twice that, since the
-/// list grows. There are 512 at the most.
-pub fn connection_rows(
-    alloc: Global,
-    s: &Scenario,
-    connection: u32,
-) -> Result<RowNames, OutOfMemory>
-    ensures { IfOk result (λ names. names ≡ connect_names (parts_of s.now) connection) }
-{
-    let mut names = RowNames::empty(alloc);
-    add_connection(&mut names, s, connection)?;
-    Ok(names)
-}
-
-// All names to a list that has none.
-#[tactic(auto, using(crate::proofs::AllRowsFacts::rows_then))]
+// Adds the names of all kinds.
 fn add_all(names: &mut RowNames, s: &Scenario) -> Result<(), OutOfMemory>
-    requires { names.old ≡ [] }
-    ensures { OnOk result (names.new ≡ rows_of (parts_of s.now)) }
+    ensures { OnOk result (names.new ≡ names.old ++ rows_of (parts_of s.now)) }
 {
-    add_all_nodes(names, s, NodeKind::Mono)?;
-    add_all_nodes(names, s, NodeKind::Top)?;
-    add_places(names, s, CapKind::Dep)?;
-    add_places(names, s, CapKind::Arr)?;
-    add_places(names, s, CapKind::Sector)?;
-    add_all_nodes(names, s, NodeKind::Occupy)?;
-    add_all_nodes(names, s, NodeKind::Enter)?;
-    add_all_nodes(names, s, NodeKind::Leave)?;
-    add_connections(names, s)?;
+    let kinds = row_kinds();
+    add_kinds(names, s, &kinds)
+}
+
+// Adds those of these kinds, one after the other.
+#[tactic(auto, using(crate::proofs::ListingFacts::taken_none, crate::proofs::ListingFacts::taken_all))]
+fn add_kinds(names: &mut RowNames, s: &Scenario, kinds: &[RowKind]) -> Result<(), OutOfMemory>
+    ensures { OnOk result (names.new ≡ names.old ++ kinds_rows (parts_of s.now) kinds.now) }
+{
+    for kind in kinds {
+        add_kind(names, s, *kind)?;
+    }
     Ok(())
 }
 
-/// A kind of rows that are of a node of a flight, as in `RowName`.
-#[derive(Clone, Copy, Debug, PartialEq, Eq)]
-pub enum NodeKind {
-    /// What is entered by a period is entered by the next one.
-    Mono,
-    /// The node is entered once at the most.
-    Top,
-    /// Whoever has entered the node is inside, or has entered a next one.
-    Occupy,
-    /// Whoever has entered the node has entered one before it.
-    Enter,
-    /// Whoever has entered the node enters a next one.
-    Leave,
+// Adds those of this kind.
+#[tactic(auto, using(crate::proofs::ListingFacts::listed_none))]
+fn add_kind(names: &mut RowNames, s: &Scenario, kind: RowKind) -> Result<(), OutOfMemory>
+    ensures { OnOk result (names.new ≡ names.old ++ kind_rows (parts_of s.now) kind) }
+{
+    for position in 0..part_count(s, kind) {
+        add_part(names, s, kind, position)?;
+    }
+    Ok(())
+}
+
+// Adds those of this kind that are of the flight, place or connection at the position.
+fn add_part(
+    names: &mut RowNames,
+    s: &Scenario,
+    kind: RowKind,
+    position: u32,
+) -> Result<(), OutOfMemory>
+    ensures { OnOk result (names.new ≡ names.old ++ part_rows (parts_of s.now) kind position) }
+{
+    match kind {
+        RowKind::Nodes(kind) => add_nodes(names, s, kind, position),
+        RowKind::Places(kind) => add_place(names, s, kind, position),
+        RowKind::Connections => add_connection(names, s, position),
+    }
 }
 
 // Adds what is entered by a period and by the one before it.
@@ -216,18 +198,6 @@ fn add_nodes(
     Ok(())
 }
 
-// The same of all flights.
-#[tactic(auto, using(crate::proofs::ListingFacts::listed_none))]
-fn add_all_nodes(names: &mut RowNames, s: &Scenario, kind: NodeKind) -> Result<(), OutOfMemory>
-    ensures { OnOk result (names.new ≡ names.old
-        ++ over_all_nodes (parts_of s.now) (node_names (parts_of s.now) kind)) }
-{
-    for flight in 0..s.flights().len() {
-        add_nodes(names, s, kind, flight as u32)?;
-    }
-    Ok(())
-}
-
 // The name of the row of a capacity.
 fn capacity_name(kind: CapKind, place: u32, period: u16) -> RowName
     ensures { result ≡ capacity_name kind place period }
@@ -272,18 +242,6 @@ fn add_place(
     Ok(())
 }
 
-// The same of all places.
-#[tactic(auto, using(crate::proofs::ListingFacts::listed_none))]
-fn add_places(names: &mut RowNames, s: &Scenario, kind: CapKind) -> Result<(), OutOfMemory>
-    ensures { OnOk result (names.new ≡ names.old
-        ++ over_places (parts_of s.now) kind) }
-{
-    for place in 0..s.places().len() {
-        add_place(names, s, kind, place as u32)?;
-    }
-    Ok(())
-}
-
 // Adds the connection in each period.
 #[tactic(auto, using(crate::proofs::ListingFacts::mapped_none))]
 fn add_connection(names: &mut RowNames, s: &Scenario, connection: u32) -> Result<(), OutOfMemory>
@@ -292,18 +250,6 @@ fn add_connection(names: &mut RowNames, s: &Scenario, connection: u32) -> Result
 {
     for period in 0..s.day().periods {
         names.add(RowName::Connect { connection, period })?;
-    }
-    Ok(())
-}
-
-// The same of all connections.
-#[tactic(auto, using(crate::proofs::ListingFacts::listed_none))]
-fn add_connections(names: &mut RowNames, s: &Scenario) -> Result<(), OutOfMemory>
-    ensures { OnOk result (names.new ≡ names.old
-        ++ over_connections (parts_of s.now)) }
-{
-    for connection in 0..s.connections().len() {
-        add_connection(names, s, connection as u32)?;
     }
     Ok(())
 }

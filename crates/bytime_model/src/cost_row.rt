@@ -30,6 +30,24 @@ impl Model for CostRow {
     ghost view = { λ r. record { constant = r.constant; terms = r.terms } };
 }
 
+impl CostRow {
+    ghost use Rattle.std.specs.Prelude.{◌≡◌};
+
+    /// The constant.
+    pub fn constant(&self) -> i64
+        ensures { result ≡ self.now.constant }
+    {
+        self.constant
+    }
+
+    /// The terms.
+    pub fn terms(&self) -> &[Term]
+        ensures { result.now ≡ self.now.terms }
+    {
+        self.terms.items()
+    }
+}
+
 /// The cost row. Its value at a plan, with one trip for each flight, is the plan's cost. No two of
 /// its terms are of one variable, and no factor is 0. It takes memory and time for each period that
 /// a flight may be late or wait.

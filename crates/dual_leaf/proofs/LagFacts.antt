@@ -19,7 +19,7 @@ use Rattle.priced_plans.proofs.KeyFacts.{itself, key_at}
 use Rattle.priced_plans.proofs.SmallFacts.{key_moved}
 use Rattle.priced_plans.proofs.ValueFacts.{none-inside, value-below}
 use Rattle.time_windows.specs.Boxes.{Box}
-use Rattle.branch_tree.specs.declared.leaf.Multiplier.{Multiplier}
+use Rattle.bytime_model.specs.declared.multiplier.Multiplier.{Multiplier}
 use Rattle.dual_leaf.specs.declared.fault.LeafFault.{LeafFault}
 use Rattle.dual_leaf.specs.Lag.{ArePricedBy, IsFirstUnpriceable, IsSetBy, is_key, is_priceable, key_of, set_by, set_on}
 use Rattle.dual_leaf.specs.Leaf.{IsTableSaid}

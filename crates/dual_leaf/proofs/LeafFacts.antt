@@ -13,7 +13,7 @@ use Rattle.plan_rules.proofs.TripFacts.{AreTrips-length}
 use Rattle.time_windows.specs.Boxes.{Box, IsBoxOf, IsClosedMust, IsInBox}
 use Rattle.branch_tree.specs.declared.leaf.Leaf.{Leaf}
 use Rattle.branch_tree.specs.declared.leaf.Leaf.TheVariants.{Dual, Empty, Lag, Unit as UnitLeaf}
-use Rattle.branch_tree.specs.declared.leaf.Multiplier.{Multiplier}
+use Rattle.bytime_model.specs.declared.multiplier.Multiplier.{Multiplier}
 use Rattle.dual_leaf.specs.Leaf.{IsCostIn, IsDualAnswer, IsLagAnswer, IsLeafBound, IsUnitBox}
 use Rattle.time_windows.specs.Plans.{IsBoundIn}
 use Rattle.dual_leaf.proofs.LagFacts.{table-sound}

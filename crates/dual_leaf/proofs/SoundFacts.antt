@@ -17,17 +17,18 @@ use Rattle.bytime_model.specs.declared.variables.Var.{Var}
 use Rattle.bytime_model.specs.declared.variables.Var.TheVariants.{By, Inside}
 use Rattle.bytime_model.specs.Rows.{row_of}
 use Rattle.bytime_model.specs.Values.{by_at, has_inside, inside_at, value_at}
+use Rattle.bytime_model.proofs.RowLaws.{row_kept}
 use Rattle.bytime_model.proofs.CostFacts.{plan_priced}
 use Rattle.bytime_model.proofs.EntryFacts.{by_few}
 use Rattle.bytime_model.proofs.LeftFacts.{agrees}
-use Rattle.bytime_model.proofs.ValidFacts.{flown, row_kept}
-use Rattle.branch_tree.specs.declared.leaf.Multiplier.{Multiplier}
+use Rattle.bytime_model.proofs.ValidFacts.{flown}
+use Rattle.bytime_model.specs.declared.multiplier.Multiplier.{Multiplier}
 use Rattle.plan_rules.proofs.CountFacts.{stays_at-once}
-use Rattle.dual_leaf.specs.Dual.{AreKnown, IsChoice, IsDualValue, dual_at, excess, excesses}
+use Rattle.valid_cuts.specs.Dual.{AreKnown, IsChoice, IsDualValue, dual_at, excess, excesses}
 use Rattle.dual_leaf.specs.Leaf.{IsDualBound, IsLive, IsSaid}
 use Rattle.time_windows.specs.Plans.{IsBoundIn}
 use Rattle.dual_leaf.specs.declared.fault.LeafFault.{LeafFault}
-use Rattle.dual_leaf.proofs.TimesFacts.{times-down}
+use Rattle.valid_cuts.proofs.TimesFacts.{times-down}
 
 module _ (parts : Parts) (scenario : IsScenario parts) (box : Box) (made : IsBoxOf parts box)
     (plan : List (List Stop)) (feasible : IsFeasible parts plan) (inside : IsInBox box plan) where

@@ -7,22 +7,17 @@ use Rattle.flow_types.specs.declared.parts.Parts.{Parts}
 use Rattle.flight_routes.specs.Prices.{ArePricesOf, IsKeyOf, PriceTable, price_at}
 use Rattle.priced_plans.specs.Keys.{is_at, number_in, period_in, row_in}
 use Rattle.bytime_model.specs.declared.names.RowName.{RowName}
-use Rattle.bytime_model.specs.declared.names.RowName.TheVariants.{Arr, Connect, Cut, Dep, Enter, Leave, Mono, Occupy, Sector, Top}
+use Rattle.bytime_model.specs.declared.names.RowName.TheVariants.{Arr, Connect, Dep, Sector}
 use Rattle.bytime_model.specs.Rows.{is_row}
-use Rattle.branch_tree.specs.declared.leaf.Multiplier.{Multiplier}
+use Rattle.bytime_model.specs.declared.multiplier.Multiplier.{Multiplier}
 
 -- what a price of the row is put on; rows that aren't of a capacity or a connection have none
 abbrev pub key_of : RowName → Option PriceKey
-key_of (Mono f n t) = None
-key_of (Top f n) = None
 key_of (Dep place period) = Some (key.Dep place period)
 key_of (Arr place period) = Some (key.Arr place period)
 key_of (Sector place period) = Some (key.Sector place period)
-key_of (Occupy f n t) = None
-key_of (Enter f n t) = None
-key_of (Leave f n) = None
 key_of (Connect connection period) = Some (key.Connect connection period)
-key_of (Cut index) = None
+key_of name = None
 
 -- the row is there, and may have a price
 abbrev pub is_priceable : Parts → RowName → Bool

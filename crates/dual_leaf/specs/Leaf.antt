@@ -15,10 +15,10 @@ use Rattle.time_windows.specs.Plans.{HasNoPlan, IsPlanIn}
 use Rattle.time_windows.specs.Tight.{IsEarlierNode, IsFirstClosed}
 use Rattle.branch_tree.specs.declared.leaf.Leaf.{Leaf}
 use Rattle.branch_tree.specs.declared.leaf.Leaf.TheVariants.{Dual, Empty, Lag, Unit as UnitLeaf}
-use Rattle.branch_tree.specs.declared.leaf.Multiplier.{Multiplier}
+use Rattle.bytime_model.specs.declared.multiplier.Multiplier.{Multiplier}
 use Rattle.dual_leaf.specs.declared.fault.LeafFault.{LeafFault}
 use Rattle.dual_leaf.specs.declared.fault.LeafFault.TheVariants.{Closed, NotEmpty, NotUnit, UnknownRow, Useless}
-use Rattle.dual_leaf.specs.Dual.{AreKnown, IsDualValue, IsFirstUnknown}
+use Rattle.valid_cuts.specs.Dual.{AreKnown, IsDualValue, IsFirstUnknown}
 use Rattle.dual_leaf.specs.Lag.{ArePriceable, ArePricedBy, IsFirstUnpriceable}
 
 -- no node that must be entered is closed

@@ -1,11 +1,5 @@
-pub mod Columns
-pub mod Dual
 pub mod Lag
-pub mod Landing
 pub mod Leaf
 pub mod Options
-pub mod Rows
-pub mod Slots
-pub mod Sums
 pub mod UnitSums
 pub mod Work

@@ -6,15 +6,14 @@ ghost use Rattle.flight_routes.specs.Work.{IsWorkFor};
 ghost use Rattle.priced_plans.specs.Valuing.{AreSmall};
 ghost use Rattle.time_windows.specs.Held.{IsMadeFor, box_of};
 ghost use Rattle.bytime_model.specs.Rows.{is_capacity};
-ghost use Rattle.branch_tree.specs.Leaves.{HasRange};
+ghost use Rattle.bytime_model.specs.Multipliers.{HasRange};
 ghost use Rattle.dual_leaf.specs.Lag.{ArePriceable, ArePricedBy, IsFirstUnpriceable, IsSetBy, is_priceable, key_of};
 ghost use Rattle.dual_leaf.specs.Leaf.{IsLagAnswer, IsLive, IsNearPriced, IsTableSaid};
 ghost use Rattle.time_windows.specs.Plans.{IsBoundIn};
 
 use crate::bound::said;
 use crate::fault::LeafFault;
-use branch_tree::Multiplier;
-use bytime_model::RowName;
+use bytime_model::{Multiplier, RowName};
 use flight_routes::{Prices, Work};
 use flow_types::{Bound, CapKind, PriceKey, Scenario, has_kind};
 use priced_plans::priced_value;

@@ -8,17 +8,16 @@
 //!     let mut rows = Multipliers::empty(alloc);
 //!     rows.add(Multiplier { row: RowName::Dep { place, period }, value: 3 })?;
 //!     let leaf = Leaf::Dual { weight: 1, rows };
-//!     match work.leaf_bound(&s, &boxes, &leaf, &Pool::empty(alloc)) {
+//!     match work.leaf_bound(&s, &Pool::empty(alloc), &boxes, &leaf) {
 //!         Ok(Bound::AtLeast(least)) => println!("no plan in the box costs less than {least}"),
 //!         Ok(Bound::NoPlan) => println!("no plan is in the box"),
 //!         Err(fault) => println!("the leaf says nothing: {fault:?}"),
 //!     }
 //!
-//! The definitions stand in `specs/`: `Leaf` (the bound of a leaf, or why it has none), `Dual` (what
-//! a Dual leaf comes to: the Lagrangian dual of the by-time program) and `Lag` (the prices that a Lag
-//! leaf is; what these come to is said in `priced_plans`). The others serve the proof: `Columns` (a
-//! position for each variable that a tight box may leave free), `Landing` (where a variable counts,
-//! and how sums grow), `Slots`, `Sums`, `Rows`, `Options`, `UnitSums`, and `Work` (the room).
+//! The definitions stand in `specs/`: `Leaf` (the bound of a leaf, or why it has none) and `Lag`
+//! (the prices that a Lag leaf is; what these come to is said in `priced_plans`). What a Dual leaf
+//! comes to is said in `valid_cuts`. The others serve the proof: `Options`, `UnitSums`, and `Work`
+//! (the room).
 //!
 //! Proved: `leaf_bound` gives exactly the bound of the leaf, or exactly the first fault (`bound`),
 //! and no plan in the box that keeps every rule costs less, whoever chose the multipliers
@@ -26,43 +25,27 @@
 //! which serves trees of leaves. What `leaf_bound` gives is nearer to 0 than 2^115, and than 2^124
 //! for a Lag leaf (`near`), so that sums with it have room.
 //!
-//! A Dual leaf is worked out in sums: a constant, and a factor for each variable that is free. Each
-//! term of the cost row and of the rows is looked up in the box, and lands in the constant, at a
-//! position, or nowhere. The positions are those of the tight root box, node by node, so they are
-//! found with no search and serve every tight box within. How far the factors are below 0 is kept
-//! up to date, so the value is there at once; and each position knows the leaf that set it, so
-//! nothing is cleared.
-//!
 //! For a Lag leaf the prices are set that its multipliers are, and then each flight's least trip is
 //! found under them: whole trips, where a Dual leaf looks at one variable at a time.
 //!
 //! Memory: 20 bytes for each variable that the tight root box leaves free (0.4 GB for the largest
-//! days), 24 for each of 32 nodes a flight, `Visits`, `Loads`, `Prices`, and 1.1 MB; `leaf_bound`
-//! takes none. Time: for a Dual leaf the nodes of the flights, the periods by which they may be late
-//! or wait, and for each row that the leaf names what `RowBuffer::fill_with` takes, and for each of
-//! its terms of being inside the legs of the flight; for a Unit leaf a least trip for each flight; for
-//! a Lag leaf that, and each price.
+//! days), 24 for each of 32 nodes a flight and each period by which it may be late or wait,
+//! `Visits`, `Loads`, `Prices`, and 1.1 MB; `leaf_bound` takes none. Time: for a Dual leaf the
+//! nodes of the flights, the periods by which they may be late or wait, and for each row that the
+//! leaf names what `RowBuffer::fill_with` takes, and for each of its terms of being inside the legs
+//! of the flight; for a Unit leaf a least trip for each flight; for a Lag leaf that, and each
+//! price.
 #![tactic(auto)]
 
 mod bound;
-mod columns;
-mod costs;
-mod dual;
 mod fault;
 mod lag;
-mod landing;
 mod laws;
 mod options;
 mod plain;
-mod rows;
-mod slots;
-mod sums;
-mod terms;
 mod unit;
 mod work;
 
-pub use columns::Columns;
 pub use fault::LeafFault;
-pub use landing::{Landing, landing_of};
 pub use laws::leaf_bounds_are_bounds;
 pub use work::LeafWork;

@@ -6,37 +6,33 @@ ghost use Rattle.flight_routes.specs.Work.{IsWorkFor};
 ghost use Rattle.time_windows.specs.Held.{IsMadeFor, box_of};
 ghost use Rattle.time_windows.specs.Tight.{IsTight};
 ghost use Rattle.bytime_model.specs.Visits.{AreVisitsOf};
-ghost use Rattle.branch_tree.specs.Leaves.{HasRange};
-ghost use Rattle.dual_leaf.specs.Columns.{AreColumnsOf};
+ghost use Rattle.bytime_model.specs.Multipliers.{HasRange};
+ghost use Rattle.bytime_model.specs.Columns.{AreColumnsOf};
 ghost use Rattle.dual_leaf.specs.Leaf.{IsDualAnswer, IsLagAnswer, IsNearPriced};
 ghost use Rattle.time_windows.specs.Plans.{IsBoundIn};
 ghost use Rattle.flow_types.specs.Bounds.{IsNearBound};
 
 use crate::bound::said;
-use crate::columns::Columns;
-use crate::dual::dual_value;
 use crate::fault::LeafFault;
 use crate::lag::lag_said;
 use crate::options::first_closed;
 use crate::plain::{empty_bound, unit_bound};
-use crate::sums::Sums;
-use branch_tree::{Leaf, Multiplier};
-use bytime_model::{RowBuffer, Visits};
+use branch_tree::Leaf;
+use bytime_model::{Columns, Multiplier, RowBuffer, Table, Visits, table_for};
 use flight_routes::{Prices, Work};
 use flow_types::{Bound, OutOfMemory, Scenario};
 use plan_rules::Loads;
 use std::alloc::Global;
 use std::marker::Model;
 use time_windows::Boxes;
-use valid_cuts::Pool;
+use valid_cuts::{Pool, Sums, dual_value};
 
 /// The room in which leaves get their bounds, made once for a scenario.
 #[derive(Debug, Drop)]
 pub struct LeafWork {
-    columns: Columns,
+    table: Table,
     sums: Sums,
     buffer: RowBuffer,
-    visits: Visits,
     // For least trips under prices, and for the plan of a unit box.
     work: Work,
     prices: Prices,
@@ -49,9 +45,8 @@ impl Model for LeafWork {
     ghost Value = { Room };
 
     ghost view = { λ a. record {
-      columns = a.columns;
+      table = a.table;
       sums = a.sums;
-      visits = a.visits;
       work = a.work;
       prices = a.prices;
       loads = a.loads;
@@ -59,7 +54,7 @@ impl Model for LeafWork {
 }
 
 impl LeafWork {
-    ghost use Rattle.std.specs.Prelude.{IfOk};
+    ghost use Rattle.std.specs.Prelude.{◌≡◌, IfOk};
     ghost use Rattle.flow_types.specs.Scenario.{parts_of};
     ghost use Rattle.time_windows.specs.Held.{IsMadeFor, box_of};
     ghost use Rattle.time_windows.specs.Tight.{IsTight};
@@ -69,23 +64,29 @@ impl LeafWork {
     ghost use Rattle.dual_leaf.specs.Work.{IsRoomFor};
 
     /// Room for the leaves of the scenario: 20 bytes for each variable that the tight root box
-    /// leaves free, 24 for each of 32 nodes a flight, the visits to its places, loads, prices, and
-    /// 1.1 MB.
-    /// While it runs it takes the memory of a root box.
+    /// leaves free, 24 for each of 32 nodes a flight and for each period that a flight may be late
+    /// or wait, the visits to its places, loads, prices, and 1.1 MB. While it runs it takes the
+    /// memory of a root box.
     pub fn new(alloc: Global, s: &Scenario) -> Result<LeafWork, OutOfMemory>
         ensures { IfOk result (IsRoomFor (parts_of s.now)) }
     {
-        let columns = Columns::new(alloc, s)?;
-        let sums = Sums::new(alloc, columns.count())?;
+        let table = table_for(alloc, s)?;
+        let sums = Sums::new(alloc, table.columns.count())?;
         Ok(LeafWork {
-            columns,
+            table,
             sums,
             buffer: RowBuffer::new(alloc)?,
-            visits: Visits::new(alloc, s)?,
             work: Work::new(alloc, s)?,
             prices: Prices::new(alloc, s)?,
             loads: Loads::new(alloc, s)?,
         })
+    }
+
+    /// The scenario's table, for whoever makes programs of boxes.
+    pub fn table(&self) -> &Table
+        ensures { result.now ≡ self.now.table }
+    {
+        &self.table
     }
 
     /// The bound of the leaf on the box: no plan in the box that keeps every rule costs less, and
@@ -106,14 +107,14 @@ impl LeafWork {
     ///
     /// The fault is the first of those that `LeafFault` lists. No cut has a row yet, whatever the
     /// pool. It takes no memory, and time for each node; for a Dual leaf also for each period by
-    /// which a flight may be late or wait, and for the rows that the leaf names; for a Unit or a Lag
-    /// leaf as a least trip for each flight, and for a Lag leaf for each price.
+    /// which a flight may be late or wait, and for the rows that the leaf names; for a Unit or a
+    /// Lag leaf as a least trip for each flight, and for a Lag leaf for each price.
     pub fn leaf_bound(
         &mut self,
         s: &Scenario,
+        _pool: &Pool,
         boxes: &Boxes,
         leaf: &Leaf,
-        _pool: &Pool,
     ) -> Result<Bound, LeafFault>
         requires made { IsRoomFor (parts_of s.now) self.old }
         requires boxes { IsMadeFor (parts_of s.now) boxes.now }
@@ -130,8 +131,8 @@ impl LeafWork {
             Leaf::Dual { weight, rows } => dual_bound(
                 &mut self.sums,
                 &mut self.buffer,
-                &self.columns,
-                &self.visits,
+                &self.table.columns,
+                &self.table.visits,
                 s,
                 boxes,
                 *weight,

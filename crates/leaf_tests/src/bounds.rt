@@ -5,6 +5,7 @@ ghost use Rattle.time_windows.specs.Held.{IsMadeFor, box_of};
 ghost use Rattle.time_windows.specs.Tight.{IsTight};
 
 use crate::leaves::{day_of, tight_root};
+use bytime_model::table_for;
 use dual_leaf::LeafWork;
 use flow_types::{Bound, Scenario};
 use presolve::{Refused, program, program_within};
@@ -61,9 +62,11 @@ fn bound_by_run(alloc: Global, s: &Scenario, boxes: &Boxes, case: Case) -> Resul
         pivots,
         cutoff,
     } = case;
-    let leaf = relax(alloc, s, boxes, Limits { pivots, cells }, cutoff)?.leaf;
+    let limits = Limits { pivots, cells };
+    let pool = Pool::empty(alloc);
     let mut work = LeafWork::new(alloc, s)?;
-    match work.leaf_bound(s, boxes, &leaf, &Pool::empty(alloc)) {
+    let leaf = relax(alloc, s, &pool, boxes, work.table(), limits, cutoff)?.leaf;
+    match work.leaf_bound(s, &pool, boxes, &leaf) {
         Ok(bound) => Ok(bound),
         Err(_) => Err(Fail::from("a leaf without a bound")),
     }
@@ -123,7 +126,8 @@ fn programs_of_root_boxes(rt: HostRuntime) -> Result<(), Fail> {
     ] {
         let s = day_of(alloc, day)?;
         let boxes = tight_root(alloc, &s)?;
-        let presolved = program(alloc, &s, &boxes, &Pool::empty(alloc))?;
+        let table = table_for(alloc, &s)?;
+        let presolved = program(alloc, &s, &Pool::empty(alloc), &boxes, &table)?;
         assert_eq!(rt; presolved.columns.items().len(), columns);
         assert_eq!(rt; presolved.kept.items().len(), kept);
         let flips = presolved.flipped.items().iter().filter(|flip| **flip);
@@ -137,7 +141,8 @@ fn programs_of_root_boxes(rt: HostRuntime) -> Result<(), Fail> {
 // tableau has 284.
 fn is_given_up(alloc: Global, s: &Scenario, cells: u32) -> Result<bool, Fail> {
     let boxes = tight_root(alloc, s)?;
-    match program_within(alloc, s, &boxes, &Pool::empty(alloc), cells) {
+    let table = table_for(alloc, s)?;
+    match program_within(alloc, s, &Pool::empty(alloc), &boxes, &table, cells) {
         Ok(_) => Ok(false),
         Err(Refused::Wide) => Ok(true),
         Err(Refused::OutOfMemory) => Err(Fail::from("no memory")),

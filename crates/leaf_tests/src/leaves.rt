@@ -126,7 +126,7 @@ fn try_line(
         return take_step(alloc, s, boxes, line);
     };
     let leaf = leaf_of(alloc, leaf)?;
-    let said = room.leaf_bound(s, boxes, &leaf, &Pool::empty(alloc));
+    let said = room.leaf_bound(s, &Pool::empty(alloc), boxes, &leaf);
     assert_eq!(rt; text_of(alloc, said)?.as_str(), answer, "{line}");
     Ok(())
 }

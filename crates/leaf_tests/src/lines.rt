@@ -1,9 +1,10 @@
 //! What the words of a line are.
 ghost use Rattle.std.specs.Prelude.{IfOk, IsTrue};
-ghost use Rattle.branch_tree.specs.Leaves.{HasRange, IsInRange};
+ghost use Rattle.branch_tree.specs.Leaves.{IsInRange};
+ghost use Rattle.bytime_model.specs.Multipliers.{HasRange};
 
-use branch_tree::{Leaf, Multiplier, Multipliers};
-use bytime_model::RowName;
+use branch_tree::Leaf;
+use bytime_model::{Multiplier, Multipliers, RowName};
 use dual_leaf::LeafFault;
 use flow_types::Bound;
 use std::alloc::Global;

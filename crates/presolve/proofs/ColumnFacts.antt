@@ -21,8 +21,8 @@ use Rattle.bytime_model.specs.declared.variables.Var.TheVariants.{By, Inside}
 use Rattle.bytime_model.specs.AllRows.{node_count, periods_of}
 use Rattle.bytime_model.specs.Left.{is_before_end, left_of, may_stay}
 use Rattle.bytime_model.specs.Values.{has_inside}
-use Rattle.dual_leaf.specs.Columns.{IsThere}
-use Rattle.dual_leaf.proofs.NumberFacts.{by_free, inside_free}
+use Rattle.bytime_model.specs.Columns.{IsThere}
+use Rattle.bytime_model.proofs.NumberFacts.{by_free, inside_free}
 use Rattle.presolve.specs.Variables.{by_columns, columns_of, flight_columns, if_free, inside_columns, is_free, is_same, node_columns}
 use Rattle.presolve.proofs.SumLaws.{range_one, total_flat, total_one, total_zero}
 

@@ -23,7 +23,7 @@ use Rattle.bytime_model.specs.CostRow.{Priced, cost_row, flight_terms, late_step
 use Rattle.exact_sums.specs.Near.{IsNear}
 use Rattle.bytime_model.specs.Rows.{over_flights, term_of}
 use Rattle.bytime_model.proofs.SmallFacts.{constant_small, cost_terms_near}
-use Rattle.dual_leaf.specs.Columns.{IsThere}
+use Rattle.bytime_model.specs.Columns.{IsThere}
 use Rattle.presolve.specs.Gathering.{Gathered, IsLanded, most_factor, most_gathered, size_of}
 use Rattle.presolve.specs.Landed.{coefficient_of, entries_from, fixed_of}
 use Rattle.presolve.specs.Listing.{HaveCosts}

@@ -21,7 +21,7 @@ use Rattle.bytime_model.specs.AllRows.{node_count, periods_of}
 use Rattle.bytime_model.specs.Left.{left_of}
 use Rattle.bytime_model.specs.Values.{has_inside}
 use Rattle.bytime_model.proofs.NameLists.{Each, each_all, each_append, each_flat, each_if}
-use Rattle.dual_leaf.specs.Columns.{IsThere}
+use Rattle.bytime_model.specs.Columns.{IsThere}
 use Rattle.presolve.specs.Listing.{most_columns}
 use Rattle.presolve.specs.Variables.{by_columns, columns_of, flight_columns, if_free, inside_columns, is_free, is_same, node_columns}
 use Rattle.presolve.proofs.ColumnFacts.{once}

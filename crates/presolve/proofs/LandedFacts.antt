@@ -13,7 +13,7 @@ use Rattle.bytime_model.specs.declared.left.Left.TheVariants.{Free, One, Same, Z
 use Rattle.bytime_model.specs.declared.variables.Term.{Term}
 use Rattle.bytime_model.specs.declared.variables.Var.{Var}
 use Rattle.bytime_model.specs.Left.{left_of}
-use Rattle.dual_leaf.specs.Columns.{IsThere, IsWhole}
+use Rattle.bytime_model.specs.Columns.{IsThere, IsWhole}
 use Rattle.presolve.specs.Landed.{coefficient_of, fixed_of, is_on, is_one, part_fixed, part_on}
 use Rattle.presolve.specs.Points.{AgreesOver, form_at}
 use Rattle.presolve.specs.Variables.{columns_of, is_same}

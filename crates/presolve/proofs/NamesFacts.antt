@@ -1,27 +1,24 @@
 -- Adding the rows of all names, part by part.
-use Rattle.std.proofs.Common.{◌≡◌, ℕ, zero, suc, ◌+◌, ◌<◌, ◌≤◌, true, List, [], ◌∷◌, ◌++◌, length, map, get_or, take, drop, sum_by, All, refl, sym, ap, ◌∙◌, subst, arith}
+use Rattle.std.proofs.Common.{◌≡◌, ℕ, zero, suc, ◌+◌, ◌<◌, ◌≤◌, true, List, [], ◌++◌, length, map, take, drop, sum_by, All, refl, sym, ap, ◌∙◌, subst, arith}
 use Rattle.std.proofs.lemmas.Grind.{flat_map-append}
-use Rattle.std.proofs.lemmas.List.{append-nil, append_assoc, length-append, length-map, map-append, take-append-drop, take_more}
+use Rattle.std.proofs.lemmas.List.{append_assoc, length-append, length-map, map-append, take-append-drop}
 use Rattle.std.proofs.lemmas.List.Elements.{filter-append}
 use Rattle.std.proofs.lemmas.List.Sums.{sum_by-append}
 use Rattle.std.specs.List.{flat_map, range_with_len}
 use Rattle.flow_types.specs.declared.parts.Parts.{Parts}
-use Rattle.flow_types.specs.declared.place.CapKind.TheVariants as cap
 use Rattle.scaled_simplex.specs.Program.{Problem, columns}
 use Rattle.time_windows.specs.Boxes.{Box}
-use Rattle.bytime_model.specs.declared.all_rows.NodeKind.TheVariants as node
 use Rattle.bytime_model.specs.declared.names.RowName.{RowName}
-use Rattle.bytime_model.specs.AllRows.{over_connections, rows_of}
 use Rattle.bytime_model.specs.Rows.{is_row}
-use Rattle.bytime_model.proofs.AllRowsFacts.{connects_are, nodes_each, places_are}
+use Rattle.bytime_model.proofs.KindLaws.{kind_each}
 use Rattle.bytime_model.proofs.ListingFacts.{range_more}
-use Rattle.bytime_model.proofs.NameLists.{Each, any_flat, each_any}
-use Rattle.presolve.specs.declared.kinds.Kind.{Kind}
-use Rattle.presolve.specs.declared.kinds.Kind.TheVariants as of
+use Rattle.bytime_model.proofs.NameLists.{any_flat, each_any}
+use Rattle.bytime_model.specs.declared.kinds.RowKind.{RowKind}
 use Rattle.presolve.specs.declared.rows.Draft.{Draft}
 use Rattle.presolve.specs.declared.tally.Refused.{Refused}
 use Rattle.presolve.specs.Counting.{IfWide, IsPast, row_entries}
-use Rattle.presolve.specs.Kinds.{count_of, kind_names, kinds_names, names_at}
+use Rattle.bytime_model.specs.AllRows.{kind_rows, part_rows}
+use Rattle.bytime_model.specs.Kinds.{part_count}
 use Rattle.presolve.specs.Listing.{AddsNames, kept_among, with_rows}
 use Rattle.presolve.specs.Relaxed.{kept_row, may_exceed, row_in}
 use Rattle.presolve.proofs.CountFacts.{counted_both, none_counted, wide_both}
@@ -65,14 +62,6 @@ next_ranged part n more are =
     let here : 0 + n ≡ n = omega arith in
     ap (λ m. flat_map part (range_with_len 0 m)) next ∙ range_more part 0 n
     ∙ ap (λ names. flat_map part (range_with_len 0 n) ++ names) (ap part here ∙ sym are)
-
-pub next_taken : {X : Type 0} (part : X → List RowName) (xs : List X) (i : ℕ) (d : X)
-    → i < length xs
-    → flat_map part (take (i + 1) xs) ≡ flat_map part (take i xs) ++ part (get_or xs i d)
-next_taken part xs i d within =
-    ap (flat_map part) (take_more xs i d within)
-    ∙ flat_map-append part (take i xs) (get_or xs i d ∷ [])
-    ∙ ap (λ names. flat_map part (take i xs) ++ names) (append-nil (part (get_or xs i d)))
 
 -- names after others
 module _ (parts : Parts) (box : Box) where
@@ -162,36 +151,13 @@ module _ (parts : Parts) (box : Box) where
       why
 
 -- each name of a part is of a row
-kind_each : (parts : Parts) (kind : Kind)
-    → Each (λ name. is_row parts name ≡ true) (kind_names parts kind)
-kind_each parts (of.Nodes kind) = nodes_each parts kind
-kind_each parts (of.Places kind) = places_are parts kind
-kind_each parts of.Connections = connects_are parts
-
-pub part_are : (parts : Parts) (kind : Kind) (position : ℕ) (names : List RowName)
-    → names ≡ names_at parts kind position → position < count_of parts kind
+pub part_are : (parts : Parts) (kind : RowKind) (position : ℕ) (names : List RowName)
+    → names ≡ part_rows parts kind position → position < part_count parts kind
     → All (λ name. is_row parts name ≡ true) names
 part_are parts kind position names are within =
     subst (λ list. All (λ name. is_row parts name ≡ true) list) (sym are)
-    (every (λ name. is_row parts name ≡ true) (names_at parts kind position) (λ name any.
-    each_any (λ other. is_row parts other ≡ true) name (kind_names parts kind)
+    (every (λ name. is_row parts name ≡ true) (part_rows parts kind position) (λ name any.
+    each_any (λ other. is_row parts other ≡ true) name (kind_rows parts kind)
     (kind_each parts kind)
-    (any_flat (λ other. other ≡ name) (names_at parts kind) 0 (count_of parts kind) position
+    (any_flat (λ other. other ≡ name) (part_rows parts kind) 0 (part_count parts kind) position
     (omega arith) (omega (arith, within)) any)))
-
--- the kinds in the order of their names
-pub kinds_are : (parts : Parts) → kinds_names parts
-    (of.Nodes node.Mono ∷ of.Nodes node.Top ∷ of.Places cap.Dep ∷ of.Places cap.Arr
-    ∷ of.Places cap.Sector ∷ of.Nodes node.Occupy ∷ of.Nodes node.Enter ∷ of.Nodes node.Leave
-    ∷ of.Connections ∷ [])
-    ≡ rows_of parts
-kinds_are parts =
-    ap (λ last.
-    kind_names parts (of.Nodes node.Mono)
-    ++ (kind_names parts (of.Nodes node.Top)
-    ++ (kind_names parts (of.Places cap.Dep)
-    ++ (kind_names parts (of.Places cap.Arr)
-    ++ (kind_names parts (of.Places cap.Sector)
-    ++ (kind_names parts (of.Nodes node.Occupy)
-    ++ (kind_names parts (of.Nodes node.Enter)
-    ++ (kind_names parts (of.Nodes node.Leave) ++ last)))))))) (append-nil (over_connections parts))

@@ -13,11 +13,11 @@ use Rattle.bytime_model.specs.declared.left.Left.{Left}
 use Rattle.bytime_model.specs.declared.left.Left.TheVariants.{Free, One, Same, Zero}
 use Rattle.bytime_model.specs.declared.variables.Var.{Var}
 use Rattle.bytime_model.specs.Left.{left_of}
-use Rattle.dual_leaf.specs.declared.landing.Landing.{Landing}
-use Rattle.dual_leaf.specs.declared.landing.Landing.TheVariants as land
-use Rattle.dual_leaf.specs.Columns.{AreColumnsOf, IsThere, Numbering, position_of, variable_at}
-use Rattle.dual_leaf.specs.Landing.{IsLandingWithin, landing_by, landing_of}
-use Rattle.dual_leaf.proofs.NumberFacts.{ready_box}
+use Rattle.bytime_model.specs.declared.landing.Landing.{Landing}
+use Rattle.bytime_model.specs.declared.landing.Landing.TheVariants as land
+use Rattle.bytime_model.specs.Columns.{AreColumnsOf, IsThere, Numbering, position_of, variable_at}
+use Rattle.bytime_model.specs.Landing.{IsLandingWithin, landing_by, landing_of}
+use Rattle.bytime_model.proofs.NumberFacts.{ready_box}
 use Rattle.presolve.specs.declared.numbers.Spot.TheVariants as spot
 use Rattle.presolve.specs.Gathering.{AreNumbers, AreOwn, IsNumberedFor, IsOwn, IsSpot, Numbered}
 use Rattle.presolve.specs.Landed.{is_on, is_one}

@@ -25,11 +25,11 @@ use Rattle.bytime_model.specs.AllRows.{rows_of}
 use Rattle.bytime_model.specs.CostRow.{cost_row, flight_terms, late_step, late_terms, most_late, most_wait, unless_zero, wait_step, wait_terms}
 use Rattle.bytime_model.specs.Left.{left_of}
 use Rattle.bytime_model.specs.Rows.{is_row, row_of, row_terms, term_of}
-use Rattle.bytime_model.proofs.AllRowsFacts.{rows_each}
+use Rattle.bytime_model.proofs.KindLaws.{rows_each}
 use Rattle.bytime_model.proofs.SmallFacts.{all_flat, all_over}
-use Rattle.dual_leaf.specs.Columns.{IsThere, IsWhole}
-use Rattle.dual_leaf.proofs.NumberFacts.{whole_box}
-use Rattle.dual_leaf.proofs.ThereFacts.{row_there}
+use Rattle.bytime_model.specs.Columns.{IsThere, IsWhole}
+use Rattle.bytime_model.proofs.NumberFacts.{whole_box}
+use Rattle.bytime_model.proofs.RowLaws.{row_there}
 use Rattle.presolve.specs.Landed.{coefficient_of, fixed_of}
 use Rattle.presolve.specs.Points.{AgreesOver, form_at, relaxation_cost, turned}
 use Rattle.presolve.specs.Relaxed.{cost_in, flipped_of, kept_row, program_of, row_in}

@@ -20,8 +20,8 @@ use Rattle.bytime_model.specs.declared.variables.Var.{Var}
 use Rattle.bytime_model.specs.AllRows.{rows_of}
 use Rattle.bytime_model.specs.Left.{left_of}
 use Rattle.bytime_model.specs.Rows.{is_row, row_of, row_terms}
-use Rattle.dual_leaf.specs.Columns.{IsWhole}
-use Rattle.dual_leaf.proofs.NumberFacts.{whole_box}
+use Rattle.bytime_model.specs.Columns.{IsWhole}
+use Rattle.bytime_model.proofs.NumberFacts.{whole_box}
 use Rattle.presolve.specs.Landed.{coefficient_of}
 use Rattle.presolve.specs.Points.{AgreesOver, IsNumerator, IsRelaxationPoint, IsRowKept, column_value, free_value, left_value, relaxation_cost, turned, value_of_point}
 use Rattle.presolve.specs.Relaxed.{at_most_one, flipped_of, greatest, kept_of, kept_row, may_exceed, program_of, row_in}

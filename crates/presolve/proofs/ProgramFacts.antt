@@ -8,7 +8,6 @@ use Rattle.std.proofs.lemmas.List.Sums.{sum_by-cons}
 use Rattle.std.specs.List.{range_with_len}
 use Rattle.flow_types.specs.declared.parts.Parts.{Parts}
 use Rattle.flow_types.specs.declared.place.CapKind.{CapKind}
-use Rattle.flow_types.specs.declared.place.CapKind.TheVariants as kind
 use Rattle.flow_types.specs.Capacities.{has_kind}
 use Rattle.flow_types.specs.Valid.{IsScenario}
 use Rattle.row_arena.specs.Rows.{most_entry}
@@ -16,7 +15,12 @@ use Rattle.scaled_simplex.specs.Program.{IsCost, Problem, columns, most_indices}
 use Rattle.time_windows.specs.Boxes.{Box}
 use Rattle.bytime_model.specs.declared.names.RowName.{RowName}
 use Rattle.bytime_model.specs.declared.names.RowName.TheVariants.{Connect, Enter, Leave, Mono, Occupy}
-use Rattle.bytime_model.specs.AllRows.{capacity_name, capacity_names, connect_names, enter_names, leave_names, mono_names, node_count, occupy_names, over_all_nodes, over_connections, over_nodes, over_places, rows_of, top_names}
+use Rattle.bytime_model.specs.declared.kinds.NodeKind.TheVariants as node
+use Rattle.bytime_model.specs.declared.kinds.RowKind.{RowKind}
+use Rattle.bytime_model.specs.declared.kinds.RowKind.TheVariants as kinds
+use Rattle.bytime_model.specs.AllRows.{capacity_name, capacity_names, connect_names, enter_names, kind_rows, kinds_rows, leave_names, mono_names, node_count, occupy_names, over_nodes, rows_of, top_names}
+use Rattle.bytime_model.specs.Kinds.{row_kinds}
+use Rattle.bytime_model.proofs.AllRowsFacts.{over_all_nodes, over_connections, over_places}
 use Rattle.bytime_model.specs.Rows.{goes_on}
 use Rattle.bytime_model.specs.Values.{has_inside}
 use Rattle.presolve.specs.Listing.{AddsRows, HaveCosts, with_rows}
@@ -99,48 +103,33 @@ module _ (parts : Parts) (scenario : IsScenario parts) where
       let most = scenario.connections.few in
       omega (arith, all, most)
 
-  joined : (a b : List RowName) → length (a ++ b) ≡ length a + length b
-  joined a b = length-append a b
+  -- those of a kind, and of several
+  abbrev most_of : RowKind → ℕ
+  most_of (kinds.Nodes kind) = 32768000
+  most_of (kinds.Places kind) = 512000
+  most_of kinds.Connections = 2048000
+
+  abbrev most_in : List RowKind → ℕ
+  most_in [] = 0
+  most_in (kind ∷ list) = most_of kind + most_in list
+
+  kind_few : (kind : RowKind) → length (kind_rows parts kind) ≤ most_of kind
+  kind_few (kinds.Nodes node.Mono) = mono_few
+  kind_few (kinds.Nodes node.Top) = top_few
+  kind_few (kinds.Nodes node.Occupy) = occupy_few
+  kind_few (kinds.Nodes node.Enter) = enter_few
+  kind_few (kinds.Nodes node.Leave) = leave_few
+  kind_few (kinds.Places kind) = places_few kind
+  kind_few kinds.Connections = connections_few
+
+  kinds_few : (list : List RowKind) → length (kinds_rows parts list) ≤ most_in list
+  kinds_few [] = omega arith
+  kinds_few (kind ∷ list) =
+      let both = length-append (kind_rows parts kind) (kinds_rows parts list) in
+      omega (arith, both, kind_few kind, kinds_few list)
 
   pub rows_few : length (rows_of parts) ≤ 2 ^ 28
-  rows_few =
-      let a = over_all_nodes parts (mono_names parts) in
-      let b = over_all_nodes parts top_names in
-      let d = over_places parts kind.Dep in
-      let e = over_places parts kind.Arr in
-      let f = over_places parts kind.Sector in
-      let g = over_all_nodes parts (occupy_names parts) in
-      let h = over_all_nodes parts (enter_names parts) in
-      let i = over_all_nodes parts (leave_names parts) in
-      let j = over_connections parts in
-      let one = joined a (b ++ (d ++ (e ++ (f ++ (g ++ (h ++ (i ++ j))))))) in
-      let two = joined b (d ++ (e ++ (f ++ (g ++ (h ++ (i ++ j)))))) in
-      let three = joined d (e ++ (f ++ (g ++ (h ++ (i ++ j))))) in
-      let four = joined e (f ++ (g ++ (h ++ (i ++ j)))) in
-      let five = joined f (g ++ (h ++ (i ++ j))) in
-      let six = joined g (h ++ (i ++ j)) in
-      let seven = joined h (i ++ j) in
-      let eight = joined i j in
-      omega (
-        arith,
-        one,
-        two,
-        three,
-        four,
-        five,
-        six,
-        seven,
-        eight,
-        mono_few,
-        top_few,
-        places_few kind.Dep,
-        places_few kind.Arr,
-        places_few kind.Sector,
-        occupy_few,
-        enter_few,
-        leave_few,
-        connections_few,
-      )
+  rows_few = let all = kinds_few row_kinds in omega (arith, all)
 
 -- the costs
 module _ (parts : Parts) (box : Box) (values : List ℤ) (paid : ℤ)

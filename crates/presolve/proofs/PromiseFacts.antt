@@ -23,7 +23,7 @@ use Rattle.bytime_model.specs.AllRows.{rows_of}
 use Rattle.bytime_model.specs.CostRow.{cost_row, priced_value}
 use Rattle.bytime_model.specs.Left.{Agrees, left_of}
 use Rattle.bytime_model.specs.Rows.{is_row, row_of, row_terms}
-use Rattle.dual_leaf.specs.Dual.{IsChoice, dual_at, excess, excesses}
+use Rattle.valid_cuts.specs.Dual.{IsChoice, dual_at, excess, excesses}
 use Rattle.presolve.specs.Landed.{coefficient_of}
 use Rattle.presolve.specs.Leaf.{IsBelowLeaf, leaf_rows}
 use Rattle.presolve.specs.Points.{AgreesOver, turned}

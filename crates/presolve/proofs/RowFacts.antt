@@ -18,10 +18,9 @@ use Rattle.time_windows.specs.Boxes.{Box}
 use Rattle.bytime_model.specs.declared.names.RowName.{RowName}
 use Rattle.bytime_model.specs.declared.variables.Var.{Var}
 use Rattle.bytime_model.specs.Rows.{AtMost, is_row, row_of, row_terms}
-use Rattle.bytime_model.proofs.SmallFacts.{row_few, row_limit_small}
-use Rattle.dual_leaf.specs.Columns.{IsThere}
-use Rattle.dual_leaf.proofs.RowGrowFacts.{row_small}
-use Rattle.dual_leaf.proofs.ThereFacts.{row_there}
+use Rattle.bytime_model.proofs.RowLaws.{row_few, row_limit_small, row_there}
+use Rattle.bytime_model.specs.Columns.{IsThere}
+use Rattle.valid_cuts.proofs.RowGrowFacts.{row_small}
 use Rattle.presolve.specs.Gathering.{Gathered, IsLanded, most_factor, most_gathered, size_of}
 use Rattle.presolve.specs.Landed.{coefficient_of, entries_from, fixed_of}
 use Rattle.presolve.specs.Listing.{AddsRow, AddsRows, IsLandedRow, kept_among, kept_if, most_size, with_rows}

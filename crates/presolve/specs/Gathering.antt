@@ -9,8 +9,8 @@ use Rattle.time_windows.specs.Held.{Held, box_of}
 use Rattle.bytime_model.specs.declared.variables.Term.{Term}
 use Rattle.bytime_model.specs.declared.variables.Var.{Var}
 use Rattle.bytime_model.specs.Left.{left_of}
-use Rattle.dual_leaf.specs.Columns.{Numbering, position_of, variable_at}
-use Rattle.dual_leaf.specs.Landing.{IsReady}
+use Rattle.bytime_model.specs.Columns.{Numbering, position_of, variable_at}
+use Rattle.bytime_model.specs.Landing.{IsReady}
 use Rattle.presolve.specs.declared.numbers.Spot.{Spot}
 use Rattle.presolve.specs.declared.numbers.Spot.TheVariants.{Nowhere, On, Surely}
 use Rattle.presolve.specs.Landed.{coefficient_of, entries_from, fixed_of, is_on, is_one, part_fixed, part_on}

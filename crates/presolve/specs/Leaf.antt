@@ -7,8 +7,8 @@ use Rattle.scaled_simplex.specs.Program.{Problem}
 use Rattle.time_windows.specs.Boxes.{Box}
 use Rattle.bytime_model.specs.declared.names.RowName.{RowName}
 use Rattle.bytime_model.specs.declared.variables.Var.{Var}
-use Rattle.branch_tree.specs.declared.leaf.Multiplier.{Multiplier}
-use Rattle.dual_leaf.specs.Dual.{IsChoice, dual_at}
+use Rattle.bytime_model.specs.declared.multiplier.Multiplier.{Multiplier}
+use Rattle.valid_cuts.specs.Dual.{IsChoice, dual_at}
 
 -- the multipliers of the named rows that aren't 0; those of the rows after them are left out
 abbrev pub unless_never : RowName → ℤ → List Multiplier

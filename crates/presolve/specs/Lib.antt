@@ -1,6 +1,5 @@
 pub mod Counting
 pub mod Gathering
-pub mod Kinds
 pub mod Landed
 pub mod Leaf
 pub mod Listing

@@ -19,7 +19,7 @@ use Rattle.presolve.specs.Variables.{columns_of}
 -- flipped.
 pub record IsFramed (parts : Parts) (held : Held) (frame : Frame) : Type 0 where
   pub numbers : IsNumberedFor parts held frame.numbers
-  pub visits : AreVisitsOf parts frame.visits
+  pub visits : AreVisitsOf parts frame.visits.now
   pub flips : frame.flips.items ≡ flipped_of parts (box_of held)
 
 -- how large the factors of a row are together, and how far its limit may be from 0

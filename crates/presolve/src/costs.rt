@@ -3,6 +3,7 @@ ghost use Rattle.std.specs.Prelude.{◌≡◌, ◌<◌, ◌+◌, ◌+ℤ◌, ◌
 ghost use Rattle.std.specs.Int.{int_min};
 ghost use Rattle.std.specs.List.{range_with_len};
 ghost use Rattle.exact_sums.specs.Sums.{total};
+ghost use Rattle.bytime_model.specs.CostRow.{cost_row};
 ghost use Rattle.flow_types.specs.Scenario.{parts_of};
 ghost use Rattle.presolve.specs.Gathering.{IsNumberedFor};
 ghost use Rattle.presolve.specs.Listing.{HaveCosts, IsAt, IsWalked};
@@ -13,7 +14,7 @@ ghost use Rattle.row_arena.specs.Rows.{IsRow, entry_at};
 use crate::flips::plus;
 use crate::gather::Gathering;
 use crate::numbers::Numbers;
-use bytime_model::linear_cost;
+use bytime_model::CostRow;
 use flow_types::{OutOfMemory, Scenario};
 use row_arena::Entry;
 use std::alloc::Global;
@@ -151,18 +152,19 @@ pub fn costs_of(
     alloc: Global,
     s: &Scenario,
     boxes: &Boxes,
-    numbers: &Numbers,
+    numbers: &Numbers<'_>,
+    cost: &CostRow,
     count: usize,
 ) -> Result<Costs, OutOfMemory>
+    requires cost { cost.now ≡ cost_row (parts_of s.now) }
     requires numbered { IsNumberedFor (parts_of s.now) boxes.now numbers.now }
     requires count { count ≡ length (columns_of (parts_of s.now) (box_of boxes.now)) }
     ensures { IfOk result (λ costs. HaveCosts (parts_of s.now) (box_of boxes.now)
         costs.values.items costs.constant) }
 {
-    let cost = linear_cost(alloc, s)?;
     let mut gathering = Gathering::empty(alloc);
-    gathering.land(numbers, s, boxes, cost.terms.items())?;
+    gathering.land(numbers, s, boxes, cost.terms())?;
     let values = values_of(alloc, gathering.entries(), count)?;
-    let constant = sum(cost.constant, gathering.fixed(), below_of(&values));
+    let constant = sum(cost.constant(), gathering.fixed(), below_of(&values));
     Ok(Costs { values, constant })
 }

@@ -7,10 +7,10 @@ use flow_types::OutOfMemory;
 use std::alloc::Global;
 
 /// The numbers of the columns, the visits to each place, and which columns are flipped.
-#[derive(Debug, Drop)]
-pub struct Frame {
-    pub numbers: Numbers,
-    pub visits: Visits,
+#[derive(Drop)]
+pub struct Frame<'a> {
+    pub numbers: Numbers<'a>,
+    pub visits: &'a Visits,
     pub flips: Vec<bool>,
 }
 

@@ -30,7 +30,7 @@ impl Model for Gathering {
 
 impl Gathering {
     ghost use Rattle.std.specs.Prelude.{◌≡◌, ◌<◌, ◌≤◌, ◌+◌, ◌+ℤ◌, ◌^◌, [], All, OnOk, length, map, pos, unsigned_abs};
-    ghost use Rattle.dual_leaf.specs.Columns.{IsThere};
+    ghost use Rattle.bytime_model.specs.Columns.{IsThere};
     ghost use Rattle.flow_types.specs.Scenario.{parts_of};
     ghost use Rattle.presolve.specs.Gathering.{AddsTerm, AreGathered, IsAscending, IsLanded, IsNumberedFor, most_factor, most_gathered, size_of};
     ghost use Rattle.presolve.specs.Relaxed.{flipped_entry};
@@ -65,7 +65,7 @@ impl Gathering {
     #[tactic(auto, using(crate::proofs::GatherFacts::all_landed))]
     pub fn land(
         &mut self,
-        numbers: &Numbers,
+        numbers: &Numbers<'_>,
         s: &Scenario,
         boxes: &Boxes,
         terms: &[Term],
@@ -102,7 +102,7 @@ impl Gathering {
     #[tactic(auto, using(crate::proofs::GatherFacts::none_gathered, crate::proofs::GatherFacts::room_for, crate::proofs::GatherFacts::gathered_ascending))]
     fn add_all(
         &mut self,
-        numbers: &Numbers,
+        numbers: &Numbers<'_>,
         s: &Scenario,
         boxes: &Boxes,
         terms: &[Term],
@@ -133,7 +133,7 @@ impl Gathering {
     #[tactic(auto, using(crate::proofs::GatherFacts::adds_nothing, crate::proofs::GatherFacts::adds_fixed, crate::proofs::GatherFacts::adds_entry))]
     fn add(
         &mut self,
-        numbers: &Numbers,
+        numbers: &Numbers<'_>,
         s: &Scenario,
         boxes: &Boxes,
         term: Term,

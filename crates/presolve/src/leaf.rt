@@ -2,8 +2,7 @@
 ghost use Rattle.std.specs.Prelude.{◌≡◌, ◌++◌, IfOk, OnOk, unsigned_abs};
 ghost use Rattle.presolve.specs.Leaf.{leaf_rows, unless_never};
 
-use branch_tree::{Multiplier, Multipliers};
-use bytime_model::RowName;
+use bytime_model::{Multiplier, Multipliers, RowName};
 use flow_types::OutOfMemory;
 use std::alloc::Global;
 

@@ -1,12 +1,13 @@
 //! The linear program of a box, for the dual simplex: the relaxation of the by-time program, with
 //! what the box fixes replaced.
 //!
-//! A caller makes it of a tight box, and hands it on. What the run gives back, a weight and a
-//! multiplier for each row, becomes a Dual leaf:
+//! A caller makes it of a tight box, by the scenario's table, and hands it on. What the run gives
+//! back, a weight and a multiplier for each row, becomes a Dual leaf:
 //!
 //!     let mut boxes = Boxes::root(alloc, &s)?;
 //!     boxes.tighten(&s);
-//!     let made = program(alloc, &s, &boxes, &Pool::empty(alloc))?;
+//!     let table = table_for(alloc, &s)?;
+//!     let made = program(alloc, &s, &Pool::empty(alloc), &boxes, &table)?;
 //!     for k in 0..made.columns.items().len() {
 //!         println!("{:?} costs {}", made.columns.items()[k], made.program.costs()[k]);
 //!     }
@@ -26,7 +27,7 @@
 //! The definitions stand in `specs/`: `Variables` (the columns), `Landed` (where a sum of terms
 //! lands), `Relaxed` (the program), `Leaf` (the leaf that multipliers give, and what they promise),
 //! `Presolved` (what callers get) and `Points` (the points of the relaxation, and the one that a
-//! point of the program gives). `Counting`, `Gathering`, `Kinds` and `Listing` serve the proofs.
+//! point of the program gives). `Counting`, `Gathering` and `Listing` serve the proofs.
 //! `proofs/WorkedProgram.antt` has the program of a narrow box of a day of two flights, and a point
 //! of it.
 //!
@@ -42,11 +43,11 @@
 //!
 //! Memory: 4 bytes for each variable that the tight root box leaves free, 25 for each column, and
 //! what the program takes: 16 bytes for each factor and some 40 for each row; lists take up to
-//! twice that, since they grow. While it runs, it takes the memory of a root box, the visits to the
-//! places, room for one row (0.2 MB), and 12 bytes for each row's name of one flight and kind, one
-//! place or one connection at a time (0.2 MB at the most). A program that is given up takes no more
-//! of this than one that has just room. Time: for each variable of the day what the box leaves of
-//! it, and for each row its terms.
+//! twice that, since they grow. The table is lent, once made for all boxes of a scenario. While it
+//! runs, it takes room for one row (0.2 MB), and 12 bytes for each row's name of one flight and
+//! kind, one place or one connection at a time (0.2 MB at the most). A program that is given up
+//! takes no more of this than one that has just room. Time: for each variable of the day what the
+//! box leaves of it, and for each row its terms.
 #![tactic(auto)]
 
 mod columns;

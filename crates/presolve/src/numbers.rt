@@ -1,15 +1,14 @@
 //! The numbers of the columns: where a variable lands.
 ghost use Rattle.std.specs.Prelude.{◌≡◌, ◌<◌, ◌^◌, IfOk, length, replicate};
 ghost use Rattle.bytime_model.specs.declared.variables.Var.{Var};
-ghost use Rattle.dual_leaf.specs.Columns.{AreColumnsOf, IsThere};
+ghost use Rattle.bytime_model.specs.Columns.{AreColumnsOf, IsThere};
 ghost use Rattle.flow_types.specs.Scenario.{parts_of};
 ghost use Rattle.presolve.specs.Gathering.{AreNumbers, AreOwn, IsNumberedFor, IsSpot, IsSpotWithin};
 ghost use Rattle.presolve.specs.Variables.{columns_of};
 ghost use Rattle.time_windows.specs.Held.{IsMadeFor, box_of};
 ghost use Rattle.time_windows.specs.Tight.{IsTight};
 
-use bytime_model::Var;
-use dual_leaf::{Columns, Landing, landing_of};
+use bytime_model::{Columns, Landing, Var, landing_of};
 use flow_types::{OutOfMemory, Scenario};
 use std::alloc::Global;
 use std::marker::Model;
@@ -27,47 +26,47 @@ pub enum Spot {
 }
 
 /// The numbers of the columns of a box, by the positions that their variables have.
-#[derive(Debug, Drop)]
-pub struct Numbers {
-    positions: Columns,
+#[derive(Drop)]
+pub struct Numbers<'a> {
+    positions: &'a Columns,
     numbers: Vec<u32>,
 }
 
-impl Model for Numbers {
+impl<'a> Model for Numbers<'a> {
     ghost use Rattle.presolve.specs.Gathering.{Numbered};
 
     ghost Value = { Numbered };
 
-    ghost view = { λ n. record { positions = n.positions; numbers = n.numbers.items } };
+    ghost view = { λ n. record { positions = n.positions.now; numbers = n.numbers.items } };
 }
 
-impl Numbers {
+impl<'a> Numbers<'a> {
     ghost use Rattle.std.specs.Prelude.{◌≡◌, ◌<◌, IfOk, length, slice_index};
     ghost use Rattle.bytime_model.specs.declared.variables.Var.{Var};
-    ghost use Rattle.dual_leaf.specs.Columns.{IsThere};
-    ghost use Rattle.dual_leaf.specs.Landing.{IsLandingWithin, landing_of};
+    ghost use Rattle.bytime_model.specs.Columns.{AreColumnsOf, IsThere};
+    ghost use Rattle.bytime_model.specs.Landing.{IsLandingWithin, landing_of};
     ghost use Rattle.flow_types.specs.Scenario.{parts_of};
     ghost use Rattle.presolve.specs.Gathering.{IsNumberedFor, IsSpot, IsSpotWithin};
     ghost use Rattle.presolve.specs.Variables.{columns_of};
     ghost use Rattle.time_windows.specs.Held.{IsMadeFor, box_of};
     ghost use Rattle.time_windows.specs.Tight.{IsTight};
 
-    /// Those of the box's columns: 4 bytes for each position, and 24 for each of 32 nodes a flight.
-    /// While it runs it takes the memory of a root box.
+    /// Those of the box's columns, by these positions: 4 bytes for each position.
     #[tactic(auto, using(crate::proofs::NumberFacts::few_numbers, crate::proofs::NumberFacts::columns_own, crate::proofs::NumberFacts::numbered_for))]
     pub fn new(
         alloc: Global,
         s: &Scenario,
         boxes: &Boxes,
+        positions: &'a Columns,
         columns: &[Var],
-    ) -> Result<Numbers, OutOfMemory>
+    ) -> Result<Numbers<'a>, OutOfMemory>
+        requires positions { AreColumnsOf (parts_of s.now) positions.now }
         requires made { IsMadeFor (parts_of s.now) boxes.now }
         requires tight { IsTight (parts_of s.now) (box_of boxes.now) }
         requires columns { columns.now ≡ columns_of (parts_of s.now) (box_of boxes.now) }
         ensures { IfOk result (IsNumberedFor (parts_of s.now) boxes.now) }
     {
-        let positions = Columns::new(alloc, s)?;
-        let numbers = numbers_of(alloc, &positions, columns)?;
+        let numbers = numbers_of(alloc, positions, columns)?;
         Ok(Numbers { positions, numbers })
     }
 
@@ -88,7 +87,7 @@ impl Numbers {
             (box_of boxes.now) variable }
         ensures within { IsLandingWithin (length self.now.numbers) result }
     {
-        landing_of(&self.positions, s, boxes, variable)
+        landing_of(self.positions, s, boxes, variable)
     }
 
     /// Where the variable lands in the box.

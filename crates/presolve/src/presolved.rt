@@ -1,6 +1,7 @@
 //! The program of a box.
 ghost use Rattle.std.specs.Prelude.{◌≡◌, ◌<◌, ◌+◌, [], IfErr, IfOk, OnOk, length, map, pos, sum_by, unsigned_abs};
 ghost use Rattle.bytime_model.specs.AllRows.{rows_of};
+ghost use Rattle.bytime_model.specs.Table.{IsTableFor};
 ghost use Rattle.flow_types.specs.Scenario.{parts_of};
 ghost use Rattle.presolve.specs.Counting.{IfWide, IsPast, row_entries};
 ghost use Rattle.presolve.specs.Listing.{HaveCosts, IsFramed, with_rows};
@@ -18,7 +19,7 @@ use crate::kinds::add_all_kinds;
 use crate::numbers::Numbers;
 use crate::rows::{Draft, add_ones};
 use crate::tally::{Refused, Tally};
-use bytime_model::{RowNames, Var, Vars, Visits};
+use bytime_model::{RowNames, Table, Var, Vars};
 use flow_types::{OutOfMemory, Scenario, Sequence};
 use scaled_simplex::Program;
 use std::alloc::Global;
@@ -44,13 +45,20 @@ pub struct Presolved {
 
 // The frame of the box's rows, and what its columns cost.
 #[derive(Drop)]
-struct Base {
-    frame: Frame,
+struct Base<'a> {
+    frame: Frame<'a>,
     costs: Costs,
 }
 
 // That of these columns.
-fn base_of(alloc: Global, s: &Scenario, boxes: &Boxes, columns: &[Var]) -> Result<Base, OutOfMemory>
+fn base_of<'a>(
+    alloc: Global,
+    s: &Scenario,
+    boxes: &Boxes,
+    table: &'a Table,
+    columns: &[Var],
+) -> Result<Base<'a>, OutOfMemory>
+    requires table { IsTableFor (parts_of s.now) table.now }
     requires made { IsMadeFor (parts_of s.now) boxes.now }
     requires tight { IsTight (parts_of s.now) (box_of boxes.now) }
     requires columns { columns.now ≡ columns_of (parts_of s.now) (box_of boxes.now) }
@@ -58,14 +66,13 @@ fn base_of(alloc: Global, s: &Scenario, boxes: &Boxes, columns: &[Var]) -> Resul
     ensures costs { IfOk result (λ base. HaveCosts (parts_of s.now) (box_of boxes.now)
         base.costs.values.items base.costs.constant) }
 {
-    let numbers = Numbers::new(alloc, s, boxes, columns)?;
-    let costs = costs_of(alloc, s, boxes, &numbers, columns.len())?;
+    let numbers = Numbers::new(alloc, s, boxes, &table.columns, columns)?;
+    let costs = costs_of(alloc, s, boxes, &numbers, &table.cost, columns.len())?;
     let flips = negatives_of(alloc, &costs.values)?;
-    let visits = Visits::new(alloc, s)?;
     Ok(Base {
         frame: Frame {
             numbers,
-            visits,
+            visits: &table.visits,
             flips,
         },
         costs,
@@ -91,7 +98,7 @@ fn begun(alloc: Global, s: &Scenario, boxes: &Boxes, costs: &Costs) -> Result<Pr
 fn add_all(
     draft: &mut Draft,
     alloc: Global,
-    frame: &Frame,
+    frame: &Frame<'_>,
     s: &Scenario,
     boxes: &Boxes,
     count: usize,
@@ -118,8 +125,10 @@ fn tallied(
     alloc: Global,
     s: &Scenario,
     boxes: &Boxes,
+    table: &Table,
     cells: Option<u32>,
 ) -> Result<Presolved, Refused>
+    requires table { IsTableFor (parts_of s.now) table.now }
     requires made { IsMadeFor (parts_of s.now) boxes.now }
     requires tight { IsTight (parts_of s.now) (box_of boxes.now) }
     ensures presolved { IfOk result (IsPresolved (parts_of s.now) (box_of boxes.now)) }
@@ -128,7 +137,7 @@ fn tallied(
 {
     let mut tally = Tally::new(cells);
     let columns = columns_of(alloc, s, boxes, &mut tally)?;
-    let Base { frame, costs } = base_of(alloc, s, boxes, columns.items())?;
+    let Base { frame, costs } = base_of(alloc, s, boxes, table, columns.items())?;
     let mut draft = Draft {
         program: begun(alloc, s, boxes, &costs)?,
         kept: RowNames::empty(alloc),
@@ -153,28 +162,30 @@ fn tallied(
     })
 }
 
-/// The program of the box, which is a tight one of the scenario. No cut has a row yet, whatever the
-/// pool.
+/// The program of the box, which is a tight one of the scenario, as the table is. No cut has a row
+/// yet, whatever the pool.
 ///
 /// Its multipliers, with any weight, are bounds: where each is 0 or more, and for each column the
 /// weight times its cost plus each multiplier times the row's factor is 0 or more, the weight times
 /// the constant less each multiplier times the row's limit is no more than the value of the Dual
 /// leaf with that weight and the rows that `leaf_of` gives.
 ///
-/// While it runs it takes the memory of a root box, 4 bytes for each variable that the tight root
-/// box leaves free, the visits to the places, room for one row, and the names of the rows of one
-/// flight and kind, one place or one connection at a time.
+/// While it runs it takes 4 bytes for each variable that the tight root box leaves free, room for
+/// one row, and the names of the rows of one flight and kind, one place or one connection at a
+/// time.
 pub fn program(
     alloc: Global,
     s: &Scenario,
-    boxes: &Boxes,
     _pool: &Pool,
+    boxes: &Boxes,
+    table: &Table,
 ) -> Result<Presolved, OutOfMemory>
+    requires table { IsTableFor (parts_of s.now) table.now }
     requires made { IsMadeFor (parts_of s.now) boxes.now }
     requires tight { IsTight (parts_of s.now) (box_of boxes.now) }
     ensures presolved { IfOk result (IsPresolved (parts_of s.now) (box_of boxes.now)) }
 {
-    match tallied(alloc, s, boxes, None) {
+    match tallied(alloc, s, boxes, table, None) {
         Ok(presolved) => Ok(presolved),
         Err(Refused::OutOfMemory) => Err(OutOfMemory),
         Err(Refused::Wide) => unreachable!(),
@@ -187,15 +198,17 @@ pub fn program(
 pub fn program_within(
     alloc: Global,
     s: &Scenario,
-    boxes: &Boxes,
     _pool: &Pool,
+    boxes: &Boxes,
+    table: &Table,
     cells: u32,
 ) -> Result<Presolved, Refused>
+    requires table { IsTableFor (parts_of s.now) table.now }
     requires made { IsMadeFor (parts_of s.now) boxes.now }
     requires tight { IsTight (parts_of s.now) (box_of boxes.now) }
     ensures presolved { IfOk result (IsPresolved (parts_of s.now) (box_of boxes.now)) }
     ensures wide { IfErr result (λ refused. IfWide refused
         (cells < entries_of (parts_of s.now) (box_of boxes.now))) }
 {
-    tallied(alloc, s, boxes, Some(cells))
+    tallied(alloc, s, boxes, table, Some(cells))
 }

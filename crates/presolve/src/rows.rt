@@ -35,7 +35,7 @@ fn less(limit: i64, taken: i64) -> i64
 #[tactic(auto, using(crate::proofs::RowFacts::row_there_at, crate::proofs::RowFacts::factors_small, crate::proofs::RowFacts::few_landed, crate::proofs::RowFacts::limit_near, crate::proofs::RowFacts::landed))]
 fn land_row(
     room: &mut Room,
-    frame: &Frame,
+    frame: &Frame<'_>,
     s: &Scenario,
     boxes: &Boxes,
     name: RowName,
@@ -45,7 +45,7 @@ fn land_row(
     ensures { IfOk result (IsLandedRow (parts_of s.now) (box_of boxes.now) name
         room.new.gathering.entries) }
 {
-    room.buffer.fill_with(s, &frame.visits, name);
+    room.buffer.fill_with(s, frame.visits, name);
     room.gathering
         .land(&frame.numbers, s, boxes, room.buffer.terms())?;
     Ok(less(room.buffer.limit(), room.gathering.fixed()))
@@ -88,7 +88,7 @@ fn add_row(
     draft: &mut Draft,
     alloc: Global,
     room: &mut Room,
-    frame: &Frame,
+    frame: &Frame<'_>,
     s: &Scenario,
     boxes: &Boxes,
     name: RowName,
@@ -127,7 +127,7 @@ pub fn add_rows(
     draft: &mut Draft,
     alloc: Global,
     room: &mut Room,
-    frame: &Frame,
+    frame: &Frame<'_>,
     s: &Scenario,
     boxes: &Boxes,
     names: &[RowName],

@@ -15,7 +15,7 @@ use Rattle.priced_plans.specs.declared.kinds.PriceKind.TheVariants.{Arrival, Dep
 use Rattle.priced_plans.specs.Keys.{ArePlaced, IsKeyFor, has_limit, kind_number, number_in, period_in, row_in, rows_of}
 use Rattle.priced_plans.proofs.KeyFacts.{itself, key_at, period_within, row_within}
 use Rattle.bytime_model.specs.Order.{IsBefore}
-use Rattle.branch_tree.specs.declared.leaf.Multiplier.{Multiplier}
+use Rattle.bytime_model.specs.declared.multiplier.Multiplier.{Multiplier}
 use Rattle.dual_leaf.specs.Lag.{is_key, is_priceable, key_of, set_by, set_on}
 use Rattle.dual_leaf.proofs.LagFacts.{set-more}
 use Rattle.priced_leaf.specs.Leaf.{row_of}

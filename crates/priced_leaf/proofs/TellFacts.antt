@@ -11,7 +11,7 @@ use Rattle.priced_plans.specs.PricedBound.{IsPricedBound}
 use Rattle.time_windows.specs.Boxes.{Box}
 use Rattle.branch_tree.specs.declared.leaf.Leaf.{Leaf}
 use Rattle.branch_tree.specs.declared.leaf.Leaf.TheVariants.{Lag}
-use Rattle.branch_tree.specs.declared.leaf.Multiplier.{Multiplier}
+use Rattle.bytime_model.specs.declared.multiplier.Multiplier.{Multiplier}
 use Rattle.dual_leaf.specs.Leaf.{IsLeafBound, IsTableSaid}
 use Rattle.priced_leaf.specs.Leaf.{Closes, IsLagOf, TellsAs}
 use Rattle.priced_leaf.specs.Listing.{IsListed, is_listed}

@@ -14,7 +14,7 @@ use Rattle.bytime_model.specs.declared.names.RowName.TheVariants.{Arr, Connect, 
 use Rattle.bytime_model.specs.Order.{IsBefore}
 use Rattle.branch_tree.specs.declared.leaf.Leaf.{Leaf}
 use Rattle.branch_tree.specs.declared.leaf.Leaf.TheVariants.{Lag}
-use Rattle.branch_tree.specs.declared.leaf.Multiplier.{Multiplier}
+use Rattle.bytime_model.specs.declared.multiplier.Multiplier.{Multiplier}
 use Rattle.dual_leaf.specs.Lag.{ArePriceable, ArePricedBy}
 use Rattle.dual_leaf.specs.Leaf.{IsLeafBound, IsLive}
 

@@ -5,7 +5,7 @@ use Rattle.flow_types.specs.declared.bound.PriceKey.{PriceKey}
 use Rattle.flow_types.specs.declared.parts.Parts.{Parts}
 use Rattle.flight_routes.specs.Prices.{PriceTable, price_at}
 use Rattle.priced_plans.specs.Keys.{IsKeyFor, number_in, period_in, row_in}
-use Rattle.branch_tree.specs.declared.leaf.Multiplier.{Multiplier}
+use Rattle.bytime_model.specs.declared.multiplier.Multiplier.{Multiplier}
 use Rattle.dual_leaf.specs.Lag.{ArePriceable, set_by}
 use Rattle.priced_leaf.specs.Leaf.{AreAscending, ArePositive, row_of}
 

@@ -7,8 +7,8 @@ ghost use Rattle.branch_tree.specs.Leaves.{IsInRange};
 ghost use Rattle.priced_leaf.specs.Leaf.{Closes, IsLagOf, TellsAs, row_of};
 ghost use Rattle.priced_leaf.specs.Listing.{IsListed};
 
-use branch_tree::{Leaf, Multiplier, Multipliers};
-use bytime_model::RowName;
+use branch_tree::Leaf;
+use bytime_model::{Multiplier, Multipliers, RowName};
 use flight_routes::Prices;
 use flow_types::{OutOfMemory, PriceKey, Scenario};
 use priced_plans::{PriceKind, key_in, price_at, rows_of};

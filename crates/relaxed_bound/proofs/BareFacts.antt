@@ -14,11 +14,8 @@ use Rattle.time_windows.specs.Boxes.{Box}
 use Rattle.bytime_model.specs.declared.names.RowName.{RowName}
 use Rattle.branch_tree.specs.declared.leaf.Leaf.{Leaf}
 use Rattle.branch_tree.specs.declared.leaf.Leaf.TheVariants.{Dual}
-use Rattle.branch_tree.specs.declared.leaf.Multiplier.{Multiplier}
+use Rattle.bytime_model.specs.declared.multiplier.Multiplier.{Multiplier}
 use Rattle.branch_tree.specs.Leaves.{IsInRange}
-use Rattle.dual_leaf.specs.declared.fault.LeafFault.{LeafFault}
-use Rattle.dual_leaf.specs.declared.fault.LeafFault.TheVariants.{Closed, NotEmpty, NotUnit, UnknownRow, Useless}
-use Rattle.dual_leaf.specs.Leaf.{IsDualFault, IsLive}
 use Rattle.presolve.specs.Leaf.{leaf_rows, unless_never}
 use Rattle.presolve.specs.Presolved.{entries_of}
 use Rattle.presolve.specs.Relaxed.{kept_of, program_of}
@@ -83,18 +80,11 @@ module _ (parts : Parts) (box : Box) where
       → limits.cells < entries_of parts box → IsLicensed parts box limits cutoff
   bare_licensed limits cutoff past = inr (inr (sym (bare_end limits cutoff past)))
 
-  no_fault : (live : IsLive box) (fault : LeafFault) → IsDualFault parts box [] (Err fault) → ⊥
-  no_fault live NotEmpty none = none
-  no_fault live (NotUnit flight node) none = none
-  no_fault live (Closed flight node) first = live flight node first.here
-  no_fault live (UnknownRow position) (same, first) =
-      absurd (no_item position first.multiplier first.here)
-  no_fault live (Useless value) none = none
-
   bare_bound : HasBound parts box (Dual 1 [])
-  bare_bound live (Ok bound) is = refl
-  bare_bound live (Err fault) (inl bound) = absurd (let none = bound.said.0 in omega (arith, none))
-  bare_bound live (Err fault) (inr first) = absurd (no_fault live fault first)
+  bare_bound = record {
+    known = λ position multiplier at. absurd (no_item position multiplier at);
+    positive = λ none. absurd (omega (arith, none));
+  }
 
   pub bare_has : (leaf : Leaf) → leaf ≡ Dual 1 [] → HasBound parts box leaf
   bare_has leaf is = subst (HasBound parts box) (sym is) bare_bound

@@ -18,14 +18,13 @@ use Rattle.scaled_simplex.proofs.CutRuns.{HasReached, run_reached}
 use Rattle.scaled_simplex.proofs.Products.{less_is, less_times, low_back, low_times, times_assoc, times_comm, times_less}
 use Rattle.time_windows.specs.Boxes.{Box, IsBoxOf}
 use Rattle.time_windows.specs.Tight.{IsTight}
-use Rattle.branch_tree.specs.declared.leaf.Multiplier.{Multiplier}
-use Rattle.dual_leaf.specs.Leaf.{IsDualBound, IsLeafBound}
+use Rattle.bytime_model.specs.declared.multiplier.Multiplier.{Multiplier}
 use Rattle.presolve.specs.Leaf.{IsBelowLeaf, leaf_rows}
 use Rattle.presolve.specs.Points.{value_of_point}
 use Rattle.presolve.specs.Relaxed.{kept_of, program_of}
 use Rattle.presolve.proofs.PointLaws.{costs_alike, relaxation_point}
 use Rattle.relaxed_bound.specs.declared.limits.Limits.{Limits}
-use Rattle.relaxed_bound.specs.Licence.{IsBelowCutoff, IsCheapPoint, IsLicensed}
+use Rattle.relaxed_bound.specs.Licence.{IsBelowCutoff, IsCheapPoint, IsLicensed, IsUnreached, StaysBelow}
 use Rattle.flow_types.specs.Bounds.{is_reached}
 use Rattle.relaxed_bound.specs.Relaxed.{outcome_leaf}
 use Rattle.relaxed_bound.specs.Telling.{IsWorthOf}
@@ -88,28 +87,18 @@ module _ (parts : Parts) (box : Box) (cutoff : Option ℤ) (outcome : Outcome) w
           (value_in program outcome) (weight_in program outcome) (limit -ℤ pos 1)
           (told.bound isnt).weight point.is.point.positive point.is.worth is
 
-  module _ (bound : Bound) (unreached : is_reached cutoff bound ≡ false) where
+  module _ (is : StaysBelow parts box (unsigned_abs (weight_in program outcome)) rows cutoff) where
     -- a refutation reaches any cutoff
-    not_infeasible : IsTold program outcome
-        → IsLeafBound parts box (outcome_leaf parts box outcome) (Ok bound)
-        → is_infeasible outcome.end ≡ true → ⊥
-    not_infeasible told (inr fault) infeasible = fault
-    not_infeasible told (inl is) infeasible = by bound unreached is
-      where
-        none : unsigned_abs (weight_in program outcome) ≡ 0
-        none = ap unsigned_abs (told.refutation infeasible).weight
-
-        by : (b : Bound) → is_reached cutoff b ≡ false
-            → IsDualBound parts box (unsigned_abs (weight_in program outcome)) rows (Ok b) → ⊥
-        by NoPlan isnt is = cc (isnt)
-        by (AtLeast least) isnt is = let some = is.said.0 in omega (arith, some, none)
+    not_infeasible : IsTold program outcome → is_infeasible outcome.end ≡ true → ⊥
+    not_infeasible told infeasible =
+        let none = ap unsigned_abs (told.refutation infeasible).weight in
+        let some = is.weighed in
+        omega (arith, some, none)
 
     -- and so does the leaf of a run that was cut
     not_cut : IsTold program outcome → is_infeasible outcome.end ≡ false
-        → IsBelowLeaf parts box program (kept_of parts box) → HasReached program cutoff outcome
-        → IsLeafBound parts box (outcome_leaf parts box outcome) (Ok bound) → ⊥
-    not_cut told isnt promise reached (inr fault) = fault
-    not_cut told isnt promise reached (inl is) = by cutoff bound unreached reached is
+        → IsBelowLeaf parts box program (kept_of parts box) → HasReached program cutoff outcome → ⊥
+    not_cut told isnt promise reached = by cutoff reached is.below
       where
         weight : ℕ
         weight = unsigned_abs (weight_in program outcome)
@@ -122,20 +111,15 @@ module _ (parts : Parts) (box : Box) (cutoff : Option ℤ) (outcome : Outcome) w
         are = subst (λ w. AreMultipliers program w (multipliers_of program outcome)
             (value_in program outcome)) (sym same) (told.bound isnt).multipliers
 
-        by : (limit : Option ℤ) (b : Bound) → is_reached limit b ≡ false
-            → HasReached program limit outcome → IsDualBound parts box weight rows (Ok b) → ⊥
-        by limit NoPlan isnt_reached has is = cc (isnt_reached)
-        by None (AtLeast least) isnt_reached has is = has
-        by (Some limit) (AtLeast least) isnt_reached has is =
+        by : (limit : Option ℤ) → HasReached program limit outcome
+            → IsBelowCutoff limit is.value (pos weight) → ⊥
+        by None has below = has
+        by (Some limit) has below =
             let choice = is.least.reached in
             let low = promise weight (multipliers_of program outcome) (value_in program outcome)
             are choice.0 choice.1 in
-            let above = is.said.1.reached in
-            let gap = less_times (limit -ℤ pos 1) least (pos weight) in
-            let room = low_times ((limit -ℤ pos 1) -ℤ least) (pos weight)
-            (omega (arith, ints, unreached_is least limit isnt_reached)) (omega (arith, ints)) in
             let turned = ap (λ w. (limit -ℤ pos 1) *ℤ w) same in
-            omega (arith, ints, low, above, gap, room, turned, choice.2, has)
+            omega (arith, ints, low, below, turned, choice.2, has)
 
 pub licensed : (parts : Parts) (box : Box) (limits : Limits) (cutoff : Option ℤ)
     → IsScenario parts → IsBoxOf parts box → IsTight parts box
@@ -143,11 +127,11 @@ pub licensed : (parts : Parts) (box : Box) (limits : Limits) (cutoff : Option �
     (simplex_run (program_of parts box) limits.pivots limits.cells cutoff)
     → IsWorthOf (program_of parts box) cutoff
     (simplex_run (program_of parts box) limits.pivots limits.cells cutoff)
-    → IsBelowLeaf parts box (program_of parts box) (kept_of parts box) → (bound : Bound)
-    → IsLeafBound parts box (outcome_leaf parts box
-    (simplex_run (program_of parts box) limits.pivots limits.cells cutoff)) (Ok bound)
-    → is_reached cutoff bound ≡ false → IsLicensed parts box limits cutoff
-licensed parts box limits cutoff valid made tight told worth promise bound is unreached =
+    → IsBelowLeaf parts box (program_of parts box) (kept_of parts box)
+    → IsUnreached parts box (outcome_leaf parts box
+    (simplex_run (program_of parts box) limits.pivots limits.cells cutoff)) cutoff
+    → IsLicensed parts box limits cutoff
+licensed parts box limits cutoff valid made tight told worth promise is =
     by outcome.end refl
   where
     outcome : Outcome
@@ -159,10 +143,9 @@ licensed parts box limits cutoff valid made tight told worth promise bound is un
         let found = worth ends in
         inl (cheap_point parts box cutoff outcome valid made tight told isnt found.0 found.1)
     by Cut ends =
-        absurd (not_cut parts box cutoff outcome bound unreached told (ap is_infeasible ends)
-        promise (run_reached (program_of parts box) cutoff limits.pivots limits.cells ends) is)
+        absurd (not_cut parts box cutoff outcome is told (ap is_infeasible ends) promise
+        (run_reached (program_of parts box) cutoff limits.pivots limits.cells ends))
     by Infeasible ends =
-        absurd (not_infeasible parts box cutoff outcome bound unreached told is
-        (ap is_infeasible ends))
+        absurd (not_infeasible parts box cutoff outcome is told (ap is_infeasible ends))
     by Limit ends = inr (inl ends)
     by Wide ends = inr (inr ends)

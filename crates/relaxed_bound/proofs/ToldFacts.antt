@@ -1,12 +1,11 @@
--- The leaf that a run tells: its numbers are in range, its rows are there, and on a live box it has
--- no fault.
+-- The leaf that a run tells: its numbers are in range, its rows are there, and with the weight 0
+-- they come to more than 0.
 use Rattle.std.proofs.Common.{◌≡◌, ℕ, ◌^◌, ◌<◌, ◌≤◌, Bool, true, false, Option, List, [], ◌∷◌, length, All, if◌then◌else◌, Ok, Err, ℤ, pos, negsuc, neg_ℤ, ◌≤ℤ◌, ◌<ℤ◌, nat_abs, unsigned_abs, inl, inr, refl, sym, ap, ◌∙◌, subst, arith}
 use Rattle.std.proofs.lemmas.Int.{ints}
 use Rattle.std.proofs.lemmas.List.{length-append}
 use Rattle.std.proofs.lemmas.List.Elements.{All-append, All-cons, All-nil, All-tail}
 use Rattle.std.specs.Ordering.{int_eq}
 use Rattle.exact_sums.proofs.ItemFacts.{All-item}
-use Rattle.flow_types.specs.declared.bound.Bound.{Bound}
 use Rattle.flow_types.specs.declared.parts.Parts.{Parts}
 use Rattle.flow_types.specs.Valid.{IsScenario}
 use Rattle.row_arena.specs.Rows.{most_entry}
@@ -21,20 +20,17 @@ use Rattle.bytime_model.specs.declared.names.RowName.{RowName}
 use Rattle.bytime_model.specs.declared.variables.Var.{Var}
 use Rattle.bytime_model.specs.Rows.{is_row}
 use Rattle.branch_tree.specs.declared.leaf.Leaf.{Leaf}
-use Rattle.branch_tree.specs.declared.leaf.Multiplier.{Multiplier}
-use Rattle.branch_tree.specs.Leaves.{HasRange, IsInRange}
-use Rattle.dual_leaf.specs.declared.fault.LeafFault.{LeafFault}
-use Rattle.dual_leaf.specs.declared.fault.LeafFault.TheVariants.{Closed, NotEmpty, NotUnit, UnknownRow, Useless}
-use Rattle.dual_leaf.specs.Dual.{AreKnown, IsChoice, dual_at}
-use Rattle.dual_leaf.specs.Leaf.{IsDualBound, IsDualFault, IsLeafBound, IsLive}
+use Rattle.bytime_model.specs.declared.multiplier.Multiplier.{Multiplier}
+use Rattle.branch_tree.specs.Leaves.{IsInRange}
+use Rattle.bytime_model.specs.Multipliers.{HasRange}
+use Rattle.valid_cuts.specs.Dual.{AreKnown, IsChoice, dual_at}
 use Rattle.presolve.specs.declared.presolved.Presolved.{Presolved}
 use Rattle.presolve.specs.Leaf.{IsBelowLeaf, leaf_rows, unless_never}
 use Rattle.presolve.specs.Presolved.{IsPresolved}
 use Rattle.presolve.specs.Relaxed.{kept_of, program_of}
 use Rattle.presolve.proofs.PromiseFacts.{kept_are}
 use Rattle.relaxed_bound.specs.declared.limits.Limits.{Limits}
-use Rattle.relaxed_bound.specs.Licence.{IsLicensed, end_of}
-use Rattle.flow_types.specs.Bounds.{is_reached}
+use Rattle.relaxed_bound.specs.Licence.{IsLicensed, IsUnreached, end_of}
 use Rattle.relaxed_bound.specs.Relaxed.{HasBound, outcome_leaf, relaxed_leaf, told_leaf}
 use Rattle.relaxed_bound.specs.Telling.{AreWeights, IsRunLeaf, IsWorthOf}
 use Rattle.relaxed_bound.proofs.LicenceFacts.{licensed}
@@ -169,26 +165,14 @@ module _ (parts : Parts) (box : Box) (outcome : Outcome) where
             refuted.multipliers choice is) in
             omega (arith, ints, refuted.positive, low)
 
-    no_fault : (fault : LeafFault) → IsDualBound parts box weight rows (Err fault) → ⊥
-    no_fault fault bound =
-        let reached = bound.least.reached in
-        let above = positive bound.said.0 reached.0 reached.1 in
-        omega (arith, ints, above, reached.2, bound.said.1)
-
-    never : (live : IsLive box) (fault : LeafFault) → IsDualFault parts box rows (Err fault) → ⊥
-    never live NotEmpty none = none
-    never live (NotUnit flight node) none = none
-    never live (Closed flight node) first = live flight node first.here
-    never live (UnknownRow position) (same, first) =
-        let here : is_row parts first.multiplier.row ≡ true =
-        known position first.multiplier first.here in
-        cc (here, first.unknown)
-    never live (Useless value) none = none
-
     told_bound : HasBound parts box (outcome_leaf parts box outcome)
-    told_bound live (Ok bound) is = refl
-    told_bound live (Err fault) (inl bound) = absurd (no_fault fault bound)
-    told_bound live (Err fault) (inr first) = absurd (never live fault first)
+    told_bound = record {
+      known = known;
+      positive = λ none value least.
+          let reached = least.reached in
+          let above = positive none reached.0 reached.1 in
+          omega (arith, ints, above, reached.2);
+    }
 
 -- what a run gives
 pub run_leaf : (leaf : Leaf) (names : List RowName) (problem : Problem) (cutoff : Option ℤ)
@@ -230,20 +214,19 @@ module _ (parts : Parts) (box : Box) (presolved : Presolved)
       subst (IsBelowLeaf parts box (program_of parts box)) whole.kept
       (subst (λ p. IsBelowLeaf parts box p presolved.kept) whole.program whole.promise)
 
-  -- on a live box it has a bound
+  -- it says something
   pub run_has : HasBound parts box leaf
   run_has =
       subst (HasBound parts box) (sym run_is)
       (told_bound parts box (ended (program_of parts box)) told promise)
 
   -- where that doesn't reach the cutoff, the box may be split
-  pub run_licensed : IsScenario parts → IsBoxOf parts box → IsTight parts box → (bound : Bound)
-      → IsLeafBound parts box leaf (Ok bound) → is_reached cutoff bound ≡ false
-      → IsLicensed parts box limits cutoff
-  run_licensed scenario made tight bound is unreached =
+  pub run_licensed : IsScenario parts → IsBoxOf parts box → IsTight parts box
+      → IsUnreached parts box leaf cutoff → IsLicensed parts box limits cutoff
+  run_licensed scenario made tight is =
       licensed parts box limits cutoff scenario made tight told
-      (subst (λ p. IsWorthOf p cutoff (ended p)) whole.program run.worth) promise bound
-      (subst (λ l. IsLeafBound parts box l (Ok bound)) run_is is) unreached
+      (subst (λ p. IsWorthOf p cutoff (ended p)) whole.program run.worth) promise
+      (subst (λ l. IsUnreached parts box l cutoff) run_is is)
 
   pub run_end : (end : End) → end ≡ (ended presolved.program).end
       → end ≡ end_of parts box limits cutoff

@@ -1,11 +1,15 @@
 -- Why a box may be split: its relaxation doesn't rule out that there is a plan in it that costs
 -- less than the cutoff, or the run of it was given up.
-use Rattle.std.specs.Prelude.{◌≡◌, ◌⊎◌, Option, None, Some, ℤ, pos, ◌-ℤ◌, ◌*ℤ◌, ◌≤ℤ◌}
+use Rattle.std.specs.Prelude.{◌≡◌, ◌⊎◌, ℕ, ◌<◌, List, Option, None, Some, ℤ, pos, ◌-ℤ◌, ◌*ℤ◌, ◌≤ℤ◌}
 use Rattle.flow_types.specs.declared.parts.Parts.{Parts}
 use Rattle.scaled_simplex.specs.declared.end.End.{End}
 use Rattle.scaled_simplex.specs.declared.end.End.TheVariants.{Limit, Wide}
 use Rattle.time_windows.specs.Boxes.{Box}
 use Rattle.bytime_model.specs.declared.variables.Var.{Var}
+use Rattle.branch_tree.specs.declared.leaf.Leaf.{Leaf}
+use Rattle.branch_tree.specs.declared.leaf.Leaf.TheVariants.{Dual, Empty, Lag, Unit as UnitLeaf}
+use Rattle.bytime_model.specs.declared.multiplier.Multiplier.{Multiplier}
+use Rattle.valid_cuts.specs.Dual.{IsDualValue}
 use Rattle.presolve.specs.Points.{IsRelaxationPoint, relaxation_cost}
 use Rattle.relaxed_bound.specs.declared.limits.Limits.{Limits}
 use Rattle.relaxed_bound.specs.Relaxed.{run_of}
@@ -21,6 +25,20 @@ pub record IsCheapPoint (parts : Parts) (box : Box) (cutoff : Option ℤ) : Type
   pub denominator : ℤ
   pub point : IsRelaxationPoint parts box value denominator
   pub cheap : IsBelowCutoff cutoff (relaxation_cost parts value denominator) denominator
+
+-- what a Dual leaf comes to by its weight, rounded up, doesn't reach the cutoff
+pub record StaysBelow (parts : Parts) (box : Box) (weight : ℕ) (rows : List Multiplier)
+    (cutoff : Option ℤ) : Type 0 where
+  pub weighed : 0 < weight
+  pub value : ℤ
+  pub least : IsDualValue parts box weight rows value
+  pub below : IsBelowCutoff cutoff value (pos weight)
+
+abbrev pub IsUnreached : Parts → Box → Leaf → Option ℤ → Type 0
+IsUnreached parts box Empty cutoff = ⊥
+IsUnreached parts box UnitLeaf cutoff = ⊥
+IsUnreached parts box (Dual weight rows) cutoff = StaysBelow parts box weight rows cutoff
+IsUnreached parts box (Lag weight rows) cutoff = ⊥
 
 -- how the run on the box ends
 abbrev pub end_of : Parts → Box → Limits → Option ℤ → End

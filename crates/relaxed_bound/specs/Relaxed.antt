@@ -1,16 +1,14 @@
 -- The Dual leaf whose weight and multipliers a run of the box's program tells.
-use Rattle.std.specs.Prelude.{List, Option, Result, ℤ, unsigned_abs}
-use Rattle.std.specs.Result.{IsOk}
-use Rattle.flow_types.specs.declared.bound.Bound.{Bound}
+use Rattle.std.specs.Prelude.{◌≡◌, ℕ, List, Option, ℤ, pos, ◌≤ℤ◌, unsigned_abs}
 use Rattle.flow_types.specs.declared.parts.Parts.{Parts}
 use Rattle.scaled_simplex.specs.Multipliers.{multipliers_of}
 use Rattle.scaled_simplex.specs.Run.{Outcome, simplex_run, weight_in}
 use Rattle.time_windows.specs.Boxes.{Box}
 use Rattle.bytime_model.specs.declared.names.RowName.{RowName}
 use Rattle.branch_tree.specs.declared.leaf.Leaf.{Leaf}
-use Rattle.branch_tree.specs.declared.leaf.Leaf.TheVariants.{Dual}
-use Rattle.dual_leaf.specs.declared.fault.LeafFault.{LeafFault}
-use Rattle.dual_leaf.specs.Leaf.{IsLeafBound, IsLive}
+use Rattle.branch_tree.specs.declared.leaf.Leaf.TheVariants.{Dual, Empty, Lag, Unit as UnitLeaf}
+use Rattle.bytime_model.specs.declared.multiplier.Multiplier.{Multiplier}
+use Rattle.valid_cuts.specs.Dual.{AreKnown, IsDualValue}
 use Rattle.presolve.specs.Leaf.{leaf_rows}
 use Rattle.presolve.specs.Relaxed.{kept_of, program_of}
 use Rattle.relaxed_bound.specs.declared.limits.Limits.{Limits}
@@ -34,8 +32,17 @@ run_of parts box limits cutoff =
 abbrev pub relaxed_leaf : Parts → Box → Limits → Option ℤ → Leaf
 relaxed_leaf parts box limits cutoff = outcome_leaf parts box (run_of parts box limits cutoff)
 
--- on a live box the leaf has no fault
+-- the rows are all there, and with the weight 0 they come to more than 0: so they say something of
+-- the box
+pub record SaysSome (parts : Parts) (box : Box) (weight : ℕ) (rows : List Multiplier)
+    : Type 0 where
+  pub known : AreKnown parts rows
+  pub positive : weight ≡ 0 → (value : ℤ) → IsDualValue parts box weight rows value
+      → pos 1 ≤ℤ value
+
+-- the same of a leaf, which is a Dual one
 abbrev pub HasBound : Parts → Box → Leaf → Type 0
-HasBound parts box leaf =
-    IsLive box → (answer : Result Bound LeafFault) → IsLeafBound parts box leaf answer
-    → IsOk answer
+HasBound parts box Empty = ⊥
+HasBound parts box UnitLeaf = ⊥
+HasBound parts box (Dual weight rows) = SaysSome parts box weight rows
+HasBound parts box (Lag weight rows) = ⊥

@@ -1,12 +1,10 @@
 //! The leaf that a run tells.
-ghost use Rattle.std.specs.Prelude.{◌≡◌, [], IfOk, IfSome, Ok, false};
+ghost use Rattle.std.specs.Prelude.{◌≡◌, [], IfOk, IfSome};
 ghost use Rattle.branch_tree.specs.declared.leaf.Leaf.TheVariants.{Dual};
 ghost use Rattle.branch_tree.specs.Leaves.{IsInRange};
-ghost use Rattle.dual_leaf.specs.Leaf.{IsLeafBound};
+ghost use Rattle.bytime_model.specs.Table.{IsTableFor};
 ghost use Rattle.flow_types.specs.Scenario.{parts_of};
-ghost use Rattle.flow_types.specs.declared.bound.Bound.{Bound};
-ghost use Rattle.relaxed_bound.specs.Licence.{IsLicensed, end_of};
-ghost use Rattle.flow_types.specs.Bounds.{is_reached};
+ghost use Rattle.relaxed_bound.specs.Licence.{IsLicensed, IsUnreached, end_of};
 ghost use Rattle.relaxed_bound.specs.Relaxed.{HasBound, relaxed_leaf, told_leaf};
 ghost use Rattle.relaxed_bound.specs.Telling.{AreWeights, IsRunLeaf};
 ghost use Rattle.relaxed_bound.specs.Point.{AreToldFractions, IsPointIn, IsToldPoint, point_of};
@@ -15,8 +13,8 @@ ghost use Rattle.time_windows.specs.Held.{IsMadeFor, box_of};
 ghost use Rattle.time_windows.specs.Tight.{IsTight};
 
 use crate::limits::Limits;
-use branch_tree::{Leaf, Multipliers};
-use bytime_model::{RowNames, Vars};
+use branch_tree::Leaf;
+use bytime_model::{Multipliers, RowNames, Table, Vars};
 use flow_types::{OutOfMemory, Scenario};
 use presolve::{Flags, Presolved, Refused, leaf_of, program_within};
 use scaled_simplex::{End, Fractions, Numerators, Program, Run, Solver, Weights};
@@ -180,22 +178,25 @@ fn bare_leaf(alloc: Global) -> Leaf
 }
 
 /// What the relaxation of the box tells, by a run of the box's program within the limits and up to
-/// the cutoff: a Dual leaf, whose bound reaches the cutoff, or the box may be split; and the point
-/// of a run that ended Optimal. The box is a tight one of the scenario. The program isn't made
-/// whole where there is no room for its first tableau; the leaf is then that of one unit of the
-/// cost and no rows.
+/// the cutoff: a Dual leaf, whose value by its weight, rounded up, reaches the cutoff, or the box
+/// may be split; and the point of a run that ended Optimal. The box is a tight one of the scenario,
+/// as the table is. The program isn't made whole where there is no room for its first tableau; the
+/// leaf is then that of one unit of the cost and no rows.
 ///
 /// It takes what `program_within` takes, and beside the program 20 bytes for each entry of the
 /// tableau, or some times that, since lists grow and rows keep blocks that are up to four times too
 /// long. Time: for each pivot the rows that have an entry in its column.
-#[tactic(auto, using(crate::proofs::BareFacts::bare_is, crate::proofs::BareFacts::bare_range, crate::proofs::BareFacts::bare_has, crate::proofs::BareFacts::bare_end, crate::proofs::BareFacts::bare_licensed, crate::proofs::ToldFacts::run_is, crate::proofs::ToldFacts::run_has, crate::proofs::ToldFacts::run_end, crate::proofs::ToldFacts::run_licensed, crate::proofs::PointFacts::bare_point, crate::proofs::PointFacts::point_told, crate::proofs::PointFacts::point_is))]
+#[tactic(auto, using(crate::proofs::BareFacts::bare_is, crate::proofs::BareFacts::bare_range, crate::proofs::BareFacts::bare_has, crate::proofs::BareFacts::bare_end, crate::proofs::BareFacts::bare_licensed, crate::proofs::ToldFacts::run_is, crate::proofs::ToldFacts::run_end, crate::proofs::ToldFacts::run_licensed, crate::proofs::PointFacts::bare_point, crate::proofs::PointFacts::point_told, crate::proofs::PointFacts::point_is))]
 pub fn relax(
     alloc: Global,
     s: &Scenario,
+    pool: &Pool,
     boxes: &Boxes,
+    table: &Table,
     limits: Limits,
     cutoff: Option<i64>,
 ) -> Result<Relaxed, OutOfMemory>
+    requires table { IsTableFor (parts_of s.now) table.now }
     requires made { IsMadeFor (parts_of s.now) boxes.now }
     requires tight { IsTight (parts_of s.now) (box_of boxes.now) }
     ensures leaf { IfOk result (λ relaxed. relaxed.leaf
@@ -209,12 +210,11 @@ pub fn relax(
         (IsPointIn (parts_of s.now) (box_of boxes.now))) }
     ensures told { IfOk result (λ relaxed. IsToldPoint (parts_of s.now) (box_of boxes.now) limits
         cutoff relaxed.point) }
-    ensures licensed { IfOk result (λ relaxed. (bound : Bound)
-        → IsLeafBound (parts_of s.now) (box_of boxes.now) relaxed.leaf (Ok bound)
-        → is_reached cutoff bound ≡ false
+    ensures licensed { IfOk result (λ relaxed.
+        IsUnreached (parts_of s.now) (box_of boxes.now) relaxed.leaf cutoff
         → IsLicensed (parts_of s.now) (box_of boxes.now) limits cutoff) }
 {
-    match program_within(alloc, s, boxes, &Pool::empty(alloc), limits.cells) {
+    match program_within(alloc, s, pool, boxes, table, limits.cells) {
         Ok(presolved) => {
             let Ran {
                 leaf,

@@ -6,9 +6,10 @@
 //!     let mut boxes = Boxes::root(alloc, &s)?;
 //!     boxes.tighten(&s);
 //!     let limits = Limits { pivots: 100_000, cells: 50_000_000 };
-//!     let relaxed = relax(alloc, &s, &boxes, limits, Some(cutoff))?;
+//!     let pool = Pool::empty(alloc);
 //!     let mut work = LeafWork::new(alloc, &s)?;
-//!     match work.leaf_bound(&s, &boxes, &relaxed.leaf, &Pool::empty(alloc)) {
+//!     let relaxed = relax(alloc, &s, &pool, &boxes, work.table(), limits, Some(cutoff))?;
+//!     match work.leaf_bound(&s, &pool, &boxes, &relaxed.leaf) {
 //!         Ok(bound) if bound.is_reached(Some(cutoff)) => println!("no plan in it costs less"),
 //!         _ => println!("it may be split, as by {:?}", relaxed.point),
 //!     }
@@ -22,11 +23,12 @@
 //!
 //! Proved of `relax`: the leaf is exactly the Dual leaf whose weight and multipliers the run tells
 //! (`leaf`), and how the run ended is told (`end`). However it ended, the leaf's numbers are in
-//! range (`range`), and on a box in which no node that must be entered is closed the leaf has a
-//! bound (`some`). Where that bound doesn't reach the cutoff, a point of the relaxation costs less,
-//! or the run was given up (`licensed`). The point is exactly that of the run; there is none only
-//! where the run didn't end Optimal, or where the point's denominator is too far from 0 (`told`).
-//! It is one of the relaxation (`point`).
+//! range (`range`), its rows are all there, and with the weight 0 they come to more than 0: so on a
+//! box in which no node that must be entered is closed the leaf has a bound (`some`). Where what it
+//! comes to by its weight, rounded up, doesn't reach the cutoff, a point of the relaxation costs
+//! less, or the run was given up (`licensed`). The point is exactly that of the run; there is none
+//! only where the run didn't end Optimal, or where the point's denominator is too far from 0
+//! (`told`). It is one of the relaxation (`point`).
 //!
 //! Memory: the program and the run's tableau, 16 bytes for each entry of the one and 20 of the
 //! other, or some times that, since lists grow and rows keep blocks that are up to four times too

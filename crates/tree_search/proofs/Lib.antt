@@ -12,6 +12,7 @@ pub mod PartFacts
 pub mod PriceFacts
 pub mod ProductFacts
 pub mod ReachFacts
+pub mod RelaxFacts
 pub mod SearchFacts
 pub mod SeenFacts
 pub mod SoundFacts

@@ -19,14 +19,16 @@ use Rattle.branch_tree.specs.Leaves.{IsInRange}
 use Rattle.priced_leaf.specs.Leaf.{IsLagOf}
 use Rattle.dual_leaf.specs.declared.fault.LeafFault.{LeafFault}
 use Rattle.dual_leaf.specs.Leaf.{IsLeafBound, IsLive, IsNearOf, IsUnitBound, IsUnitBox}
-use Rattle.relaxed_bound.specs.Licence.{IsLicensed}
-use Rattle.relaxed_bound.specs.Relaxed.{relaxed_leaf}
+use Rattle.flow_types.specs.Bounds.{IsNearBound}
+use Rattle.relaxed_bound.specs.Licence.{IsLicensed, IsUnreached}
+use Rattle.relaxed_bound.specs.Relaxed.{HasBound, relaxed_leaf}
 use Rattle.tree_search.specs.declared.found.Budget.{Budget}
 use Rattle.tree_search.specs.declared.walk.Branch.{Branch}
 use Rattle.tree_search.specs.Nodes.{HasChoice, IsLeafKind, IsOpenLeaf}
 use Rattle.tree_search.specs.Seen.{IsBranchOf, IsLeafSeen, IsSplitSeen, may_split}
 use Rattle.tree_search.proofs.OptionFacts.{each_some}
 use Rattle.tree_search.proofs.PriceFacts.{most_raised}
+use Rattle.tree_search.proofs.RelaxFacts.{leaf_below}
 
 -- a Unit leaf on a unit box that is live has a bound
 pub unit_has : (parts : Parts) (box : Box) → IsLive box → IsUnitBox box
@@ -128,12 +130,11 @@ module _ (parts : Parts) (budget : Budget) (cutoff : Option ℤ) (more : Bool) (
   turned (inr b) = inl b
 
   pub split_seen : (leaf : Leaf) → may_split more cutoff run priced ≡ true
-      → IsLeafBound parts box leaf (Ok run)
-      → ((bound : Bound) → IsLeafBound parts box leaf (Ok bound)
-      → is_reached cutoff bound ≡ false → IsLicensed parts box budget.limits cutoff)
+      → IsLeafBound parts box leaf (Ok run) → HasBound parts box leaf
+      → (IsUnreached parts box leaf cutoff → IsLicensed parts box budget.limits cutoff)
       → (other : Branch) → IsBranchOf parts box other
       → IsSplitSeen parts budget cutoff more box other
-  split_seen leaf may bound_is licence other other_is =
+  split_seen leaf may bound_is has licence other other_is =
       let below = split_open more (is_reached cutoff run) (is_reached cutoff priced) may in
       record {
         node = record {
@@ -144,7 +145,7 @@ module _ (parts : Parts) (budget : Budget) (cutoff : Option ℤ) (more : Bool) (
           told = rounds.told;
           rounds = λ round told few is.
               reached_down cutoff told priced (rounds.no_more round told few is) below.2;
-          licence = licence run bound_is below.1;
+          licence = licence (leaf_below parts box cutoff leaf run has bound_is below.1);
           bound_is = refl;
         };
         branch_is = other_is;

@@ -10,6 +10,7 @@ use lagrange_bound::Rounds;
 use plan_improver::Improver;
 use price_ascent::Ascent;
 use std::alloc::Global;
+use valid_cuts::Pool;
 
 /// Rooms for the boxes of a scenario, made once.
 #[derive(Drop)]
@@ -17,6 +18,8 @@ pub struct Rooms {
     pub plans: PlanRooms,
     pub leaves: LeafWork,
     pub prices: PriceRooms,
+    /// The cuts that leaves may name.
+    pub pool: Pool,
 }
 
 /// For greedy plans, and for cheaper ones.
@@ -41,6 +44,7 @@ pub fn rooms_for(alloc: Global, s: &Scenario) -> Result<Rooms, OutOfMemory>
         plans: plan_rooms(alloc, s)?,
         leaves: LeafWork::new(alloc, s)?,
         prices: price_rooms(alloc, s)?,
+        pool: Pool::empty(alloc),
     })
 }
 

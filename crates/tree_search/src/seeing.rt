@@ -66,7 +66,7 @@ pub fn see(
     }
     match first_choice(s, boxes) {
         None => {
-            let bound = bound_of(alloc, s, boxes, &mut rooms.leaves, &Leaf::Unit);
+            let bound = bound_of(s, &rooms.pool, boxes, &mut rooms.leaves, &Leaf::Unit);
             Ok(Seen::Leaf {
                 leaf: Leaf::Unit,
                 bound,
@@ -98,12 +98,13 @@ fn see_open(
     ensures seen { IfOk result (IsSeen (parts_of s.now) budget cutoff more (box_of boxes.now)) }
     ensures rooms { AreRoomsFor (parts_of s.now) rooms.new }
 {
+    let table = rooms.leaves.table();
     let Relaxed {
         leaf,
         end: _,
         point,
-    } = relax(alloc, s, boxes, budget.limits, cutoff)?;
-    let run = bound_of(alloc, s, boxes, &mut rooms.leaves, &leaf);
+    } = relax(alloc, s, &rooms.pool, boxes, table, budget.limits, cutoff)?;
+    let run = bound_of(s, &rooms.pool, boxes, &mut rooms.leaves, &leaf);
     let priced = price(s, boxes, &mut rooms.prices, budget.rounds, cutoff, run);
     if may_split(more, cutoff, run, priced.bound) {
         let branch = choose(s, boxes, &point, &rooms.prices.ascent, branch);
@@ -145,7 +146,7 @@ fn choose(
 }
 
 // The bound of a leaf that has one.
-fn bound_of(alloc: Global, s: &Scenario, boxes: &Boxes, work: &mut LeafWork, leaf: &Leaf) -> Bound
+fn bound_of(s: &Scenario, pool: &Pool, boxes: &Boxes, work: &mut LeafWork, leaf: &Leaf) -> Bound
     requires made { IsMadeFor (parts_of s.now) boxes.now }
     requires tight { IsTight (parts_of s.now) (box_of boxes.now) }
     requires work { IsRoomFor (parts_of s.now) work.old }
@@ -156,6 +157,5 @@ fn bound_of(alloc: Global, s: &Scenario, boxes: &Boxes, work: &mut LeafWork, lea
     ensures near { IsNearOf leaf.now result }
     ensures work { IsRoomFor (parts_of s.now) work.new }
 {
-    work.leaf_bound(s, boxes, leaf, &Pool::empty(alloc))
-        .unwrap()
+    work.leaf_bound(s, pool, boxes, leaf).unwrap()
 }

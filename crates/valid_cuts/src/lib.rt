@@ -1,18 +1,50 @@
-//! Cuts: rows beside those of the by-time program that no plan breaks, and that values between 0
-//! and 1 may.
+//! What rows come to beside the cost: the Lagrangian dual of the by-time program on a box. And
+//! cuts, rows beside those of the program that no plan breaks, and that values between 0 and 1 may.
 //!
-//! A caller names cuts in a pool, a list of them:
+//! A caller lists rows, each with how often it is counted, and asks for their value on a tight box:
 //!
-//!     let pool = Pool::empty(alloc);
+//!     let columns = Columns::new(alloc, &s)?;
+//!     let mut sums = Sums::new(alloc, columns.count())?;
+//!     let mut buffer = RowBuffer::new(alloc)?;
+//!     let visits = Visits::new(alloc, &s)?;
+//!     let rows = [Multiplier { row: RowName::Dep { place, period }, value: 3 }];
+//!     match dual_value(&mut sums, &mut buffer, &columns, &visits, &s, &boxes, 1, &rows) {
+//!         Ok(value) => println!("so many times the cost and the rows come to {value} at the least"),
+//!         Err(position) => println!("there is no row with the name at {position}"),
+//!     }
 //!
 //! The kinds of cuts and the pool that has none are here; no cut has a row yet, and none can be
 //! added to a pool.
 //!
-//! Proved: the pool of `Pool::empty` has no cuts. Memory: it takes none.
+//! The definitions stand in `specs/`: `Dual` (what a list of rows comes to). The others serve the
+//! proof: `Sums`, `Growing` (how sums grow), `Slots` and `Rows`.
+//!
+//! Proved: `dual_value` gives exactly the least, over all values 0 or 1 that the box leaves the
+//! variables, of so many times the cost and so many times what each row is above its limit, or the
+//! position of the first row that isn't there (`value`); it is nearer to 0 than 2^115 (`near`). The
+//! pool of `Pool::empty` has no cuts.
+//!
+//! The value is worked out in sums: a constant, and a factor for each variable that is free. Each
+//! term of the cost row and of the rows is looked up in the box, and lands in the constant, at a
+//! position, or nowhere. How far the factors are below 0 is kept up to date, so the value is there
+//! at once; and each position knows the round that set it, so nothing is cleared.
+//!
+//! Memory: `Sums` takes 20 bytes for each position (0.4 GB for the largest days); `dual_value` and
+//! the empty pool take none. Time: the periods by which flights may be late or wait, and for each
+//! row what `RowBuffer::fill_with` takes, and for each of its terms of being inside the legs of the
+//! flight.
 #![tactic(auto)]
 
+mod costs;
+mod dual;
 mod names;
 mod pool;
+mod rows;
+mod slots;
+mod sums;
+mod terms;
 
+pub use dual::dual_value;
 pub use names::{CutName, Heads};
 pub use pool::{Cuts, Pool};
+pub use sums::Sums;

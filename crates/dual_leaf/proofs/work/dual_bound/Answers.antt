@@ -2,9 +2,9 @@ use Rattle.std.proofs.Common.{subst, arith}
 use Rattle.flow_types.specs.Scenario.{parts_of}
 use Rattle.time_windows.specs.Held.{box_of}
 use Rattle.dual_leaf.specs.Leaf.{IsSaid}
-use Rattle.dual_leaf.proofs.NumberFacts.{ready_box}
+use Rattle.bytime_model.proofs.NumberFacts.{ready_box}
 use Rattle.dual_leaf.proofs.SoundFacts.{if_sound}
-use Rattle.dual_leaf.proofs.SumsFacts.{whole_near}
+use Rattle.valid_cuts.proofs.SumsFacts.{whole_near}
 use Rattle.dual_leaf.proofs.work.dual_bound.Goals as goal
 
 pub dual_value-requires-clause-ready : goal.dual_value-requires-clause-ready

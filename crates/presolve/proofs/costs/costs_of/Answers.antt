@@ -12,15 +12,15 @@ use Rattle.presolve.proofs.costs.costs_of.Goals as goal
 pub land-requires-clause-there : goal.land-requires-clause-there
 land-requires-clause-there c =
     terms_there (parts_of c.args.s.now)
-    (record { constant = c.cost.inside.constant; terms = c.cost.inside.terms })
-    c.items.result.now (c.cost.view_is ∙ c.in_ok-cost.ensures.row) c.items.ensures
+    c.args.cost.now
+    c.terms.result.now c.requires.cost c.terms.ensures
 
 pub values_of-requires : goal.values_of-requires
 values_of-requires c =
     subst IsRow (sym c.entries.ensures)
     (entries_row (parts_of c.args.s.now) (box_of c.args.boxes.now)
-    (record { constant = c.cost.inside.constant; terms = c.cost.inside.terms })
-    c.land.new.self c.items.result.now (c.cost.view_is ∙ c.in_ok-cost.ensures.row) c.items.ensures
+    c.args.cost.now
+    c.land.new.self c.terms.result.now c.requires.cost c.terms.ensures
     c.args.s.now.valid c.in_ok-land.ensures)
 
 pub sum-constant-requires : goal.sum-constant-requires
@@ -31,8 +31,8 @@ sum-constant-requires c =
     let dense = c.in_ok-values.ensures
     ∙ ap (λ list. map (entry_at list) (range_with_len 0 c.args.count)) c.entries.ensures in
     let room = sum_small (parts_of c.args.s.now) (box_of c.args.boxes.now)
-    (record { constant = c.cost.inside.constant; terms = c.cost.inside.terms })
-    c.land.new.self c.items.result.now (c.cost.view_is ∙ c.in_ok-cost.ensures.row) c.items.ensures
+    c.args.cost.now
+    c.land.new.self c.terms.result.now c.requires.cost c.terms.ensures
     c.args.s.now.valid c.in_ok-land.ensures c.in_ok-values.values.items c.args.count dense
     c.requires.count c.below_of.result lows in
     let fixed = c.fixed.ensures in
@@ -46,10 +46,10 @@ returns c =
     let dense = c.in_ok-values.ensures
     ∙ ap (λ list. map (entry_at list) (range_with_len 0 c.args.count)) c.entries.ensures in
     let sum : to_z w64 (of_z w64 c.sum-constant.result)
-    ≡ (c.cost.inside.constant +ℤ c.land.new.self.fixed) +ℤ c.below_of.result =
-    omega (arith, ints, c.sum-constant.ensures, c.fixed.ensures) in
+    ≡ (c.args.cost.now.constant +ℤ c.land.new.self.fixed) +ℤ c.below_of.result =
+    omega (arith, ints, c.sum-constant.ensures, c.fixed.ensures, c.constant.ensures) in
     are_costs (parts_of c.args.s.now) (box_of c.args.boxes.now)
-    (record { constant = c.cost.inside.constant; terms = c.cost.inside.terms })
-    c.land.new.self c.items.result.now (c.cost.view_is ∙ c.in_ok-cost.ensures.row) c.items.ensures
+    c.args.cost.now
+    c.land.new.self c.terms.result.now c.requires.cost c.terms.ensures
     c.args.s.now.valid c.in_ok-land.ensures c.in_ok-values.values.items c.args.count dense
     c.requires.count (to_z w64 (of_z w64 c.sum-constant.result)) c.below_of.result lows sum

@@ -3,8 +3,9 @@ use Rattle.std.proofs.lemmas.Result.{err_from_is_err_and}
 use Rattle.flow_types.specs.Scenario.{parts_of}
 use Rattle.scaled_simplex.specs.Program.{most_indices}
 use Rattle.time_windows.specs.Held.{box_of}
-use Rattle.presolve.specs.Kinds.{kind_names, kinds_names}
-use Rattle.presolve.proofs.NamesFacts.{adds_both, adds_room, adds_wide, front_taken, next_taken}
+use Rattle.bytime_model.specs.AllRows.{kind_rows, kinds_rows}
+use Rattle.bytime_model.proofs.ListingFacts.{next_taken}
+use Rattle.presolve.proofs.NamesFacts.{adds_both, adds_room, adds_wide, front_taken}
 use Rattle.presolve.proofs.kinds.add_kinds.Goals as goal
 
 pub add_kind-requires-clause-few : goal.add_kind-requires-clause-few
@@ -12,11 +13,11 @@ add_kind-requires-clause-few c =
     let parts = parts_of c.args.s.now in
     let kinds = c.args.kinds.now in
     let i = c.loop-kind.kind-index in
-    adds_room parts (box_of c.args.boxes.now) (kinds_names parts (take i kinds))
-    (kind_names parts (get_or kinds i _)) (kinds_names parts (take (i + 1) kinds))
-    (kinds_names parts kinds) c.args.draft.now c.loop-kind.draft most_indices
-    c.loop-kind.invariant (next_taken (kind_names parts) kinds i _ c.loop-kind-test.true)
-    (front_taken (kind_names parts) kinds (i + 1)) c.requires.few
+    adds_room parts (box_of c.args.boxes.now) (kinds_rows parts (take i kinds))
+    (kind_rows parts (get_or kinds i _)) (kinds_rows parts (take (i + 1) kinds))
+    (kinds_rows parts kinds) c.args.draft.now c.loop-kind.draft most_indices
+    c.loop-kind.invariant (next_taken (kind_rows parts) kinds i _ c.loop-kind-test.true)
+    (front_taken (kind_rows parts) kinds (i + 1)) c.requires.few
 
 pub returns-in_err-add_kind-clause-wide : goal.returns-in_err-add_kind-clause-wide
 returns-in_err-add_kind-clause-wide c =
@@ -25,19 +26,19 @@ returns-in_err-add_kind-clause-wide c =
     let i = c.loop-kind.kind-index in
     let p = err_from_is_err_and c.from_residual.result c.from_residual.ensures.1 in
     rw (p.1, p.2)
-    (adds_wide parts (box_of c.args.boxes.now) (kinds_names parts (take i kinds))
-    (kind_names parts (get_or kinds i _)) (kinds_names parts (take (i + 1) kinds))
-    (kinds_names parts kinds) c.args.draft.now c.loop-kind.draft c.in_err-add_kind.field-0.0
-    c.loop-kind.invariant (next_taken (kind_names parts) kinds i _ c.loop-kind-test.true)
-    (front_taken (kind_names parts) kinds (i + 1)) c.in_err-add_kind.ensures.wide)
+    (adds_wide parts (box_of c.args.boxes.now) (kinds_rows parts (take i kinds))
+    (kind_rows parts (get_or kinds i _)) (kinds_rows parts (take (i + 1) kinds))
+    (kinds_rows parts kinds) c.args.draft.now c.loop-kind.draft c.in_err-add_kind.field-0.0
+    c.loop-kind.invariant (next_taken (kind_rows parts) kinds i _ c.loop-kind-test.true)
+    (front_taken (kind_rows parts) kinds (i + 1)) c.in_err-add_kind.ensures.wide)
 
 pub loop-kind-preserved : goal.loop-kind-preserved
 loop-kind-preserved c =
     let parts = parts_of c.args.s.now in
     let kinds = c.args.kinds.now in
     let i = c.loop-kind.kind-index in
-    adds_both parts (box_of c.args.boxes.now) (kinds_names parts (take i kinds))
-    (kind_names parts (get_or kinds i _)) (kinds_names parts (take (i + 1) kinds))
+    adds_both parts (box_of c.args.boxes.now) (kinds_rows parts (take i kinds))
+    (kind_rows parts (get_or kinds i _)) (kinds_rows parts (take (i + 1) kinds))
     c.args.draft.now c.loop-kind.draft c.add_kind.new.draft c.loop-kind.invariant
     c.in_ok-add_kind.ensures.adds
-    (next_taken (kind_names parts) kinds i _ c.loop-kind-test.true)
+    (next_taken (kind_rows parts) kinds i _ c.loop-kind-test.true)

@@ -2,7 +2,7 @@ use Rattle.std.proofs.Common.{◌+◌, List, [], ◌∷◌, ◌++◌, sym, subst
 use Rattle.flow_types.specs.Scenario.{parts_of}
 use Rattle.priced_plans.specs.Keys.{number_in, period_in, row_in}
 use Rattle.bytime_model.specs.declared.names.RowName.{RowName}
-use Rattle.branch_tree.specs.declared.leaf.Multiplier.{Multiplier}
+use Rattle.bytime_model.specs.declared.multiplier.Multiplier.{Multiplier}
 use Rattle.priced_leaf.specs.Listing.{IsListed}
 use Rattle.priced_leaf.proofs.ListingFacts.{listed-more}
 use Rattle.priced_leaf.proofs.listing.list_price.Goals as goal

@@ -2,8 +2,14 @@ use Rattle.std.proofs.Common.{sym, ◌∙◌}
 use Rattle.flow_types.specs.Scenario.{parts_of}
 use Rattle.time_windows.specs.Held.{box_of}
 use Rattle.tree_search.specs.Rooms.{prices_from, weight_from}
+use Rattle.tree_search.proofs.RelaxFacts.{leaf_has}
 use Rattle.tree_search.proofs.SeenFacts.{priced_seen, run_seen, split_seen}
 use Rattle.tree_search.proofs.seeing.see_open.Goals as goal
+
+pub bound_of-run-requires-clause-some : goal.bound_of-run-requires-clause-some
+bound_of-run-requires-clause-some c =
+    leaf_has (parts_of c.args.s.now) (box_of c.args.boxes.now) c.in_ok-leaf.field-0.leaf
+    c.in_ok-leaf.ensures.some c.requires.live
 
 pub returns-then-may_split-clause-seen : goal.returns-then-may_split-clause-seen
 returns-then-may_split-clause-seen c =
@@ -11,8 +17,8 @@ returns-then-may_split-clause-seen c =
     (box_of c.args.boxes.now) c.args.branch c.requires.made.inside c.requires.live
     c.requires.branch c.bound_of-run.result c.price-priced.result.bound c.price-priced.ensures.most
     c.in_ok-leaf.field-0.leaf (sym c.may_split.ensures ∙ c.if-may_split.true)
-    c.bound_of-run.ensures.bound c.in_ok-leaf.ensures.licensed c.choose-branch.result
-    c.choose-branch.ensures
+    c.bound_of-run.ensures.bound c.in_ok-leaf.ensures.some c.in_ok-leaf.ensures.licensed
+    c.choose-branch.result c.choose-branch.ensures
 
 pub returns-in_ok-leaf-2-clause-seen : goal.returns-in_ok-leaf-2-clause-seen
 returns-in_ok-leaf-2-clause-seen c =

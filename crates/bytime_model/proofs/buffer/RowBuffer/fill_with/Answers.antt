@@ -1,6 +1,5 @@
 use Rattle.flow_types.specs.Scenario.{parts_of}
-use Rattle.bytime_model.proofs.OnceFacts.{held_collected}
-use Rattle.bytime_model.proofs.ValidFacts.{row_valid}
+use Rattle.bytime_model.proofs.RowLaws.{held_collected, row_valid}
 use Rattle.bytime_model.proofs.buffer.RowBuffer.fill_with.Goals as goal
 
 pub returns-clause-valid : goal.returns-clause-valid

@@ -4,6 +4,6 @@ use Rattle.presolve.proofs.numbers.Numbers.new.Goals as goal
 
 pub returns : goal.returns
 returns c =
-    numbered_for (parts_of c.args.s.now) c.in_ok-positions.positions c.args.boxes.now
-    c.args.columns.now c.in_ok-numbers.numbers.items c.in_ok-positions.ensures c.requires.made
+    numbered_for (parts_of c.args.s.now) c.args.positions.now c.args.boxes.now
+    c.args.columns.now c.in_ok-numbers.numbers.items c.requires.positions c.requires.made
     c.requires.tight c.requires.columns c.in_ok-numbers.ensures

@@ -1,0 +1,9 @@
+-- Rows, and how often each is counted.
+use Rattle.std.specs.Prelude.{ℕ, ◌^◌, ◌<◌, List, length, All}
+use Rattle.bytime_model.specs.declared.multiplier.Multiplier.{Multiplier}
+
+-- the weight and the multipliers are below 2^62, and there are fewer than 2^32 of these
+pub record HasRange (weight : ℕ) (rows : List Multiplier) : Type 0 where
+  pub weight_to : weight < 2 ^ 62
+  pub values : All (λ multiplier. multiplier.value < 2 ^ 62) rows
+  pub few : length rows < 2 ^ 32

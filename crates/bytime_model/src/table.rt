@@ -1,0 +1,30 @@
+//! What is looked up of a scenario again and again.
+ghost use Rattle.std.specs.Prelude.{IfOk};
+ghost use Rattle.flow_types.specs.Scenario.{parts_of};
+ghost use Rattle.bytime_model.specs.Table.{IsTableFor};
+
+use crate::columns::Columns;
+use crate::cost_row::{CostRow, linear_cost};
+use crate::visits::Visits;
+use flow_types::{OutOfMemory, Scenario};
+use std::alloc::Global;
+
+/// Positions of variables, the visits to the places, and the cost row of a scenario: made once, and
+/// lent for each box.
+#[derive(Debug, Drop)]
+pub struct Table {
+    pub columns: Columns,
+    pub visits: Visits,
+    pub cost: CostRow,
+}
+
+/// Those of the scenario. While it runs it takes the memory of a root box.
+pub fn table_for(alloc: Global, s: &Scenario) -> Result<Table, OutOfMemory>
+    ensures { IfOk result (IsTableFor (parts_of s.now)) }
+{
+    Ok(Table {
+        columns: Columns::new(alloc, s)?,
+        visits: Visits::new(alloc, s)?,
+        cost: linear_cost(alloc, s)?,
+    })
+}

@@ -1,7 +1,0 @@
-use Rattle.time_windows.specs.Held.{box_of}
-use Rattle.dual_leaf.specs.Columns.{AreColumnsTo}
-use Rattle.dual_leaf.proofs.columns.columns_of.Given as goal
-
-abbrev pub invariant-loop-cell : goal.invariant-loop-cell
-invariant-loop-cell l =
-    AreColumnsTo l.fn.s.parts.flights (box_of l.fn.boxes) l.cell l.columns

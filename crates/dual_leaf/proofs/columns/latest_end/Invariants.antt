@@ -1,9 +1,0 @@
-use Rattle.std.proofs.Common.{◌≡◌, drop}
-use Rattle.time_windows.specs.Held.{box_of}
-use Rattle.dual_leaf.specs.Columns.{latest_end}
-use Rattle.dual_leaf.proofs.columns.latest_end.Given as goal
-
-abbrev pub invariant-loop-leg : goal.invariant-loop-leg
-invariant-loop-leg l =
-    latest_end (box_of l.fn.boxes l.flight) (drop l.leg-index l.legs) l.latest
-    ≡ latest_end (box_of l.fn.boxes l.flight) l.legs 0

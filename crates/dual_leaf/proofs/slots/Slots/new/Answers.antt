@@ -1,7 +1,0 @@
-use Rattle.dual_leaf.proofs.SlotFacts.{fresh}
-use Rattle.dual_leaf.proofs.slots.Slots.new.Goals as goal
-
-pub returns : goal.returns
-returns c =
-    fresh c.args.positions c.in_ok-no_rounds.field-0.items c.in_ok-zeros.field-0.items
-    c.in_ok-no_rounds.ensures c.in_ok-zeros.ensures

@@ -1,0 +1,13 @@
+use Rattle.std.proofs.Common.{sym, ap, ◌∙◌, length, replicate, pos}
+use Rattle.valid_cuts.proofs.SlotFacts.{later_none, long}
+use Rattle.valid_cuts.proofs.slots.Slots.clear.Goals as goal
+
+pub returns : goal.returns
+returns c =
+    let held = c.self.inside in
+    later_none c.next_round-self-inside.result c.next_round-self-inside.new.rounds.items
+    held.values.items c.next_round-self-inside.ensures.later
+    (c.next_round-self-inside.ensures.length ∙ c.self.invariant.0)
+    ∙ ap (λ n. replicate n (pos 0))
+    (sym (long held.round held.rounds.items held.values.items c.self.invariant.0)
+    ∙ ap length c.self.view_is)
