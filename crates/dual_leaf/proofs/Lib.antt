@@ -1,8 +1,10 @@
 pub mod LagFacts
 pub mod LeafFacts
+pub mod ListingFacts
 pub mod OptionFacts
 pub mod RoundFacts
 pub mod SoundFacts
+pub mod TellFacts
 pub mod UnitBoxFacts
 pub mod UnitFitFacts
 pub mod UnitSumFacts

@@ -1,5 +1,7 @@
 pub mod Lag
 pub mod Leaf
+pub mod Listing
 pub mod Options
+pub mod PriceLeaf
 pub mod UnitSums
 pub mod Work

@@ -16,14 +16,23 @@
 //!
 //! The definitions stand in `specs/`: `Leaf` (the bound of a leaf, or why it has none) and `Lag`
 //! (the prices that a Lag leaf is; what these come to is said in `priced_plans`). What a Dual leaf
-//! comes to is said in `valid_cuts`. The others serve the proof: `Options`, `UnitSums`, and `Work`
-//! (the room).
+//! comes to is said in `valid_cuts`; `PriceLeaf` has the leaf that prices are. The others serve the
+//! proof: `Listing`, `Options`, `UnitSums`, and `Work` (the room).
 //!
 //! Proved: `leaf_bound` gives exactly the bound of the leaf, or exactly the first fault (`bound`),
 //! and no plan in the box that keeps every rule costs less, whoever chose the multipliers
 //! (`sound`). So it is of any bound that the definition gives a leaf (`leaf_bounds_are_bounds`),
 //! which serves trees of leaves. What `leaf_bound` gives is nearer to 0 than 2^115, and than 2^124
 //! for a Lag leaf (`near`), so that sums with it have room.
+//!
+//! Prices are made a leaf, which names them by the rows that they stand on:
+//!
+//!     let leaf = lag_leaf(alloc, &s, COST_WEIGHT, rounds.prices())?;
+//!
+//! Its multipliers set exactly the prices, each on a row that is there and may have one; none is 0,
+//! and each row is named once, in the order of rows (`prices`). In every box in which no node that
+//! must be entered is closed the leaf has the bound that the prices tell (`bound`); and one of
+//! weight 0 says that no plan is in a box in which the value of the prices is above 0 (`closes`).
 //!
 //! For a Lag leaf the prices are set that its multipliers are, and then each flight's least trip is
 //! found under them: whole trips, where a Dual leaf looks at one variable at a time.
@@ -41,6 +50,7 @@ mod bound;
 mod fault;
 mod lag;
 mod laws;
+mod listing;
 mod options;
 mod plain;
 mod unit;
@@ -48,4 +58,5 @@ mod work;
 
 pub use fault::LeafFault;
 pub use laws::leaf_bounds_are_bounds;
+pub use listing::{closing_leaf, lag_leaf};
 pub use work::LeafWork;

@@ -16,7 +16,7 @@ use Rattle.flow_types.specs.Bounds.{IsAtMost, IsNearBound, is_reached}
 use Rattle.lagrange_bound.proofs.BestFacts.{at_most_itself}
 use Rattle.branch_tree.specs.declared.leaf.Leaf.{Leaf}
 use Rattle.branch_tree.specs.Leaves.{IsInRange}
-use Rattle.priced_leaf.specs.Leaf.{IsLagOf}
+use Rattle.dual_leaf.specs.PriceLeaf.{IsLagOf}
 use Rattle.dual_leaf.specs.declared.fault.LeafFault.{LeafFault}
 use Rattle.dual_leaf.specs.Leaf.{IsLeafBound, IsLive, IsNearOf, IsUnitBound, IsUnitBox}
 use Rattle.flow_types.specs.Bounds.{IsNearBound}

@@ -17,7 +17,7 @@ use Rattle.branch_tree.specs.declared.tree.TreeNode.{TreeNode}
 use Rattle.branch_tree.specs.declared.tree.TreeNode.TheVariants.{Leaf, Split}
 use Rattle.branch_tree.specs.Leaves.{IsInRange}
 use Rattle.dual_leaf.specs.Leaf.{IsLeafBound, IsLive}
-use Rattle.priced_leaf.specs.Leaf.{AreAscending, ArePositive}
+use Rattle.bytime_model.specs.Multipliers.{AreAscending, ArePositive}
 use Rattle.relaxed_bound.specs.Licence.{IsLicensed}
 use Rattle.relaxed_bound.specs.Relaxed.{relaxed_leaf}
 use Rattle.tree_search.specs.declared.found.Budget.{Budget}

@@ -6,7 +6,7 @@ ghost use Rattle.flow_types.specs.Scenario.{parts_of};
 ghost use Rattle.branch_tree.specs.Leaves.{IsInRange};
 ghost use Rattle.lagrange_bound.specs.Best.{IsMostOfRounds};
 ghost use Rattle.flow_types.specs.Bounds.{IsNearBound};
-ghost use Rattle.priced_leaf.specs.Leaf.{IsLagOf};
+ghost use Rattle.dual_leaf.specs.PriceLeaf.{IsLagOf};
 ghost use Rattle.priced_plans.specs.Keys.{ArePlaced};
 ghost use Rattle.time_windows.specs.Boxes.{Box};
 ghost use Rattle.time_windows.specs.Held.{IsMadeFor, box_of};
@@ -14,10 +14,10 @@ ghost use Rattle.tree_search.specs.Rooms.{ArePriceRoomsFor, IsToldBy, Tells, pri
 
 use crate::rooms::PriceRooms;
 use branch_tree::Leaf;
+use dual_leaf::{closing_leaf, lag_leaf};
 use flow_types::{Bound, OutOfMemory, Scenario};
 use lagrange_bound::COST_WEIGHT;
 use price_ascent::WEIGHT;
-use priced_leaf::{closing_leaf, lag_leaf};
 use std::alloc::Global;
 use time_windows::Boxes;
 

@@ -7,7 +7,8 @@ use Rattle.flight_routes.specs.Prices.{PriceTable, price_at}
 use Rattle.priced_plans.specs.Keys.{IsKeyFor, number_in, period_in, row_in}
 use Rattle.bytime_model.specs.declared.multiplier.Multiplier.{Multiplier}
 use Rattle.dual_leaf.specs.Lag.{ArePriceable, set_by}
-use Rattle.priced_leaf.specs.Leaf.{AreAscending, ArePositive, row_of}
+use Rattle.dual_leaf.specs.PriceLeaf.{row_of}
+use Rattle.bytime_model.specs.Multipliers.{AreAscending, ArePositive}
 
 -- the key comes before this kind, row and period
 abbrev pub is_listed : ℕ → ℕ → ℕ → PriceKey → Bool

@@ -13,8 +13,8 @@ use Rattle.branch_tree.specs.declared.leaf.Leaf.{Leaf}
 use Rattle.branch_tree.specs.declared.leaf.Leaf.TheVariants.{Lag}
 use Rattle.bytime_model.specs.declared.multiplier.Multiplier.{Multiplier}
 use Rattle.dual_leaf.specs.Leaf.{IsLeafBound, IsTableSaid}
-use Rattle.priced_leaf.specs.Leaf.{Closes, IsLagOf, TellsAs}
-use Rattle.priced_leaf.specs.Listing.{IsListed, is_listed}
+use Rattle.dual_leaf.specs.PriceLeaf.{Closes, IsLagOf, TellsAs}
+use Rattle.dual_leaf.specs.Listing.{IsListed, is_listed}
 
 key_for : (parts : Parts) (table : PriceTable) (k : PriceKey) → ArePricesOf parts table
     → IsKeyOf table k → IsKeyFor parts k

@@ -1,7 +1,7 @@
 use Rattle.flow_types.specs.Scenario.{parts_of}
 use Rattle.priced_plans.specs.Keys.{kind_number}
-use Rattle.priced_leaf.specs.Listing.{IsListed}
-use Rattle.priced_leaf.proofs.listing.list_row.Given as goal
+use Rattle.dual_leaf.specs.Listing.{IsListed}
+use Rattle.dual_leaf.proofs.listing.list_row.Given as goal
 
 abbrev pub invariant-loop-period : goal.invariant-loop-period
 invariant-loop-period l =

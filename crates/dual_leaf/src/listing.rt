@@ -4,8 +4,8 @@ ghost use Rattle.flow_types.specs.Scenario.{parts_of};
 ghost use Rattle.flight_routes.specs.Prices.{ArePricesOf, IsKeyOf, price_at};
 ghost use Rattle.priced_plans.specs.Keys.{ArePlaced, IsKeyFor, kind_number, number_in, period_in, row_in, rows_of};
 ghost use Rattle.branch_tree.specs.Leaves.{IsInRange};
-ghost use Rattle.priced_leaf.specs.Leaf.{Closes, IsLagOf, TellsAs, row_of};
-ghost use Rattle.priced_leaf.specs.Listing.{IsListed};
+ghost use Rattle.dual_leaf.specs.PriceLeaf.{Closes, IsLagOf, TellsAs, row_of};
+ghost use Rattle.dual_leaf.specs.Listing.{IsListed};
 
 use branch_tree::Leaf;
 use bytime_model::{Multiplier, Multipliers, RowName};

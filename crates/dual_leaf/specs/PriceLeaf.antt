@@ -1,5 +1,5 @@
 -- The leaf that prices are.
-use Rattle.std.specs.Prelude.{◌≡◌, ℕ, ◌<◌, List, All, AllPairs, Ok, ℤ, pos, ◌≤ℤ◌}
+use Rattle.std.specs.Prelude.{◌≡◌, ℕ, List, Ok, ℤ, pos, ◌≤ℤ◌}
 use Rattle.flow_types.specs.declared.bound.Bound.{Bound}
 use Rattle.flow_types.specs.declared.bound.Bound.TheVariants.{NoPlan}
 use Rattle.flow_types.specs.declared.bound.PriceKey.{PriceKey}
@@ -11,7 +11,7 @@ use Rattle.priced_plans.specs.Values.{IsPricedValue}
 use Rattle.time_windows.specs.Boxes.{Box}
 use Rattle.bytime_model.specs.declared.names.RowName.{RowName}
 use Rattle.bytime_model.specs.declared.names.RowName.TheVariants.{Arr, Connect, Dep, Sector}
-use Rattle.bytime_model.specs.Order.{IsBefore}
+use Rattle.bytime_model.specs.Multipliers.{AreAscending, ArePositive}
 use Rattle.branch_tree.specs.declared.leaf.Leaf.{Leaf}
 use Rattle.branch_tree.specs.declared.leaf.Leaf.TheVariants.{Lag}
 use Rattle.bytime_model.specs.declared.multiplier.Multiplier.{Multiplier}
@@ -24,13 +24,6 @@ row_of (key.Dep place period) = Dep place period
 row_of (key.Arr place period) = Arr place period
 row_of (key.Sector place period) = Sector place period
 row_of (key.Connect connection period) = Connect connection period
-
--- no multiplier is 0, and each row is named once, in the order of rows
-abbrev pub ArePositive : List Multiplier → Type 0
-ArePositive rows = All (λ multiplier. 0 < multiplier.value) rows
-
-abbrev pub AreAscending : List Multiplier → Type 0
-AreAscending rows = AllPairs (λ before after. IsBefore before.row after.row) rows
 
 -- the Lag leaf of this weight whose multipliers are the prices
 pub record IsLagOf (parts : Parts) (weight : ℕ) (table : PriceTable) (leaf : Leaf) : Type 0 where

@@ -1,7 +1,7 @@
 use Rattle.flow_types.specs.Scenario.{parts_of}
 use Rattle.branch_tree.specs.declared.leaf.Leaf.TheVariants.{Lag}
-use Rattle.priced_leaf.proofs.TellFacts.{closes, lag-of}
-use Rattle.priced_leaf.proofs.listing.closing_leaf.Goals as goal
+use Rattle.dual_leaf.proofs.TellFacts.{closes, lag-of}
+use Rattle.dual_leaf.proofs.listing.closing_leaf.Goals as goal
 
 pub returns-clause-closes : goal.returns-clause-closes
 returns-clause-closes c =

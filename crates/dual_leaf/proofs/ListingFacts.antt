@@ -18,8 +18,8 @@ use Rattle.bytime_model.specs.Order.{IsBefore}
 use Rattle.bytime_model.specs.declared.multiplier.Multiplier.{Multiplier}
 use Rattle.dual_leaf.specs.Lag.{is_key, is_priceable, key_of, set_by, set_on}
 use Rattle.dual_leaf.proofs.LagFacts.{set-more}
-use Rattle.priced_leaf.specs.Leaf.{row_of}
-use Rattle.priced_leaf.specs.Listing.{IsListed, IsNamedBelow, is_listed, most_listed}
+use Rattle.dual_leaf.specs.PriceLeaf.{row_of}
+use Rattle.dual_leaf.specs.Listing.{IsListed, IsNamedBelow, is_listed, most_listed}
 
 named : (k : PriceKey) → key_of (row_of k) ≡ Some k
 named (key.Dep place period) = refl

@@ -1,7 +1,7 @@
 use Rattle.flow_types.specs.Scenario.{parts_of}
 use Rattle.branch_tree.specs.declared.leaf.Leaf.TheVariants.{Lag}
-use Rattle.priced_leaf.proofs.TellFacts.{lag-of, tells}
-use Rattle.priced_leaf.proofs.listing.lag_leaf.Goals as goal
+use Rattle.dual_leaf.proofs.TellFacts.{lag-of, tells}
+use Rattle.dual_leaf.proofs.listing.lag_leaf.Goals as goal
 
 pub returns-clause-bound : goal.returns-clause-bound
 returns-clause-bound c =

@@ -3,9 +3,9 @@ use Rattle.flow_types.specs.Scenario.{parts_of}
 use Rattle.priced_plans.specs.Keys.{number_in, period_in, row_in}
 use Rattle.bytime_model.specs.declared.names.RowName.{RowName}
 use Rattle.bytime_model.specs.declared.multiplier.Multiplier.{Multiplier}
-use Rattle.priced_leaf.specs.Listing.{IsListed}
-use Rattle.priced_leaf.proofs.ListingFacts.{listed-more}
-use Rattle.priced_leaf.proofs.listing.list_price.Goals as goal
+use Rattle.dual_leaf.specs.Listing.{IsListed}
+use Rattle.dual_leaf.proofs.ListingFacts.{listed-more}
+use Rattle.dual_leaf.proofs.listing.list_price.Goals as goal
 
 pub returns-in_ok-add : goal.returns-in_ok-add
 returns-in_ok-add c =

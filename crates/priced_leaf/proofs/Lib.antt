@@ -1,2 +1,0 @@
-pub mod ListingFacts
-pub mod TellFacts
