@@ -86,18 +86,13 @@ claim_is_lines cost bound nodes rows =
     let c = line_text (codes "bound,") (bound_word bound) in
     let d = line_text (codes "nodes,") (decimal nodes) in
     let p = lines_of rows in
-    let is_a : a ≡ line_of (pair (codes "status") (outcome_word (outcome_of cost bound))) =
-    label_line (codes "status") (outcome_word (outcome_of cost bound)) in
-    let is_b : b ≡ line_of (pair (codes "cost") (cost_word cost)) =
-    label_line (codes "cost") (cost_word cost) in
-    let is_c : c ≡ line_of (pair (codes "bound") (bound_word bound)) =
-    label_line (codes "bound") (bound_word bound) in
-    let is_d : d ≡ line_of (pair (codes "nodes") (decimal nodes)) =
-    label_line (codes "nodes") (decimal nodes) in
     append_assoc a (b ++ (c ++ d)) p
     ∙ ap (λ (bytes : List ℕ). a ++ bytes)
     (append_assoc b (c ++ d) p ∙ ap (λ (bytes : List ℕ). b ++ bytes) (append_assoc c d p))
-    ∙ join is_a (join is_b (join is_c (join is_d refl)))
+    ∙ join (label_line (codes "status") (outcome_word (outcome_of cost bound)))
+    (join (label_line (codes "cost") (cost_word cost))
+    (join (label_line (codes "bound") (bound_word bound))
+    (join (label_line (codes "nodes") (decimal nodes)) refl)))
 
 plan_rows : Parts → Option (List (List Stop)) → List Fields
 plan_rows parts None = []

@@ -95,7 +95,7 @@ fn put_rule(out: &mut Vec<u8>, rule: &[u8], s: &Scenario, flight: u32) -> Result
         ++ (field_text rule.now ++ flight_field (parts_of s.now) flight)) }
 {
     put_field(out, rule)?;
-    put_flight(out, s, flight)
+    put_field(out, flight_name(s, flight))
 }
 
 // Adds a stop whose time isn't in its window.
@@ -114,7 +114,7 @@ fn put_window(
     let entered = stop_at(plan, flight, usize::from(stop));
     put_rule(out, b"window", s, flight)?;
     put_stop(out, s, flight, entered)?;
-    put_time(alloc, out, entered)
+    put_number(alloc, out, time_of_stop(entered))
 }
 
 // Adds two stops that no leg joins.
@@ -152,9 +152,9 @@ fn put_least(
     let next = stop_at(plan, flight, usize::from(stop) + 1);
     put_rule(out, b"least", s, flight)?;
     put_stop(out, s, flight, entered)?;
-    put_time(alloc, out, entered)?;
+    put_number(alloc, out, time_of_stop(entered))?;
     put_stop(out, s, flight, next)?;
-    put_time(alloc, out, next)?;
+    put_number(alloc, out, time_of_stop(next))?;
     put_number(alloc, out, u64::from(least))
 }
 
@@ -192,7 +192,7 @@ fn put_times(
         ++ turn_fields (parts_of s.now) (Some connection.now) arrives leaves)) }
 {
     put_rule(out, b"turn", s, connection.first)?;
-    put_flight(out, s, connection.second)?;
+    put_field(out, flight_name(s, connection.second))?;
     put_number(alloc, out, u64::from(arrives))?;
     put_number(alloc, out, u64::from(leaves))?;
     put_number(alloc, out, u64::from(connection.turnaround))
@@ -211,25 +211,10 @@ fn put_over(
         ++ (field_text rule.now ++ over_fields (parts_of s.now) over)) }
 {
     put_field(out, rule)?;
-    put_place(out, s, over.place)?;
+    put_field(out, place_name(s, over.place))?;
     put_number(alloc, out, u64::from(over.period))?;
     put_number(alloc, out, u64::from(over.load))?;
     put_number(alloc, out, u64::from(over.capacity))
-}
-
-// Adds the name of the flight at this position.
-fn put_flight(out: &mut Vec<u8>, s: &Scenario, position: u32) -> Result<(), OutOfMemory>
-    ensures { OnOk result
-        (out.new.items ≡ out.old.items ++ flight_field (parts_of s.now) position) }
-{
-    put_field(out, flight_name(s, position))
-}
-
-// Adds the name of the place at this position.
-fn put_place(out: &mut Vec<u8>, s: &Scenario, position: u32) -> Result<(), OutOfMemory>
-    ensures { OnOk result (out.new.items ≡ out.old.items ++ place_field (parts_of s.now) position) }
-{
-    put_field(out, place_name(s, position))
 }
 
 // Adds the name of the place at which the flight at this position makes the stop.
@@ -244,15 +229,7 @@ fn put_stop(
         ++ place_field (parts_of s.now)
         (place_of_stop (slice_get (parts_of s.now).flights flight) stop)) }
 {
-    put_place(out, s, place_of_stop(s, flight, stop))
-}
-
-// Adds the period of the stop.
-fn put_time(alloc: Global, out: &mut Vec<u8>, stop: Option<Stop>) -> Result<(), OutOfMemory>
-    ensures { OnOk result
-        (out.new.items ≡ out.old.items ++ field_text (decimal (time_of_stop stop))) }
-{
-    put_number(alloc, out, u64::from(time_of_stop(stop)))
+    put_field(out, place_name(s, place_of_stop(s, flight, stop)))
 }
 
 // The name of the flight at this position, empty where there is none.
@@ -296,11 +273,11 @@ fn place_of_stop(s: &Scenario, flight: u32, stop: Option<Stop>) -> u32
 }
 
 // The period of the stop, 0 where there is none.
-fn time_of_stop(stop: Option<Stop>) -> u16
+fn time_of_stop(stop: Option<Stop>) -> u64
     ensures { result ≡ time_of_stop stop }
 {
     match stop {
         None => 0,
-        Some(stop) => stop.time,
+        Some(stop) => u64::from(stop.time),
     }
 }

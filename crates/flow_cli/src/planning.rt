@@ -6,7 +6,6 @@ ghost use Rattle.flow_types.specs.Bounds.{IsBound};
 ghost use Rattle.flow_types.specs.Feasible.{IsFeasible};
 ghost use Rattle.time_windows.specs.Boxes.{root_box};
 ghost use Rattle.tree_search.specs.Records.{IsSearchRecord};
-ghost use Rattle.delay_report.specs.Claims.{plan_in};
 ghost use Rattle.delay_report.specs.Texts.{report_text};
 ghost use Rattle.flow_cli.specs.Answers.{IfAnswered, work_status};
 ghost use Rattle.flow_cli.specs.Outside.{change, printed_by};
@@ -60,25 +59,14 @@ fn report_of(alloc: Global, s: &Scenario, found: &Found) -> Result<(Vec<u8>, Sta
     ensures status { IfOk result
         (λ report. report.1 ≡ status_of (last_cost (parts_of s.now) found.now) found.now.bound) }
 {
-    let claim = claim_in(s, found);
-    let text = plan_report(alloc, s, &claim)?;
-    Ok((text, Status::of_outcome(claim.outcome())))
-}
-
-// What a record claims: its last plan, if it has one, its bound and the nodes of its tree.
-fn claim_in<'a>(s: &Scenario, found: &'a Found) -> Claim<'a>
-    requires { IfSome (last_plan found.now) (IsFeasible (parts_of s.now)) }
-    ensures plan { plan_in result ≡ last_plan found.now }
-    ensures cost { result.cost ≡ last_cost (parts_of s.now) found.now }
-    ensures bound { result.bound ≡ found.now.bound }
-    ensures nodes { result.nodes ≡ length found.now.tree }
-{
-    Claim::of(
+    let claim = Claim::of(
         s,
         found.plans.items().last(),
         found.bound,
         found.tree.nodes(),
-    )
+    );
+    let text = plan_report(alloc, s, &claim)?;
+    Ok((text, Status::of_outcome(claim.outcome())))
 }
 
 // The record of a search of all plans of the day.

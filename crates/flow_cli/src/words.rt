@@ -208,24 +208,14 @@ fn with_number(given: Given, limit: Limit, number: u64) -> Given
     ensures with { result ≡ with_number given limit number }
     ensures allowed { IsAllowed result }
 {
+    let mut more = given;
     match limit {
-        Limit::Nodes => Given {
-            nodes: Some(number),
-            ..given
-        },
-        Limit::Pivots => Given {
-            pivots: Some(number),
-            ..given
-        },
-        Limit::Cells => Given {
-            cells: Some(number as u32),
-            ..given
-        },
-        Limit::Rounds => Given {
-            rounds: Some(number as u32),
-            ..given
-        },
+        Limit::Nodes => more.nodes = Some(number),
+        Limit::Pivots => more.pivots = Some(number),
+        Limit::Cells => more.cells = Some(number as u32),
+        Limit::Rounds => more.rounds = Some(number as u32),
     }
+    more
 }
 
 // The number that the word spells, if it is one of the range.
