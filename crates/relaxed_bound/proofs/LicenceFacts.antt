@@ -1,9 +1,7 @@
 -- Where the leaf's bound doesn't reach the cutoff, the box is licensed to be split: the run didn't
 -- end Cut nor Infeasible, and after Optimal its point costs less than the cutoff.
-use Rattle.std.proofs.Common.{◌≡◌, ℕ, Bool, true, false, not, int_lt, Option, None, Some, Ok, List, ℤ, pos, negsuc, ◌-ℤ◌, ◌*ℤ◌, ◌≤ℤ◌, ◌<ℤ◌, unsigned_abs, inl, inr, refl, sym, ap, ◌∙◌, subst, arith}
+use Rattle.std.proofs.Common.{◌≡◌, ℕ, Bool, true, false, not, int_lt, Option, None, Some, List, ℤ, pos, negsuc, ◌-ℤ◌, ◌*ℤ◌, ◌≤ℤ◌, ◌<ℤ◌, unsigned_abs, inl, inr, refl, sym, ap, ◌∙◌, subst, arith}
 use Rattle.std.proofs.lemmas.Int.{ints}
-use Rattle.flow_types.specs.declared.bound.Bound.{Bound}
-use Rattle.flow_types.specs.declared.bound.Bound.TheVariants.{AtLeast, NoPlan}
 use Rattle.flow_types.specs.declared.parts.Parts.{Parts}
 use Rattle.flow_types.specs.Valid.{IsScenario}
 use Rattle.scaled_simplex.specs.declared.end.End.{End}
@@ -25,7 +23,6 @@ use Rattle.presolve.specs.Relaxed.{kept_of, program_of}
 use Rattle.presolve.proofs.PointLaws.{costs_alike, relaxation_point}
 use Rattle.relaxed_bound.specs.declared.limits.Limits.{Limits}
 use Rattle.relaxed_bound.specs.Licence.{IsBelowCutoff, IsCheapPoint, IsLicensed, IsUnreached, StaysBelow}
-use Rattle.flow_types.specs.Bounds.{is_reached}
 use Rattle.relaxed_bound.specs.Relaxed.{outcome_leaf}
 use Rattle.relaxed_bound.specs.Telling.{IsWorthOf}
 
