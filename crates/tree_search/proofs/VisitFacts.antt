@@ -51,15 +51,15 @@ module _ (parts : Parts) (box : Box) (old new : Draft) where
   -- in a unit box the plan that may be there was tried
   pub visited_tried : IsScenario parts → IsVisited parts box old new → IsTried parts box new
   visited_tried valid visited unit NoPlan cost = refl
-  visited_tried valid (inl offered) unit (AtLeast least) (plan, feasible, inside, is) =
+  visited_tried valid (inl offered) unit (AtLeast least) (plan, kept, is) =
       let same = same_plan parts box offered.plan plan valid unit offered.feasible
-      (greedy_inside parts box offered.plan offered.greedy) feasible inside in
+      (greedy_inside parts box offered.plan offered.greedy) kept.feasible kept.inside in
       let cost = ap (plan_cost parts.tables parts.flights) (sym same) ∙ is in
       subst (λ c. is_reached new.best (AtLeast c) ≡ true) cost
       (offered_reached parts box old new offered.plan offered.offered)
-  visited_tried valid (inr left) unit (AtLeast least) (plan, feasible, inside, is) =
+  visited_tried valid (inr left) unit (AtLeast least) (plan, kept, is) =
       absurd (stuck parts valid box unit left.kept left.flight left.stuck.count left.stuck.within
-      left.stuck.chosen left.stuck.none plan feasible inside)
+      left.stuck.chosen left.stuck.none plan kept)
 
   pub offered_tree : (plan : Plan) → IsOffered parts plan old new
       → (later : List Plan) × (new.plans ≡ old.plans ++ later) × IsSameTree old new

@@ -315,7 +315,7 @@ whole budget some = record {
     record {
       inside = it_is_inside;
       range = tt;
-      bound_is = (it_is_unit, (soon, keeps, plan_in, refl));
+      bound_is = (it_is_unit, (soon, record { feasible = keeps; inside = plan_in }, refl));
       kind = refl;
     },
     refl,

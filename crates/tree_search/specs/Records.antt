@@ -5,10 +5,11 @@ use Rattle.flow_types.specs.declared.parts.Parts.{Parts}
 use Rattle.flow_types.specs.declared.plan.Stop.{Stop}
 use Rattle.flow_types.specs.Costs.{plan_cost}
 use Rattle.time_windows.specs.Boxes.{Box}
+use Rattle.time_windows.specs.Plans.{IsPlanIn}
 use Rattle.time_windows.specs.Tight.{IsTightened}
 use Rattle.greedy_plan.specs.Greedy.{IsGreedy}
 use Rattle.branch_tree.specs.Forests.{IsTreeOn}
-use Rattle.flow_types.specs.Bounds.{IsNearBound, least_of}
+use Rattle.flow_types.specs.Bounds.{IsNearBound, bound_of, least_of}
 use Rattle.tree_search.specs.declared.found.Budget.{Budget}
 use Rattle.tree_search.specs.declared.found.Found.{Found}
 use Rattle.tree_search.specs.Nodes.{IsNodeAt, cutoff_after}
