@@ -1,5 +1,5 @@
--- Tables with the same prices for the day: both have the same least trips, both move alike, and what
--- they tell is the same.
+-- Tables with the same prices for the day: both have the same least trips, both move alike, and
+-- what they tell is the same.
 use Rattle.std.proofs.Common.{◌≡◌, ℕ, zero, suc, List, [], ◌∷◌, length, slice_get, Some, ℤ, inl, inr, refl, sym, ap, ap₂, ◌∙◌, subst, arith}
 use Rattle.std.proofs.lemmas.Int.{ints}
 use Rattle.exact_sums.specs.Leasts.{IsFirstLeast}
@@ -74,8 +74,8 @@ module _ (parts : Parts) (valid : IsScenario parts) (a b : PriceTable)
       → IsLeastTrip parts box b number y → x ≡ y
   trip_same number =
       first_same (IsTripIn parts box number) (priced_cost cost_weight a parts number)
-      (priced_cost cost_weight b parts number) (cost_same parts valid a b same cost_weight box number) IsNoLater
-      no_later_both
+      (priced_cost cost_weight b parts number)
+      (cost_same parts valid a b same cost_weight box number) IsNoLater no_later_both
 
   trips_same : (xs ys : List (List Stop)) → AreLeastTrips parts box a xs
       → AreLeastTrips parts box b ys → xs ≡ ys
@@ -180,8 +180,8 @@ module _ (parts : Parts) (box : Box) (valid : IsScenario parts) where
   bound_same a b (AtLeast x) (AtLeast y) same p q =
       ap AtLeast
       (rounded_same q.0 cost_weight x y
-      (subst (λ v. IsRoundedUp v cost_weight x) (value_same parts valid a b same box cost_weight p.0 q.0 p.1 q.1)
-      p.2)
+      (subst (λ v. IsRoundedUp v cost_weight x)
+      (value_same parts valid a b same box cost_weight p.0 q.0 p.1 q.1) p.2)
       q.2)
 
 pub round_same : (parts : Parts) (box : Box) (round : ℕ) (x y : Bound) → IsScenario parts
