@@ -4,13 +4,13 @@ ghost use Rattle.std.specs.List.{Any};
 ghost use Rattle.flow_types.specs.Scenario.{flight_at, parts_of};
 ghost use Rattle.bytime_model.specs.declared.names.RowName.TheVariants.{Connect, Enter, Leave, Mono, Occupy, Top};
 ghost use Rattle.bytime_model.specs.AllRows.{capacity_name, capacity_names, connect_names, enter_names, kind_rows, kinds_rows, leave_names, mono_names, node_count, node_names, occupy_names, over_nodes, part_rows, periods_of, rows_of, top_names};
-ghost use Rattle.bytime_model.specs.Rows.{goes_on, is_row};
+ghost use Rattle.bytime_model.specs.Rows.{is_row};
 ghost use Rattle.bytime_model.specs.declared.names.RowName.{RowName};
 ghost use Rattle.bytime_model.specs.Order.{IsBefore};
 
 use crate::kinds::{NodeKind, RowKind, part_count, row_kinds};
 use crate::names::{RowName, RowNames};
-use crate::rows::has_inside;
+use crate::rows::{goes_on, has_inside};
 use flow_types::{CapKind, OutOfMemory, Scenario, has_kind};
 use std::alloc::Global;
 
@@ -126,16 +126,6 @@ fn add_enter(names: &mut RowNames, s: &Scenario, flight: u32, node: u16) -> Resu
         names.add(RowName::Enter { flight, node, time })?;
     }
     Ok(())
-}
-
-// Whether the flight goes on from the node.
-fn goes_on(s: &Scenario, flight: u32, node: u16) -> bool
-    ensures { result ≡ goes_on (flight_at s.now flight) node }
-{
-    match s.flights().get(flight as usize) {
-        None => false,
-        Some(flight) => usize::from(node) + 1 < flight.nodes.items().len(),
-    }
 }
 
 // Adds the names of this kind that are of the node.

@@ -48,18 +48,18 @@
 //!
 //! Proved: `fill` and `fill_with` tell whether there is a row of that name (`told`) and hold
 //! exactly it (`row`), which no plan that keeps every rule breaks (`valid`), or no terms (`none`);
-//! `row_of` gives the same row in a list of its own (`some`, `row`). Like terms are collected
-//! (`collected`): no two are of one variable, and no factor is 0. `rows_of` gives the names of all
-//! rows (`names`): a name is among them exactly where there is such a row (`each`), and each comes
-//! before all later ones (`order`), as `is_before` tells, so that no name comes twice
-//! (`rows_are_in_one_order`). `row_kinds`, `part_count` and `part_rows` give exactly the
-//! definition's list of kinds, and its parts of these names. `Visits::at` gives the flights that
-//! have a node at the place, in their order. `linear_cost` gives the cost row (`row`), whose value
-//! at a plan is the plan's cost (`cost`); the calls for one step or term, for how many there are
-//! and for the constant give what the definition has for them, and so does `has_inside`. `left_of`
-//! tells what the box leaves of a variable (`left`), and it is so at every plan in the box
-//! (`agrees`). `Columns::new` gives each variable that a tight box leaves free a position of its
-//! own, and `landing_of` tells where a variable counts (`landing`).
+//! `row_of` gives the same row in a list of its own (`some`, `row`), and `is_row` tells whether
+//! there is one. Like terms are collected (`collected`): no two are of one variable, and no factor
+//! is 0. `rows_of` gives the names of all rows (`names`): a name is among them exactly where there
+//! is such a row (`each`), and each comes before all later ones (`order`), as `is_before` tells, so
+//! that no name comes twice (`rows_are_in_one_order`). `row_kinds`, `part_count` and `part_rows`
+//! give exactly the definition's list of kinds, and its parts of these names. `Visits::at` gives
+//! the flights that have a node at the place, in their order. `linear_cost` gives the cost row
+//! (`row`), whose value at a plan is the plan's cost (`cost`); the calls for one step or term, for
+//! how many there are and for the constant give what the definition has for them, and so does
+//! `has_inside`. `left_of` tells what the box leaves of a variable (`left`), and it is so at every
+//! plan in the box (`agrees`). `Columns::new` gives each variable that a tight box leaves free a
+//! position of its own, and `landing_of` tells where a variable counts (`landing`).
 //!
 //! Memory: `RowBuffer` takes 0.2 MB once, `Visits` 8 bytes for each node of a flight and for each
 //! place, `linear_cost` 24 bytes for each period that a flight may be late or wait, `row_of` 24 for
@@ -103,7 +103,7 @@ pub use left::{Left, left_of};
 pub use multiplier::{Multiplier, Multipliers};
 pub use names::{RowName, RowNames, rows_are_in_one_order};
 pub use row::{Row, row_of};
-pub use rows::has_inside;
+pub use rows::{has_inside, is_row};
 pub use table::{Table, table_for};
 pub use variables::{Term, Terms, Var, Vars};
 pub use visits::{Visit, Visits};

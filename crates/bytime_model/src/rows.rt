@@ -90,6 +90,16 @@ fn is_node(s: &Scenario, flight: u32, node: u16) -> bool
     }
 }
 
+/// Whether the flight goes on from the node.
+pub fn goes_on(s: &Scenario, flight: u32, node: u16) -> bool
+    ensures { result ≡ goes_on (slice_get (parts_of s.now).flights flight) node }
+{
+    match s.flights().get(flight as usize) {
+        None => false,
+        Some(flight) => usize::from(node) + 1 < flight.nodes.items().len(),
+    }
+}
+
 /// Whether the flight has a variable for being inside the node: it is between the ends, and not a
 /// plain one. It takes time for each leg of the flight.
 pub fn has_inside(s: &Scenario, flight: u32, node: u16) -> bool
@@ -110,6 +120,32 @@ fn is_capacity(s: &Scenario, kind: CapKind, place: u32, period: u16) -> bool
     ensures { result ≡ is_capacity (parts_of s.now) kind place period }
 {
     flow_types::has_kind(kind, s.places(), place) && period < s.day().periods
+}
+
+// Whether the flight has the node, and the day a period before this one.
+fn is_step(s: &Scenario, flight: u32, node: u16, time: u16) -> bool
+    ensures { result ≡ is_row (parts_of s.now) (Mono flight node time) }
+{
+    is_node(s, flight, node) && 0 < time && time < s.day().periods
+}
+
+/// Whether there is a row of the name; a cut has none here. It takes no memory, and time for each
+/// leg of the flight at the most.
+pub fn is_row(s: &Scenario, name: RowName) -> bool
+    ensures { result ≡ is_row (parts_of s.now) name }
+{
+    match name {
+        RowName::Mono { flight, node, time } => is_step(s, flight, node, time),
+        RowName::Top { flight, node } => is_node(s, flight, node),
+        RowName::Dep { place, period } => is_capacity(s, CapKind::Dep, place, period),
+        RowName::Arr { place, period } => is_capacity(s, CapKind::Arr, place, period),
+        RowName::Sector { place, period } => is_capacity(s, CapKind::Sector, place, period),
+        RowName::Occupy { flight, node, time } => is_occupied(s, flight, node, time),
+        RowName::Enter { flight, node, time } => is_entry(s, flight, node, time),
+        RowName::Leave { flight, node } => goes_on(s, flight, node),
+        RowName::Connect { connection, period } => is_connected(s, connection, period),
+        RowName::Cut { .. } => false,
+    }
 }
 
 // What is entered by a period is entered by the next one.

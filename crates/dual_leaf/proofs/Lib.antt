@@ -1,6 +1,7 @@
 pub mod LagFacts
 pub mod LeafFacts
 pub mod ListingFacts
+pub mod OneFacts
 pub mod OptionFacts
 pub mod RoundFacts
 pub mod SoundFacts

@@ -39,8 +39,9 @@ fn is_capacity(s: &Scenario, kind: CapKind, place: u32, period: u16) -> bool
     has_kind(kind, s.places(), place) && period < s.day().periods
 }
 
-// Whether the row is there, and may have a price.
-fn is_priceable(s: &Scenario, row: RowName) -> bool
+/// Whether the row is there, and may have a price: it is of a capacity or a connection. It takes no
+/// memory.
+pub fn is_priceable(s: &Scenario, row: RowName) -> bool
     ensures { result ≡ is_priceable (parts_of s.now) row }
 {
     match row {

@@ -22,8 +22,10 @@
 //! Proved: `leaf_bound` gives exactly the bound of the leaf, or exactly the first fault (`bound`),
 //! and no plan in the box that keeps every rule costs less, whoever chose the multipliers
 //! (`sound`). So it is of any bound that the definition gives a leaf (`leaf_bounds_are_bounds`),
-//! which serves trees of leaves. What `leaf_bound` gives is nearer to 0 than 2^115, and than 2^124
-//! for a Lag leaf (`near`), so that sums with it have room.
+//! which serves trees of leaves; and it gives a leaf one bound or one fault in a box
+//! (`leaf_bounds_are_one`). What `leaf_bound` gives is nearer to 0 than 2^115, and than 2^124 for a
+//! Lag leaf (`near`), so that sums with it have room. `is_priceable` tells whether a row may have a
+//! price.
 //!
 //! Prices are made a leaf, which names them by the rows that they stand on:
 //!
@@ -57,6 +59,7 @@ mod unit;
 mod work;
 
 pub use fault::LeafFault;
-pub use laws::leaf_bounds_are_bounds;
+pub use lag::is_priceable;
+pub use laws::{leaf_bounds_are_bounds, leaf_bounds_are_one};
 pub use listing::{closing_leaf, lag_leaf};
 pub use work::LeafWork;

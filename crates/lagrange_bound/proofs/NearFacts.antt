@@ -1,9 +1,7 @@
 -- How far from 0 a trip costs with low prices.
-use Rattle.std.proofs.Common.{◌≡◌, ◌≢◌, ◌⊎◌, ℕ, zero, suc, ◌+◌, ◌-◌, ◌*◌, ◌<◌, ◌≤◌, ◌^◌, ◌==◌, Bool, true, false, if◌then◌else◌, List, [], ◌∷◌, length, slice_index, sum_by, Option, Some, IfSome, None, ℤ, pos, negsuc, ◌+ℤ◌, ◌-ℤ◌, ◌*ℤ◌, inl, inr, refl, sym, ap, ◌∙◌, subst, arith}
+use Rattle.std.proofs.Common.{◌≡◌, ℕ, zero, suc, ◌+◌, ◌-◌, ◌*◌, ◌<◌, ◌≤◌, ◌^◌, ◌==◌, Bool, true, false, if◌then◌else◌, List, [], ◌∷◌, length, sum_by, Option, Some, IfSome, None, ℤ, pos, negsuc, ◌+ℤ◌, ◌-ℤ◌, ◌*ℤ◌, refl, sym, subst, arith}
 use Rattle.std.specs.List.{range_with_len}
-use Rattle.std.proofs.lemmas.Bool.{cases_eq, cases_lt}
 use Rattle.std.proofs.lemmas.Int.{ints}
-use Rattle.std.proofs.lemmas.List.{get_or_past}
 use Rattle.std.proofs.lemmas.List.Sums.{sum_by-cons}
 use Rattle.exact_sums.specs.Leasts.{IsLeast, IsLeastAt}
 use Rattle.exact_sums.proofs.ItemFacts.{All-item}
@@ -29,6 +27,7 @@ use Rattle.exact_sums.specs.Sums.{plus}
 use Rattle.plan_rules.specs.Cells.{Tally}
 use Rattle.plan_rules.specs.Loads.{AreLoads, no_trips}
 use Rattle.priced_plans.specs.Keys.{IsKeyFor}
+use Rattle.priced_plans.proofs.NodeFacts.{place_there}
 use Rattle.lagrange_bound.specs.Rounds.{cost_weight}
 use Rattle.lagrange_bound.specs.Taking.{HaveTaken, IsTakenSum}
 use Rattle.lagrange_bound.proofs.TakeFacts.{none_taken}
@@ -52,35 +51,6 @@ summed_low : (price : ℕ → ℕ) (from to : ℕ) → ((t : ℕ) → t < to →
     → summed price from to ≤ top * (to - from)
 summed_low price from to low =
     range_low price from (to - from) (λ t past before. low t (omega (arith, past, before)))
-
--- each node of a flight is a place
-node_there : (periods : ℕ) (parts : Parts) (flight : Flight)
-    → IsFlight periods parts.places parts.tables flight → (k : ℕ)
-    → (k ≡ 0) ⊎ (k ≢ 0) → (k + 1 ≡ length flight.nodes) ⊎ (k + 1 ≢ length flight.nodes)
-    → (k < length flight.nodes) ⊎ (length flight.nodes ≤ k)
-    → place_at flight k < length parts.places
-node_there periods parts flight valid k (inl first) last within =
-    subst (λ p. p < length parts.places)
-    (sym (ap (slice_index flight.nodes) first ∙ valid.route.first))
-    (has_kind-within kind.Dep parts.places flight.from valid.origin)
-node_there periods parts flight valid k (inr later) (inl last) within =
-    let end : k ≡ length flight.nodes - 1 = omega (arith, last) in
-    subst (λ p. p < length parts.places)
-    (sym (ap (slice_index flight.nodes) end ∙ valid.route.last))
-    (has_kind-within kind.Arr parts.places flight.to valid.destination)
-node_there periods parts flight valid k (inr later) (inr before) (inl within) =
-    has_kind-within kind.Sector parts.places (slice_index flight.nodes k)
-    (valid.route.sectors k (omega (arith, later)) (omega (arith, before, within)))
-node_there periods parts flight valid k (inr later) (inr before) (inr past) =
-    let some = has_kind-within kind.Dep parts.places flight.from valid.origin in
-    omega (arith, some, get_or_past flight.nodes k 0 past)
-
-pub place_there : (parts : Parts) (flight : Flight)
-    → IsFlight parts.day.periods parts.places parts.tables flight → (k : ℕ)
-    → place_at flight k < length parts.places
-place_there parts flight is k =
-    node_there parts.day.periods parts flight is k (cases_eq k 0)
-    (cases_eq (k + 1) (length flight.nodes)) (cases_lt k (length flight.nodes))
 
 module _ (parts : Parts) (table : PriceTable) (valid : IsScenario parts)
     (low : (k : PriceKey) → IsKeyFor parts k → price_at table k ≤ top) where

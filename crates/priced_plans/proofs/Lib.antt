@@ -5,7 +5,9 @@ pub mod TurnFacts
 pub mod PayFacts
 pub mod ValueFacts
 pub mod OnceFacts
+pub mod NodeFacts
 pub mod NearFacts
 pub mod SmallFacts
 pub mod RoundFacts
 pub mod WorkedPrices
+pub mod SameFacts

@@ -11,7 +11,7 @@ use Rattle.time_windows.specs.Boxes.{Box}
 use Rattle.priced_plans.specs.Values.{IsPricedSum, IsPricedValue, limit_price}
 use Rattle.priced_plans.specs.Valuing.{LacksTrip}
 
-least_once : {A : Type 0} (P : A → Type 0) (f : A → ℤ) (x y : ℤ) → IsLeastAt P f x
+pub least_once : {A : Type 0} (P : A → Type 0) (f : A → ℤ) (x y : ℤ) → IsLeastAt P f x
     → IsLeastAt P f y → x ≡ y
 least_once P f x y p q =
     let one = p.below q.reached.0 q.reached.1 in

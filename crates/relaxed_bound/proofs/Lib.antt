@@ -1,4 +1,5 @@
 pub mod LicenceFacts
 pub mod BareFacts
 pub mod PointFacts
+pub mod RowsFacts
 pub mod ToldFacts

@@ -3,7 +3,7 @@
 use Rattle.std.proofs.Common.{◌≡◌, ℕ, ◌^◌, ◌<◌, ◌≤◌, Bool, true, false, Option, List, [], ◌∷◌, length, All, if◌then◌else◌, ℤ, pos, negsuc, neg_ℤ, ◌≤ℤ◌, ◌<ℤ◌, nat_abs, unsigned_abs, refl, sym, ap, ◌∙◌, subst, arith}
 use Rattle.std.proofs.lemmas.Int.{ints}
 use Rattle.std.proofs.lemmas.List.{length-append}
-use Rattle.std.proofs.lemmas.List.Elements.{All-append, All-cons, All-nil, All-tail}
+use Rattle.std.proofs.lemmas.List.Elements.{All-append, All-nil, All-tail}
 use Rattle.std.specs.Ordering.{int_eq}
 use Rattle.exact_sums.proofs.ItemFacts.{All-item}
 use Rattle.flow_types.specs.declared.parts.Parts.{Parts}
@@ -34,36 +34,12 @@ use Rattle.relaxed_bound.specs.Licence.{IsLicensed, IsUnreached, end_of}
 use Rattle.relaxed_bound.specs.Relaxed.{HasBound, outcome_leaf, relaxed_leaf, told_leaf}
 use Rattle.relaxed_bound.specs.Telling.{AreWeights, IsRunLeaf, IsWorthOf}
 use Rattle.relaxed_bound.proofs.LicenceFacts.{licensed}
+use Rattle.relaxed_bound.proofs.RowsFacts.{kept_one, rows_each}
 
 -- a number that isn't far from 0
 near_below : (z : ℤ) → nat_abs z ≤ most_entry → unsigned_abs z < 2 ^ 62
 near_below (pos n) near = omega (arith, near)
 near_below (negsuc n) near = omega (arith, near)
-
--- what holds of each name and multiplier holds of each row
-module _ (P : Multiplier → Type 0) where
-  kept_one : (name : RowName) (multiplier : ℤ)
-      → P (record { row = name; value = unsigned_abs multiplier })
-      → All P (unless_never name multiplier)
-  kept_one name multiplier own = by (int_eq multiplier (pos 0))
-    where
-      by : (b : Bool) → All P (if b then []
-          else record { row = name; value = unsigned_abs multiplier } ∷ [])
-      by true = All-nil P
-      by false =
-          All-cons P (record { row = name; value = unsigned_abs multiplier }) [] own (All-nil P)
-
-rows_known : (parts : Parts) (names : List RowName) (multipliers : List ℤ)
-    → All (λ name. is_row parts name ≡ true) names
-    → All (λ row. is_row parts row.row ≡ true) (leaf_rows names multipliers)
-rows_known parts [] multipliers known = All-nil (λ row. is_row parts row.row ≡ true)
-rows_known parts (name ∷ names) [] known = All-nil (λ row. is_row parts row.row ≡ true)
-rows_known parts (name ∷ names) (multiplier ∷ multipliers) known =
-    All-append (λ row. is_row parts row.row ≡ true) (unless_never name multiplier)
-    (leaf_rows names multipliers)
-    (kept_one (λ row. is_row parts row.row ≡ true) name multiplier (known 0 name (omega arith)))
-    (rows_known parts names multipliers
-    (All-tail (λ n. is_row parts n ≡ true) name names known))
 
 rows_near : (names : List RowName) (multipliers : List ℤ)
     → All (λ multiplier. nat_abs multiplier ≤ most_entry) multipliers
@@ -138,8 +114,8 @@ module _ (parts : Parts) (box : Box) (outcome : Outcome) where
   known : AreKnown parts rows
   known k row at =
       All-item (λ one. is_row parts one.row ≡ true) rows k row
-      (rows_known parts (kept_of parts box) (multipliers_of program outcome)
-      (kept_are parts box)) at
+      (rows_each (λ name. is_row parts name ≡ true) (kept_of parts box)
+      (multipliers_of program outcome) (kept_are parts box)) at
 
   module _ (told : IsTold program outcome)
       (promise : IsBelowLeaf parts box program (kept_of parts box)) where
