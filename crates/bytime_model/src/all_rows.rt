@@ -14,8 +14,8 @@ use crate::rows::{goes_on, has_inside};
 use flow_types::{CapKind, OutOfMemory, Scenario, has_kind};
 use std::alloc::Global;
 
-/// The names of all rows of the day but cuts, each once: by kind in the order of `RowName`, then by
-/// their numbers from left to right. It takes 12 bytes for each name, or up to twice that, since
+/// The names of all rows of the day but cuts, each once: by kind in the order of `row_kinds`, then
+/// by their numbers from left to right. It takes 12 bytes for each name, or up to twice that, since
 /// the list grows, and time for each name and for each leg of each node. A day at the limits may
 /// have 33 million names.
 #[tactic(auto, using(crate::proofs::KindLaws::told_each, crate::proofs::KindLaws::told_order))]
@@ -171,7 +171,7 @@ fn node_count(s: &Scenario, flight: u32) -> u16
     }
 }
 
-// The same of all nodes of the flight.
+// Adds the names of the rows of this kind of all nodes of the flight.
 #[tactic(auto, using(crate::proofs::ListingFacts::listed_none))]
 fn add_nodes(
     names: &mut RowNames,
@@ -216,7 +216,7 @@ fn add_capacity(
     Ok(())
 }
 
-// The same, if the place has such capacities.
+// Adds the names of the rows of the place's capacities of this kind, if it has such ones.
 fn add_place(
     names: &mut RowNames,
     s: &Scenario,

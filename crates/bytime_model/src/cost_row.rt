@@ -1,5 +1,5 @@
 //! The cost row.
-ghost use Rattle.std.specs.Prelude.{◌≡◌, ◌+◌, ◌-◌, ◌≤◌, ◌<◌, ◌^◌, ◌++◌, Some, IfOk, OnOk, List, length, min, ◌+ℤ◌, ◌-ℤ◌};
+ghost use Rattle.std.specs.Prelude.{[], ◌≡◌, ◌+◌, ◌-◌, ◌≤◌, ◌<◌, ◌^◌, ◌++◌, Some, IfOk, OnOk, List, length, min, ◌+ℤ◌, ◌-ℤ◌};
 ghost use Rattle.flow_types.specs.declared.plan.Stop.{Stop};
 ghost use Rattle.flow_types.specs.Costs.{plan_cost};
 ghost use Rattle.flow_types.specs.Feasible.{AreTrips};
@@ -241,13 +241,26 @@ fn add_flight_terms(
     add_wait_terms(terms, s, number, flight)
 }
 
+// No terms, and room for those of all flights: so many that the list needn't grow.
+fn room_for_terms(alloc: Global, s: &Scenario) -> Result<Terms, OutOfMemory>
+    ensures { IfOk result (λ terms. terms ≡ []) }
+{
+    let mut most = 0usize;
+    for number in 0..s.flights().len() {
+        let flight = number as u32;
+        let steps = usize::from(most_late(s, flight)) + usize::from(most_wait(s, flight));
+        most = most.saturating_add(steps);
+    }
+    Ok(Terms::from_vec(Vec::with_capacity(alloc, most)?))
+}
+
 // The terms of all flights.
 #[tactic(auto, using(crate::proofs::CostFacts::terms_none, crate::proofs::CostFacts::terms_more, crate::proofs::CostFacts::terms_all))]
 fn cost_terms(alloc: Global, s: &Scenario) -> Result<Terms, OutOfMemory>
     ensures { IfOk result (λ terms. terms ≡ (cost_row (parts_of s.now)).terms) }
 {
     let flights = s.flights();
-    let mut terms = Terms::empty(alloc);
+    let mut terms = room_for_terms(alloc, s)?;
     for number in 0..flights.len() {
         add_flight_terms(&mut terms, s, number as u32, &flights[number])?;
     }

@@ -41,7 +41,7 @@ fn put_on(buffer: &mut RowBuffer, flight: u32, node: u16, time: u16, leg: Leg)
     }
 }
 
-// The same for all legs of the flight.
+// Less having entered what each leg from the node leads to.
 #[tactic(auto, using(crate::proofs::FillFacts::on_few, crate::proofs::FillFacts::filled_none, crate::proofs::FillFacts::filled_more, crate::proofs::FillFacts::filled_all))]
 fn put_all_on(buffer: &mut RowBuffer, number: u32, flight: &Flight, node: u16, time: u16)
     requires { length buffer.old.terms + length flight.now.legs ≤ most_terms }
@@ -63,7 +63,7 @@ fn put_back(buffer: &mut RowBuffer, flight: u32, node: u16, time: u16, leg: Leg)
     }
 }
 
-// The same for all legs of the flight.
+// Less having left where each leg to the node comes from in time for it.
 #[tactic(auto, using(crate::proofs::FillFacts::back_few, crate::proofs::FillFacts::filled_none, crate::proofs::FillFacts::filled_more, crate::proofs::FillFacts::filled_all))]
 fn put_all_back(buffer: &mut RowBuffer, number: u32, flight: &Flight, node: u16, time: u16)
     requires { length buffer.old.terms + length flight.now.legs ≤ most_terms }

@@ -39,7 +39,7 @@ pub fn left_of(boxes: &Boxes, s: &Scenario, variable: Var) -> Left
     left_at(boxes, s, variable)
 }
 
-// The same, by what the box says of the nodes.
+// What the box leaves of the variable, by what it says of the nodes.
 fn left_at(boxes: &Boxes, s: &Scenario, variable: Var) -> Left
     ensures { result ≡ left_of (parts_of s.now).flights (box_of boxes.now) variable }
 {

@@ -40,11 +40,12 @@
 //! rows, by their names), `Kinds` (the one list of their kinds), `AllRows` (the names of all rows,
 //! and its parts), `Order` (their order), `Visits` (who has a node at a place), `CostRow` (what a
 //! plan costs, as a sum of terms), `Left` (what a box leaves of a variable), `Columns` (a position
-//! for each variable that a tight box may leave free) and `Landing` (where a variable counts).
-//! `Filling` serves the proofs alone; `Multipliers` says how large the numbers of rows that are
-//! counted may be. `proofs/RowLaws.antt`, `proofs/SmallFacts.antt` and `proofs/AllRowsFacts.antt`
-//! are for the proofs of crates above: how large factors, limits and steps are, how long a row is,
-//! and of which names there are rows; they stand on the other files of proofs too.
+//! for each variable that a tight box may leave free), `Landing` (where a variable counts) and
+//! `Table` (positions, visits and the cost row, made once). `Filling` serves the proofs alone;
+//! `Multipliers` says how large the numbers of rows that are counted may be. `proofs/RowLaws.antt`,
+//! `proofs/SmallFacts.antt` and `proofs/AllRowsFacts.antt` are for the proofs of crates above: how
+//! large factors, limits and steps are, how long a row is, and of which names there are rows; they
+//! stand on the other files of proofs too.
 //!
 //! Proved: `fill` and `fill_with` tell whether there is a row of that name (`told`) and hold
 //! exactly it (`row`), which no plan that keeps every rule breaks (`valid`), or no terms (`none`);
@@ -64,13 +65,14 @@
 //! Memory: `RowBuffer` takes 0.2 MB once, `Visits` 8 bytes for each node of a flight and for each
 //! place, `linear_cost` 24 bytes for each period that a flight may be late or wait, `row_of` 24 for
 //! each term, and `rows_of` and the calls for its parts 12 for each name; these take up to twice
-//! that, since the lists grow. `Columns` takes 24 bytes for each of 32 nodes a flight. While it
-//! runs `row_of` takes a `RowBuffer` more, and `Visits::new` up to 28 bytes for each node and 4 for
-//! each place. The others take none. Time: for a row of a capacity, `fill` goes over the flights of
-//! the day, and `fill_with` over those that have a node at the place; for that of a sector, `fill`
-//! also goes over the nodes of each flight, and both over the legs of each flight that has a node
-//! there. For any other row both go over the legs of its flight. `Visits::new` goes over the nodes
-//! of all flights and over the places.
+//! that, since the lists grow. `Columns` takes 24 bytes for each of 32 nodes a flight, and
+//! `table_for` what `Columns`, `Visits` and the cost row take. While they run `row_of` takes a
+//! `RowBuffer` more, `Visits::new` up to 28 bytes for each node and 4 for each place, and
+//! `Columns::new` and `table_for` a root box. The others take none. Time: for a row of a capacity,
+//! `fill` goes over the flights of the day, and `fill_with` over those that have a node at the
+//! place; for that of a sector, `fill` also goes over the nodes of each flight, and both over the
+//! legs of each flight that has a node there. For any other row both go over the legs of its
+//! flight. `Visits::new` goes over the nodes of all flights and over the places.
 #![tactic(auto)]
 
 mod all_rows;

@@ -39,8 +39,8 @@ impl RowName {
     ghost use Rattle.std.specs.Prelude.{◌≡◌};
     ghost use Rattle.bytime_model.specs.Order.{is_before};
 
-    /// Whether the row comes before the other one: by kind in the order of the enum, then by the
-    /// numbers from left to right.
+    /// Whether the row comes before the other one: by kind in the order of `row_kinds`, with cuts
+    /// last, then by the numbers from left to right.
     pub fn is_before(self, other: RowName) -> bool
         ensures { result ≡ is_before self other }
     {

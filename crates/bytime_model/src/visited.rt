@@ -36,7 +36,7 @@ fn put_visit(buffer: &mut RowBuffer, kind: CapKind, time: u16, visit: Visit, fli
     }
 }
 
-// The same by its number.
+// Adds what a visit of a flight puts into the row, by the flight's number.
 fn put_visit_in(buffer: &mut RowBuffer, s: &Scenario, kind: CapKind, time: u16, visit: Visit)
     requires room { length buffer.old.terms + most_legs + 2 ≤ most_terms }
     ensures { Adds (visit_terms_in kind time (parts_of s.now).flights visit)
@@ -77,7 +77,8 @@ fn put_visited(
     put_visits(buffer, s, visits.at(place), kind, time);
 }
 
-/// The same, by the visits where they are known, and else flight by flight.
+/// Adds what all flights put into the row of the place: by the visits where they are known, and else
+/// flight by flight.
 pub fn put_taken(
     buffer: &mut RowBuffer,
     s: &Scenario,

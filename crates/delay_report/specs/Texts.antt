@@ -30,7 +30,7 @@ abbrev pub bound_word : Bound → List ℕ
 bound_word NoPlan = codes "none"
 bound_word (AtLeast least) = signed_decimal least
 
--- four lines: the status, the cost, the bound, and how many nodes the search has
+-- four lines: the status, the cost, the bound, and how many nodes the tree has
 abbrev pub claim_text : Option ℤ → Bound → ℕ → List ℕ
 claim_text cost bound nodes =
     line_text (codes "status,") (outcome_word (outcome_of cost bound))

@@ -18,8 +18,8 @@
 //! `plan_report` gives the claim's four lines and a line for each trip of its plan, `claim_report`
 //! the four lines alone, and `broken_line` and `keeps_line` what is printed of a plan that was
 //! judged: each byte by byte as in `specs/Texts.antt` and `specs/Verdicts.antt`. A report is read
-//! as its plan (`reports_are_read_as_their_plans`), and two of the same bytes tell the same claim
-//! (`reports_tell_their_claims`).
+//! as its plan (`reports_are_read_as_their_plans`), and two of the same bytes tell the same cost,
+//! bound and number of nodes (`reports_tell_their_claims`).
 //!
 //! Memory: the text that is made, and one line. Time: the length of the text.
 #![tactic(auto)]

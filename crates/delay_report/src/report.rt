@@ -29,8 +29,9 @@ pub fn claim_report(alloc: Global, claim: &Claim<'_>) -> Result<Vec<u8>, OutOfMe
     Ok(out)
 }
 
-/// The text of a claim: its four lines, and a line for each trip of its plan, if it has one. It
-/// takes memory for the text and for a line.
+/// The text of a claim: its four lines, and a line for each flight's trip, if it has a plan. It
+/// prints what the claim says; that this is so of the plan is said of `Claim::of`. It takes memory
+/// for the text and for a line.
 pub fn plan_report(alloc: Global, s: &Scenario, claim: &Claim<'_>) -> Result<Vec<u8>, OutOfMemory>
     ensures { IfOk result
         (λ text. text.items ≡ claim_text claim.now.cost claim.now.bound claim.now.nodes

@@ -39,6 +39,8 @@
 //! For a Lag leaf the prices are set that its multipliers are, and then each flight's least trip is
 //! found under them: whole trips, where a Dual leaf looks at one variable at a time.
 //!
+//! `table` lends the positions of variables, the visits and the cost row, which programs borrow.
+//!
 //! Memory: 20 bytes for each variable that the tight root box leaves free (0.4 GB for the largest
 //! days), 24 for each of 32 nodes a flight and each period by which it may be late or wait,
 //! `Visits`, `Loads`, `Prices`, and 1.1 MB; `leaf_bound` takes none. Time: for a Dual leaf the

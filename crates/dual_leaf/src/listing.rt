@@ -128,11 +128,11 @@ pub fn lag_leaf(
     Ok(Leaf::Lag { weight, rows })
 }
 
-/// The Lag leaf of weight 0 whose multipliers are the prices, as above. In any box in which every
-/// node is open that must be entered, and in which the value of the prices at this weight is above
-/// 0, its bound is that there is no plan.
+/// The Lag leaf of weight 0 whose multipliers are the prices, each by its row, in the order of rows.
+/// In any box in which every node is open that must be entered, and in which the value of the prices
+/// at this weight is above 0, its bound is that there is no plan.
 ///
-/// What it needs and takes is as above.
+/// The prices are as `lag_leaf` wants them, and the leaf takes what that one takes.
 pub fn closing_leaf(alloc: Global, s: &Scenario, prices: &Prices) -> Result<Leaf, OutOfMemory>
     requires prices { ArePricesOf (parts_of s.now) prices.now }
     requires placed { ArePlaced (parts_of s.now) prices.now }

@@ -102,7 +102,7 @@ fn add_staying(
     Ok(())
 }
 
-// The same, if there are such variables.
+// Adds the variables of being inside the node, if there are such ones.
 fn add_inside(
     columns: &mut Vars,
     s: &Scenario,

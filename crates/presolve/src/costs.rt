@@ -49,7 +49,7 @@ fn value_at(entries: &[Entry], place: usize, column: usize) -> i64
     }
 }
 
-// The same place for the next column.
+// The place of the first entry that isn't before the next column.
 #[tactic(auto, using(crate::proofs::RowEntries::walks_on, crate::proofs::RowEntries::walks_none))]
 fn next_place(entries: &[Entry], place: usize, column: usize) -> usize
     requires row { IsRow entries.now }

@@ -18,8 +18,7 @@
 //! no plan of that cost or more needs no better bound.
 //!
 //! The definitions stand in `specs/`: `Relaxed` (the leaf that the run of the box's program tells),
-//! `Point` (its point), `Reached` (when a bound leaves nothing to be gained) and `Licence` (why a
-//! box may be split). `Telling` serves the proof.
+//! `Point` (its point) and `Licence` (why a box may be split). `Telling` serves the proof.
 //!
 //! Proved of `relax`: the leaf is exactly the Dual leaf whose weight and multipliers the run tells
 //! (`leaf`), and how the run ended is told (`end`). However it ended, the leaf's numbers are in

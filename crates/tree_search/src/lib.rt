@@ -22,7 +22,7 @@
 //! tells more; and else it is split.
 //!
 //! The definitions stand in `specs/`: `Records` (what is handed back), `Nodes` (what is known of
-//! each node), `Bounds` (the least of bounds) and `Budgets` (a number of nodes that is enough).
+//! each node) and `Budgets` (a number of nodes that is enough).
 //! `Ways`, `Drafts`, `Visits`, `Seen`, `Rooms` and `Searching` serve the proofs.
 //!
 //! Proved: `search` hands back a record (`record`), and no plan in the box that keeps every rule

@@ -1,4 +1,4 @@
-//! Adding what plans cost to the sums of a leaf.
+//! Adding what plans cost to the sums.
 ghost use Rattle.std.specs.Prelude.{◌≡◌, ◌≤◌, ◌<◌, ◌+◌, ◌*◌, ◌-◌, ◌^◌, ◌++◌, length, pos, unsigned_abs, ◌*ℤ◌};
 ghost use Rattle.flow_types.specs.Scenario.{flight_at, parts_of};
 ghost use Rattle.bytime_model.specs.CostRow.{cost_row, late_step_at, late_variable, most_late_at, most_wait_at, priced_value, steps, wait_step_at, wait_variable};
@@ -133,7 +133,7 @@ fn constant_times(s: &Scenario, weight: u64) -> i128
     i128::from(weight) * i128::from(constant_of(s))
 }
 
-// The same, which isn't far from 0.
+// So many times the constant, which isn't far from 0.
 #[tactic(auto, using(crate::proofs::CostGrowFacts::constant_within))]
 fn constant_share(s: &Scenario, weight: u64) -> i128
     requires weight { weight < 2 ^ 62 }

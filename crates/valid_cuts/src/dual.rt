@@ -1,4 +1,4 @@
-//! What a Dual leaf comes to, and the bound that follows.
+//! What a list of rows comes to beside the cost.
 ghost use Rattle.std.specs.Prelude.{◌≡◌, ◌≢◌, ◌≤◌, ◌<◌, ◌+◌, ◌^◌, All, IfOk, MatchOption, length, pos, unsigned_abs};
 ghost use Rattle.flow_types.specs.Scenario.{parts_of};
 ghost use Rattle.time_windows.specs.Held.{box_of};

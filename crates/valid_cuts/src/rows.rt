@@ -1,4 +1,4 @@
-//! Adding rows to the sums of a leaf.
+//! Adding rows to the sums.
 ghost use Rattle.std.specs.Prelude.{◌≡◌, ◌≤◌, ◌<◌, ◌+◌, ◌*◌, ◌^◌, All, MatchOption, false, true, length, pos, neg_ℤ, unsigned_abs, ◌*ℤ◌};
 ghost use Rattle.flow_types.specs.Limits.{most_capacity};
 ghost use Rattle.flow_types.specs.Scenario.{parts_of};

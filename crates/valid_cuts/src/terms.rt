@@ -1,4 +1,4 @@
-//! Adding terms to the sums of a leaf.
+//! Adding terms to the sums.
 ghost use Rattle.std.specs.Prelude.{◌≡◌, ◌≤◌, ◌<◌, ◌+◌, ◌*◌, ◌^◌, All, length, pos, unsigned_abs, ◌*ℤ◌};
 ghost use Rattle.flow_types.specs.Scenario.{parts_of};
 ghost use Rattle.bytime_model.specs.Values.{form_value};
