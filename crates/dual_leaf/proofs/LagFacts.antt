@@ -1,7 +1,8 @@
 -- Multipliers that are prices, and what they say of a box.
-use Rattle.std.proofs.Common.{◌≡◌, ◌≢◌, ◌⊎◌, ℕ, ◌+◌, ◌<◌, ◌≤◌, ◌^◌, true, false, Bool, if◌then◌else◌, List, [], ◌∷◌, ◌++◌, All, length, take, get_or, slice_get, Option, None, Some, IfOk, Result, Ok, Err, pos, ◌*ℤ◌, refl, sym, ap, ◌∙◌, subst, inl, inr, arith}
+use Rattle.std.proofs.Common.{◌≡◌, ◌≢◌, ◌⊎◌, ℕ, ◌+◌, ◌<◌, ◌≤◌, ◌^◌, true, false, Bool, ◌&&◌, nat_lt, if◌then◌else◌, List, [], ◌∷◌, ◌++◌, All, length, take, get_or, slice_get, Option, None, Some, IfOk, Result, Ok, Err, pos, ◌*ℤ◌, refl, sym, ap, ◌∙◌, subst, inl, inr, arith}
 use Rattle.std.proofs.lemmas.Int.{ints}
 use Rattle.std.proofs.lemmas.Bool.{cases_lt}
+use Rattle.std.proofs.lemmas.Bool.Decides.{nat_tests}
 use Rattle.std.proofs.lemmas.Option.{get_or_from_slice_get, slice_get-get_or}
 use Rattle.std.proofs.lemmas.List.Elements.{All-head, All-tail}
 use Rattle.std.proofs.Math.IntN.{*ℤ_comm, zero-*ℤ}
@@ -9,20 +10,29 @@ use Rattle.std.proofs.lemmas.List.{take_more}
 use Rattle.flow_types.specs.declared.bound.Bound.{Bound}
 use Rattle.flow_types.specs.declared.bound.Bound.TheVariants.{AtLeast, NoPlan}
 use Rattle.flow_types.specs.declared.bound.PriceKey.{PriceKey}
+use Rattle.flow_types.specs.declared.bound.PriceKind.TheVariants.{Capacity, Connection as Connected}
 use Rattle.flow_types.specs.declared.parts.Parts.{Parts}
+use Rattle.flow_types.specs.declared.place.CapKind.{CapKind}
+use Rattle.flow_types.specs.declared.place.CapKind.TheVariants as cap
+use Rattle.flow_types.specs.Capacities.{has_kind}
 use Rattle.flow_types.specs.Costs.{plan_cost}
 use Rattle.flow_types.specs.Valid.{IsScenario}
-use Rattle.flight_routes.specs.Prices.{PriceTable, price_at}
+use Rattle.flow_types.proofs.PlaceFacts.{has_kind-within}
+use Rattle.flight_routes.specs.Prices.{PriceTable, key_in, kind_number, price_at}
+use Rattle.priced_plans.specs.Keys.{IsKeyFor}
 use Rattle.priced_plans.specs.Valuing.{AreSmall}
-use Rattle.priced_plans.specs.Keys.{number_in, period_in, row_in}
 use Rattle.priced_plans.proofs.KeyFacts.{itself, key_at}
 use Rattle.priced_plans.proofs.SmallFacts.{key_moved}
 use Rattle.priced_plans.proofs.ValueFacts.{none-inside, value-below}
 use Rattle.time_windows.specs.Boxes.{Box}
 use Rattle.bytime_model.specs.declared.multiplier.Multiplier.{Multiplier}
+use Rattle.bytime_model.specs.declared.names.RowName.{RowName}
+use Rattle.bytime_model.specs.declared.names.RowName.TheVariants.{Arr, Connect, Cut, Dep, Enter, Leave, Mono, Occupy, Sector, Top}
+use Rattle.bytime_model.specs.Rows.{is_capacity}
 use Rattle.dual_leaf.specs.declared.fault.LeafFault.{LeafFault}
-use Rattle.dual_leaf.specs.Lag.{ArePricedBy, IsFirstUnpriceable, IsSetBy, is_key, is_priceable, key_of, set_by, set_on}
+use Rattle.dual_leaf.specs.Lag.{ArePricedBy, IsFirstUnpriceable, IsSetBy, is_key, is_priceable, set_by, set_on}
 use Rattle.dual_leaf.specs.Leaf.{IsTableSaid}
+use Rattle.dual_leaf.specs.PriceRows.{key_of}
 use Rattle.time_windows.specs.Plans.{IsBoundIn}
 
 pub set-more : (rows : List Multiplier) (m : Multiplier) (at : PriceKey) (price : ℕ)
@@ -60,6 +70,50 @@ first-unpriceable parts rows i d within before here = record {
   before = before;
 }
 
+-- what a price of a row is put on is there, where the row may have a price
+both_true : (a b : Bool) → (a && b) ≡ true → (a ≡ true) × (b ≡ true)
+both_true true b is = (refl, is)
+both_true false b is = absurd (let e : false ≡ true = is in cc)
+
+below : (a b : ℕ) → nat_lt a b ≡ true → a < b
+below a b is = grind (arith, nat_tests)
+
+capacity_there : (parts : Parts) (kind : CapKind) (place period : ℕ)
+    → is_capacity parts kind place period ≡ true
+    → IsKeyFor parts (key_in (Capacity kind) place period)
+capacity_there parts kind place period is =
+    let both = both_true (has_kind kind (slice_get parts.places place)) _ is in
+    (has_kind-within kind parts.places place both.0, below period parts.day.periods both.1)
+
+none_there : {A : Type 0} (k : PriceKey) → None ≡ Some k → A
+none_there k is = absurd (let e : None ≡ Some k = is in cc)
+
+some_there : (parts : Parts) (key k : PriceKey) → IsKeyFor parts key → Some key ≡ Some k
+    → IsKeyFor parts k
+some_there parts key k there is = let same : key ≡ k = cc in subst (IsKeyFor parts) same there
+
+pub key_there : (parts : Parts) (name : RowName) (k : PriceKey) → key_of name ≡ Some k
+    → is_priceable parts name ≡ true → IsKeyFor parts k
+key_there parts (Dep place period) k is may =
+    some_there parts (key_in (Capacity cap.Dep) place period) k
+    (capacity_there parts cap.Dep place period may) is
+key_there parts (Arr place period) k is may =
+    some_there parts (key_in (Capacity cap.Arr) place period) k
+    (capacity_there parts cap.Arr place period may) is
+key_there parts (Sector place period) k is may =
+    some_there parts (key_in (Capacity cap.Sector) place period) k
+    (capacity_there parts cap.Sector place period may) is
+key_there parts (Connect connection period) k is may =
+    let both = both_true (nat_lt connection (length parts.connections)) _ may in
+    some_there parts (key_in Connected connection period) k
+    (below connection (length parts.connections) both.0, below period parts.day.periods both.1) is
+key_there parts (Mono flight node period) k is may = none_there k is
+key_there parts (Top flight node) k is may = none_there k is
+key_there parts (Occupy flight node period) k is may = none_there k is
+key_there parts (Enter flight node period) k is may = none_there k is
+key_there parts (Leave flight node) k is may = none_there k is
+key_there parts (Cut index) k is may = none_there k is
+
 -- one price is set
 pub one-set : (m : Multiplier) (named : PriceKey) (old new : PriceTable) (at : PriceKey)
     → key_of m.row ≡ Some named → price_at new named ≡ m.value
@@ -75,7 +129,7 @@ one-set m named old new at is here others =
     by false other = others (λ same. absurd (cc (
       other,
       subst (λ o. is_key named o ≡ true) (sym same)
-          (itself (number_in named) (row_in named) (period_in named)),
+          (itself (kind_number named.kind) named.row named.period),
     )))
 
 pub set-next : (rows : List Multiplier) (k : ℕ) (d : Multiplier) (at : PriceKey)

@@ -6,26 +6,30 @@ use Rattle.std.proofs.lemmas.List.{length_push}
 use Rattle.std.proofs.lemmas.List.Elements.{All-push, All-weaker}
 use Rattle.std.proofs.lemmas.List.Quantifiers.{all_pairs_push}
 use Rattle.flow_types.specs.declared.bound.PriceKey.{PriceKey}
-use Rattle.flow_types.specs.declared.bound.PriceKey.TheVariants as key
+use Rattle.flow_types.specs.declared.bound.PriceKind.{PriceKind}
+use Rattle.flow_types.specs.declared.bound.PriceKind.TheVariants.{Capacity, Connection as Connected}
 use Rattle.flow_types.specs.declared.parts.Parts.{Parts}
+use Rattle.flow_types.specs.declared.place.CapKind.TheVariants as cap
 use Rattle.flow_types.specs.Valid.{IsScenario}
-use Rattle.flight_routes.specs.Prices.{PriceTable, price_at}
-use Rattle.priced_plans.specs.declared.kinds.PriceKind.{PriceKind}
-use Rattle.priced_plans.specs.declared.kinds.PriceKind.TheVariants.{Arrival, Departure, Stay, Turn}
-use Rattle.priced_plans.specs.Keys.{ArePlaced, IsKeyFor, has_limit, kind_number, number_in, period_in, row_in, rows_of}
-use Rattle.priced_plans.proofs.KeyFacts.{itself, key_at, period_within, row_within}
+use Rattle.flight_routes.specs.Prices.{PriceTable, key_in, kind_number, price_at, row_count}
+use Rattle.priced_plans.specs.Keys.{ArePlaced, IsKeyFor, has_limit, is_limited}
+use Rattle.priced_plans.proofs.KeyFacts.{itself, key_at, row_within}
 use Rattle.bytime_model.specs.Order.{IsBefore}
 use Rattle.bytime_model.specs.declared.multiplier.Multiplier.{Multiplier}
-use Rattle.dual_leaf.specs.Lag.{is_key, is_priceable, key_of, set_by, set_on}
+use Rattle.dual_leaf.specs.Lag.{is_key, is_priceable, set_by, set_on}
 use Rattle.dual_leaf.proofs.LagFacts.{set-more}
-use Rattle.dual_leaf.specs.PriceLeaf.{row_of}
+use Rattle.dual_leaf.specs.PriceRows.{key_of, row_at, row_of}
 use Rattle.dual_leaf.specs.Listing.{IsListed, IsNamedBelow, is_listed, most_listed}
 
 named : (k : PriceKey) → key_of (row_of k) ≡ Some k
-named (key.Dep place period) = refl
-named (key.Arr place period) = refl
-named (key.Sector place period) = refl
-named (key.Connect connection period) = refl
+named k = by k.kind k.row k.period
+  where
+    by : (kind : PriceKind) (row period : ℕ)
+        → key_of (row_at kind row period) ≡ Some (key_in kind row period)
+    by (Capacity cap.Dep) row period = refl
+    by (Capacity cap.Arr) row period = refl
+    by (Capacity cap.Sector) row period = refl
+    by Connected row period = refl
 
 and_true : (a b : Bool) → a ≡ true → b ≡ true → (a && b) ≡ true
 and_true true true first second = refl
@@ -45,19 +49,23 @@ limited parts table k placed within some = by (has_limit parts k) refl where
 
 priceable : (parts : Parts) (k : PriceKey) → IsKeyFor parts k → has_limit parts k ≡ true
     → is_priceable parts (row_of k) ≡ true
-priceable parts (key.Dep place period) within limit =
-    and_true (has_limit parts (key.Dep place period)) (nat_lt period parts.day.periods) limit
-    (is_less period parts.day.periods within.1)
-priceable parts (key.Arr place period) within limit =
-    and_true (has_limit parts (key.Arr place period)) (nat_lt period parts.day.periods) limit
-    (is_less period parts.day.periods within.1)
-priceable parts (key.Sector place period) within limit =
-    and_true (has_limit parts (key.Sector place period)) (nat_lt period parts.day.periods) limit
-    (is_less period parts.day.periods within.1)
-priceable parts (key.Connect connection period) within limit =
-    and_true (nat_lt connection (length parts.connections)) (nat_lt period parts.day.periods)
-    (is_less connection (length parts.connections) within.0)
-    (is_less period parts.day.periods within.1)
+priceable parts k within limit = by k.kind k.row k.period within.0 within.1 limit
+  where
+    by : (kind : PriceKind) (row period : ℕ) → row < row_count parts kind
+        → period < parts.day.periods → is_limited parts kind row ≡ true
+        → is_priceable parts (row_at kind row period) ≡ true
+    by (Capacity cap.Dep) row period there in_day has =
+        and_true (is_limited parts (Capacity cap.Dep) row) (nat_lt period parts.day.periods) has
+        (is_less period parts.day.periods in_day)
+    by (Capacity cap.Arr) row period there in_day has =
+        and_true (is_limited parts (Capacity cap.Arr) row) (nat_lt period parts.day.periods) has
+        (is_less period parts.day.periods in_day)
+    by (Capacity cap.Sector) row period there in_day has =
+        and_true (is_limited parts (Capacity cap.Sector) row) (nat_lt period parts.day.periods)
+        has (is_less period parts.day.periods in_day)
+    by Connected row period there in_day has =
+        and_true (nat_lt row (length parts.connections)) (nat_lt period parts.day.periods)
+        (is_less row (length parts.connections) there) (is_less period parts.day.periods in_day)
 
 -- what holds of each item, and of one more
 pushed-each : {A : Type 0} (xs : List A) (x : A) (P : A → Type 0)
@@ -115,24 +123,29 @@ less row period r t before = grind (arith, nat_tests)
 never_before : {A : Type 0} → false ≡ true → A
 never_before is = absurd (let e : false ≡ true = is in cc)
 
-rows_before : (j k : PriceKey) → is_listed (number_in k) (row_in k) (period_in k) j ≡ true
+rows_before : (j k : PriceKey) → is_listed (kind_number k.kind) k.row k.period j ≡ true
     → IsBefore (row_of j) (row_of k)
-rows_before (key.Dep p u) (key.Dep q t) before = less p u q t before
-rows_before (key.Dep p u) (key.Arr q t) before = refl
-rows_before (key.Dep p u) (key.Sector q t) before = refl
-rows_before (key.Dep p u) (key.Connect q t) before = refl
-rows_before (key.Arr p u) (key.Dep q t) before = never_before before
-rows_before (key.Arr p u) (key.Arr q t) before = less p u q t before
-rows_before (key.Arr p u) (key.Sector q t) before = refl
-rows_before (key.Arr p u) (key.Connect q t) before = refl
-rows_before (key.Sector p u) (key.Dep q t) before = never_before before
-rows_before (key.Sector p u) (key.Arr q t) before = never_before before
-rows_before (key.Sector p u) (key.Sector q t) before = less p u q t before
-rows_before (key.Sector p u) (key.Connect q t) before = refl
-rows_before (key.Connect p u) (key.Dep q t) before = never_before before
-rows_before (key.Connect p u) (key.Arr q t) before = never_before before
-rows_before (key.Connect p u) (key.Sector q t) before = never_before before
-rows_before (key.Connect p u) (key.Connect q t) before = less p u q t before
+rows_before j k before = by j.kind k.kind j.row j.period k.row k.period before
+  where
+    by : (a b : PriceKind) (p u q t : ℕ)
+        → is_listed (kind_number b) q t (key_in a p u) ≡ true
+        → IsBefore (row_at a p u) (row_at b q t)
+    by (Capacity cap.Dep) (Capacity cap.Dep) p u q t before = less p u q t before
+    by (Capacity cap.Dep) (Capacity cap.Arr) p u q t before = refl
+    by (Capacity cap.Dep) (Capacity cap.Sector) p u q t before = refl
+    by (Capacity cap.Dep) Connected p u q t before = refl
+    by (Capacity cap.Arr) (Capacity cap.Dep) p u q t before = never_before before
+    by (Capacity cap.Arr) (Capacity cap.Arr) p u q t before = less p u q t before
+    by (Capacity cap.Arr) (Capacity cap.Sector) p u q t before = refl
+    by (Capacity cap.Arr) Connected p u q t before = refl
+    by (Capacity cap.Sector) (Capacity cap.Dep) p u q t before = never_before before
+    by (Capacity cap.Sector) (Capacity cap.Arr) p u q t before = never_before before
+    by (Capacity cap.Sector) (Capacity cap.Sector) p u q t before = less p u q t before
+    by (Capacity cap.Sector) Connected p u q t before = refl
+    by Connected (Capacity cap.Dep) p u q t before = never_before before
+    by Connected (Capacity cap.Arr) p u q t before = never_before before
+    by Connected (Capacity cap.Sector) p u q t before = never_before before
+    by Connected Connected p u q t before = less p u q t before
 
 pick : (was here now : Bool) (price value sum : ℕ) → now ≡ (was || here)
     → sum ≡ (if was then price else 0) → (here ≡ true → value ≡ price)
@@ -180,7 +193,7 @@ module _ (parts : Parts) (table : PriceTable) where
   pub listed-start : IsListed parts table 0 0 0 []
   listed-start = record {
     priceable = λ k multiplier at. absurd (let e : None ≡ Some multiplier = at in cc);
-    each = λ k within. none k (number_in k) (row_in k) (period_in k);
+    each = λ k within. none k (kind_number k.kind) k.row k.period;
     positive = λ k d within. absurd (omega (arith, within));
     ascending = λ i j d before within. absurd (omega (arith, within));
     named = λ k d within. absurd (omega (arith, within));
@@ -203,39 +216,48 @@ module _ (parts : Parts) (table : PriceTable) where
       → IsListed parts table (kind_number kind) (r + 1) 0 rows
   row-ended kind r rows valid is =
       listed-same (kind_number kind) r parts.day.periods (kind_number kind) (r + 1) 0 rows is
-      (λ k within. row_end (kind_number kind) r parts.day.periods (number_in k) (row_in k)
-      (period_in k) (period_within parts k within))
+      (λ k within. row_end (kind_number kind) r parts.day.periods (kind_number k.kind) k.row
+      k.period within.1)
       (let day = valid.day.periods_to in omega (arith, day))
 
-  most_rows : (kind : PriceKind) → IsScenario parts → rows_of parts kind ≤ 2 ^ 20
-  most_rows Departure valid = let few = valid.places.few in omega (arith, few)
-  most_rows Arrival valid = let few = valid.places.few in omega (arith, few)
-  most_rows Stay valid = let few = valid.places.few in omega (arith, few)
-  most_rows Turn valid = let few = valid.connections.few in omega (arith, few)
+  most_rows : (kind : PriceKind) → IsScenario parts → row_count parts kind ≤ 2 ^ 20
+  most_rows (Capacity kind) valid = let few = valid.places.few in omega (arith, few)
+  most_rows Connected valid = let few = valid.connections.few in omega (arith, few)
 
   pub kind-ended : (kind : PriceKind) (rows : List Multiplier) → IsScenario parts
-      → IsListed parts table (kind_number kind) (rows_of parts kind) 0 rows
+      → IsListed parts table (kind_number kind) (row_count parts kind) 0 rows
       → IsListed parts table (kind_number kind + 1) 0 0 rows
   kind-ended kind rows valid is =
-      listed-same (kind_number kind) (rows_of parts kind) 0 (kind_number kind + 1) 0 0 rows is
-      (λ k within. kind_end (kind_number kind) (rows_of parts kind) (number_in k) (row_in k)
-      (period_in k) (row_within parts kind k within))
+      listed-same (kind_number kind) (row_count parts kind) 0 (kind_number kind + 1) 0 0 rows is
+      (λ k within. kind_end (kind_number kind) (row_count parts kind) (kind_number k.kind) k.row
+      k.period (row_within parts kind k within))
       (let few = most_rows kind valid in omega (arith, few))
+
+  -- at the next kind
+  pub kind-starts : (at : ℕ) (kind : PriceKind) (rows : List Multiplier) → kind_number kind ≡ at
+      → IsListed parts table at 0 0 rows → IsListed parts table (kind_number kind) 0 0 rows
+  kind-starts at kind rows is listed =
+      subst (λ n. IsListed parts table n 0 0 rows) (sym is) listed
+
+  pub kind-ends : (at : ℕ) (kind : PriceKind) (rows : List Multiplier) → kind_number kind ≡ at
+      → IsListed parts table (kind_number kind + 1) 0 0 rows → IsListed parts table (at + 1) 0 0 rows
+  kind-ends at kind rows is listed =
+      subst (λ n. IsListed parts table (n + 1) 0 0 rows) is listed
 
   -- the price of a key, if there is one
   module _ (k : PriceKey) where
     abbrev n : ℕ
-    n = number_in k
+    n = kind_number k.kind
 
     abbrev r : ℕ
-    r = row_in k
+    r = k.row
 
     abbrev t : ℕ
-    t = period_in k
+    t = k.period
 
     here_now : (other : PriceKey) → is_listed n r (t + 1) other
         ≡ (is_listed n r t other || is_key k other)
-    here_now other = one_more n r t (number_in other) (row_in other) (period_in other)
+    here_now other = one_more n r t (kind_number other.kind) other.row other.period
 
     -- what came before comes before the next one
     further : (rows : List Multiplier) → All (IsNamedBelow parts n r t) rows

@@ -1,12 +1,12 @@
 -- The listed prices are a Lag leaf, whose bound is what they tell.
-use Rattle.std.proofs.Common.{◌≡◌, ℕ, ◌<◌, true, List, Ok, if◌then◌else◌, refl, sym, ap, ◌∙◌, subst, inl, inr, arith}
+use Rattle.std.proofs.Common.{◌≡◌, ℕ, ◌<◌, true, ◌&&◌, ◌||◌, nat_eq, nat_lt, List, Ok, if◌then◌else◌, refl, sym, ap, ◌∙◌, subst, inl, inr, arith}
+use Rattle.std.proofs.lemmas.Bool.Decides.{nat_tests}
 use Rattle.flow_types.specs.declared.bound.Bound.{Bound}
 use Rattle.flow_types.specs.declared.bound.Bound.TheVariants.{AtLeast, NoPlan}
 use Rattle.flow_types.specs.declared.bound.PriceKey.{PriceKey}
-use Rattle.flow_types.specs.declared.bound.PriceKey.TheVariants as key
 use Rattle.flow_types.specs.declared.parts.Parts.{Parts}
-use Rattle.flight_routes.specs.Prices.{ArePricesOf, IsKeyOf, PriceTable, price_at}
-use Rattle.priced_plans.specs.Keys.{IsKeyFor}
+use Rattle.flight_routes.specs.Prices.{ArePricesOf, PriceTable, kind_number, price_at}
+use Rattle.priced_plans.proofs.KeyFacts.{key_back, kind_below}
 use Rattle.priced_plans.specs.PricedBound.{IsPricedBound}
 use Rattle.time_windows.specs.Boxes.{Box}
 use Rattle.branch_tree.specs.declared.leaf.Leaf.{Leaf}
@@ -16,22 +16,12 @@ use Rattle.dual_leaf.specs.Leaf.{IsLeafBound, IsTableSaid}
 use Rattle.dual_leaf.specs.PriceLeaf.{Closes, IsLagOf, TellsAs}
 use Rattle.dual_leaf.specs.Listing.{IsListed, is_listed}
 
-key_for : (parts : Parts) (table : PriceTable) (k : PriceKey) → ArePricesOf parts table
-    → IsKeyOf table k → IsKeyFor parts k
-key_for parts table (key.Dep place period) are is =
-    (omega (arith, are.departures.wide, is.within), omega (arith, are.departures.long, is.in_day))
-key_for parts table (key.Arr place period) are is =
-    (omega (arith, are.arrivals.wide, is.within), omega (arith, are.arrivals.long, is.in_day))
-key_for parts table (key.Sector place period) are is =
-    (omega (arith, are.inside.wide, is.within), omega (arith, are.inside.long, is.in_day))
-key_for parts table (key.Connect connection period) are is =
-    (omega (arith, are.turns.wide, is.within), omega (arith, are.turns.long, is.in_day))
-
 all_listed : (k : PriceKey) → is_listed 4 0 0 k ≡ true
-all_listed (key.Dep place period) = refl
-all_listed (key.Arr place period) = refl
-all_listed (key.Sector place period) = refl
-all_listed (key.Connect connection period) = refl
+all_listed k = listed (kind_number k.kind) k.row k.period (kind_below k.kind)
+  where
+    listed : (number row period : ℕ) → number < 4 → (nat_lt number 4 || (nat_eq number 4
+        && (nat_lt row 0 || (nat_eq row 0 && nat_lt period 0)))) ≡ true
+    listed number row period less = grind (arith, nat_tests)
 
 pub lag-of : (parts : Parts) (weight : ℕ) (table : PriceTable) (rows : List Multiplier)
     → ArePricesOf parts table → IsListed parts table 4 0 0 rows
@@ -44,7 +34,7 @@ lag-of parts weight table rows are listed = record {
   ascending = listed.ascending;
   priced = record {
     size = are;
-    each = λ k is. sym (listed.each k (key_for parts table k are is)
+    each = λ k is. sym (listed.each k (key_back parts table k are is)
         ∙ ap (λ b. if b then price_at table k else 0) (all_listed k));
   };
 }

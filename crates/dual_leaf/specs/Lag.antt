@@ -2,22 +2,13 @@
 -- rows are of. The value of prices, and that it is a bound, are those of `priced_plans`.
 use Rattle.std.specs.Prelude.{◌≡◌, ℕ, ◌<◌, Bool, false, true, ◌&&◌, is_some, if◌then◌else◌, List, [], ◌∷◌, Option, None, Some, slice_get}
 use Rattle.flow_types.specs.declared.bound.PriceKey.{PriceKey}
-use Rattle.flow_types.specs.declared.bound.PriceKey.TheVariants as key
 use Rattle.flow_types.specs.declared.parts.Parts.{Parts}
-use Rattle.flight_routes.specs.Prices.{ArePricesOf, IsKeyOf, PriceTable, price_at}
-use Rattle.priced_plans.specs.Keys.{is_at, number_in, period_in, row_in}
+use Rattle.flight_routes.specs.Prices.{ArePricesOf, IsKeyOf, PriceTable, kind_number, price_at}
+use Rattle.priced_plans.specs.Keys.{is_at}
 use Rattle.bytime_model.specs.declared.names.RowName.{RowName}
-use Rattle.bytime_model.specs.declared.names.RowName.TheVariants.{Arr, Connect, Dep, Sector}
 use Rattle.bytime_model.specs.Rows.{is_row}
 use Rattle.bytime_model.specs.declared.multiplier.Multiplier.{Multiplier}
-
--- what a price of the row is put on; rows that aren't of a capacity or a connection have none
-abbrev pub key_of : RowName → Option PriceKey
-key_of (Dep place period) = Some (key.Dep place period)
-key_of (Arr place period) = Some (key.Arr place period)
-key_of (Sector place period) = Some (key.Sector place period)
-key_of (Connect connection period) = Some (key.Connect connection period)
-key_of name = None
+use Rattle.dual_leaf.specs.PriceRows.{key_of}
 
 -- the row is there, and may have a price
 abbrev pub is_priceable : Parts → RowName → Bool
@@ -38,7 +29,7 @@ pub record IsFirstUnpriceable (parts : Parts) (rows : List Multiplier) (position
 
 -- the key is the one that is named
 abbrev pub is_key : PriceKey → PriceKey → Bool
-is_key named key = is_at (number_in named) (row_in named) (period_in named) key
+is_key named key = is_at (kind_number named.kind) named.row named.period key
 
 -- a price after it was set on what is named, if that is what it is put on
 abbrev pub set_on : Option PriceKey → ℕ → PriceKey → ℕ → ℕ

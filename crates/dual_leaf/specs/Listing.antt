@@ -3,19 +3,19 @@
 use Rattle.std.specs.Prelude.{◌≡◌, ℕ, ◌+◌, ◌*◌, ◌^◌, ◌<◌, ◌≤◌, Bool, true, ◌&&◌, ◌||◌, nat_eq, nat_lt, if◌then◌else◌, List, All, length}
 use Rattle.flow_types.specs.declared.bound.PriceKey.{PriceKey}
 use Rattle.flow_types.specs.declared.parts.Parts.{Parts}
-use Rattle.flight_routes.specs.Prices.{PriceTable, price_at}
-use Rattle.priced_plans.specs.Keys.{IsKeyFor, number_in, period_in, row_in}
+use Rattle.flight_routes.specs.Prices.{PriceTable, kind_number, price_at}
+use Rattle.priced_plans.specs.Keys.{IsKeyFor}
 use Rattle.bytime_model.specs.declared.multiplier.Multiplier.{Multiplier}
 use Rattle.dual_leaf.specs.Lag.{ArePriceable, set_by}
-use Rattle.dual_leaf.specs.PriceLeaf.{row_of}
+use Rattle.dual_leaf.specs.PriceRows.{row_of}
 use Rattle.bytime_model.specs.Multipliers.{AreAscending, ArePositive}
 
 -- the key comes before this kind, row and period
 abbrev pub is_listed : ℕ → ℕ → ℕ → PriceKey → Bool
 is_listed kind row period key =
-    nat_lt (number_in key) kind
-    || (nat_eq (number_in key) kind && (nat_lt (row_in key) row
-    || (nat_eq (row_in key) row && nat_lt (period_in key) period)))
+    nat_lt (kind_number key.kind) kind
+    || (nat_eq (kind_number key.kind) kind && (nat_lt key.row row
+    || (nat_eq key.row row && nat_lt key.period period)))
 
 -- the multiplier is of a price that comes before
 pub record IsNamedBelow (parts : Parts) (kind row period : ℕ) (multiplier : Multiplier)

@@ -2,28 +2,17 @@
 use Rattle.std.specs.Prelude.{◌≡◌, ℕ, List, Ok, ℤ, pos, ◌≤ℤ◌}
 use Rattle.flow_types.specs.declared.bound.Bound.{Bound}
 use Rattle.flow_types.specs.declared.bound.Bound.TheVariants.{NoPlan}
-use Rattle.flow_types.specs.declared.bound.PriceKey.{PriceKey}
-use Rattle.flow_types.specs.declared.bound.PriceKey.TheVariants as key
 use Rattle.flow_types.specs.declared.parts.Parts.{Parts}
 use Rattle.flight_routes.specs.Prices.{PriceTable}
 use Rattle.priced_plans.specs.PricedBound.{IsPricedBound}
 use Rattle.priced_plans.specs.Values.{IsPricedValue}
 use Rattle.time_windows.specs.Boxes.{Box}
-use Rattle.bytime_model.specs.declared.names.RowName.{RowName}
-use Rattle.bytime_model.specs.declared.names.RowName.TheVariants.{Arr, Connect, Dep, Sector}
 use Rattle.bytime_model.specs.Multipliers.{AreAscending, ArePositive}
 use Rattle.branch_tree.specs.declared.leaf.Leaf.{Leaf}
 use Rattle.branch_tree.specs.declared.leaf.Leaf.TheVariants.{Lag}
 use Rattle.bytime_model.specs.declared.multiplier.Multiplier.{Multiplier}
 use Rattle.dual_leaf.specs.Lag.{ArePriceable, ArePricedBy}
 use Rattle.dual_leaf.specs.Leaf.{IsLeafBound, IsLive}
-
--- the row that a price is put on
-abbrev pub row_of : PriceKey → RowName
-row_of (key.Dep place period) = Dep place period
-row_of (key.Arr place period) = Arr place period
-row_of (key.Sector place period) = Sector place period
-row_of (key.Connect connection period) = Connect connection period
 
 -- the Lag leaf of this weight whose multipliers are the prices
 pub record IsLagOf (parts : Parts) (weight : ℕ) (table : PriceTable) (leaf : Leaf) : Type 0 where

@@ -5,55 +5,19 @@ ghost use Rattle.flight_routes.specs.Prices.{AreFree, ArePricesOf};
 ghost use Rattle.flight_routes.specs.Work.{IsWorkFor};
 ghost use Rattle.priced_plans.specs.Valuing.{AreSmall};
 ghost use Rattle.time_windows.specs.Held.{IsMadeFor, box_of};
-ghost use Rattle.bytime_model.specs.Rows.{is_capacity};
 ghost use Rattle.bytime_model.specs.Multipliers.{HasRange};
-ghost use Rattle.dual_leaf.specs.Lag.{ArePriceable, ArePricedBy, IsFirstUnpriceable, IsSetBy, is_priceable, key_of};
+ghost use Rattle.dual_leaf.specs.Lag.{ArePriceable, ArePricedBy, IsFirstUnpriceable, IsSetBy, is_priceable};
 ghost use Rattle.dual_leaf.specs.Leaf.{IsLagAnswer, IsLive, IsNearPriced, IsTableSaid};
 ghost use Rattle.time_windows.specs.Plans.{IsBoundIn};
 
 use crate::bound::said;
 use crate::fault::LeafFault;
-use bytime_model::{Multiplier, RowName};
+use crate::price_rows::{is_priceable, key_of};
+use bytime_model::Multiplier;
 use flight_routes::{Prices, Work};
-use flow_types::{Bound, CapKind, PriceKey, Scenario, has_kind};
+use flow_types::{Bound, Scenario};
 use priced_plans::priced_value;
 use time_windows::Boxes;
-
-// What a price of the row is put on, if it may have one.
-fn key_of(row: RowName) -> Option<PriceKey>
-    ensures { result ≡ key_of row }
-{
-    match row {
-        RowName::Dep { place, period } => Some(PriceKey::Dep { place, period }),
-        RowName::Arr { place, period } => Some(PriceKey::Arr { place, period }),
-        RowName::Sector { place, period } => Some(PriceKey::Sector { place, period }),
-        RowName::Connect { connection, period } => Some(PriceKey::Connect { connection, period }),
-        _ => None,
-    }
-}
-
-// Whether the place has capacities of this kind, and the day the period.
-fn is_capacity(s: &Scenario, kind: CapKind, place: u32, period: u16) -> bool
-    ensures { result ≡ is_capacity (parts_of s.now) kind place period }
-{
-    has_kind(kind, s.places(), place) && period < s.day().periods
-}
-
-/// Whether the row is there, and may have a price: it is of a capacity or a connection. It takes no
-/// memory.
-pub fn is_priceable(s: &Scenario, row: RowName) -> bool
-    ensures { result ≡ is_priceable (parts_of s.now) row }
-{
-    match row {
-        RowName::Dep { place, period } => is_capacity(s, CapKind::Dep, place, period),
-        RowName::Arr { place, period } => is_capacity(s, CapKind::Arr, place, period),
-        RowName::Sector { place, period } => is_capacity(s, CapKind::Sector, place, period),
-        RowName::Connect { connection, period } => {
-            (connection as usize) < s.connections().len() && period < s.day().periods
-        }
-        _ => false,
-    }
-}
 
 // The position of the first multiplier whose row may have no price.
 fn first_unpriceable(s: &Scenario, rows: &[Multiplier]) -> Option<u32>

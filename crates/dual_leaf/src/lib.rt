@@ -57,11 +57,12 @@ mod laws;
 mod listing;
 mod options;
 mod plain;
+mod price_rows;
 mod unit;
 mod work;
 
 pub use fault::LeafFault;
-pub use lag::is_priceable;
 pub use laws::{leaf_bounds_are_bounds, leaf_bounds_are_one};
 pub use listing::{closing_leaf, lag_leaf};
+pub use price_rows::is_priceable;
 pub use work::LeafWork;

@@ -1,30 +1,19 @@
 //! Prices, listed by their rows.
 ghost use Rattle.std.specs.Prelude.{◌≡◌, ◌<◌, ◌+◌, ◌^◌, IfOk, OnOk};
 ghost use Rattle.flow_types.specs.Scenario.{parts_of};
-ghost use Rattle.flight_routes.specs.Prices.{ArePricesOf, IsKeyOf, price_at};
-ghost use Rattle.priced_plans.specs.Keys.{ArePlaced, IsKeyFor, kind_number, number_in, period_in, row_in, rows_of};
+ghost use Rattle.flight_routes.specs.Prices.{ArePricesOf, kind_number, row_count};
+ghost use Rattle.priced_plans.specs.Keys.{ArePlaced, IsKeyFor};
 ghost use Rattle.branch_tree.specs.Leaves.{IsInRange};
-ghost use Rattle.dual_leaf.specs.PriceLeaf.{Closes, IsLagOf, TellsAs, row_of};
+ghost use Rattle.dual_leaf.specs.PriceLeaf.{Closes, IsLagOf, TellsAs};
 ghost use Rattle.dual_leaf.specs.Listing.{IsListed};
 
+use crate::price_rows::row_of;
 use branch_tree::Leaf;
-use bytime_model::{Multiplier, Multipliers, RowName};
+use bytime_model::{Multiplier, Multipliers};
 use flight_routes::Prices;
-use flow_types::{OutOfMemory, PriceKey, Scenario};
-use priced_plans::{PriceKind, key_in, price_at, rows_of};
+use flow_types::{OutOfMemory, PriceKey, PriceKind, Scenario};
+use priced_plans::{price_kinds, row_count};
 use std::alloc::Global;
-
-// The row that a price is put on.
-fn row_of(key: PriceKey) -> RowName
-    ensures { result ≡ row_of key }
-{
-    match key {
-        PriceKey::Dep { place, period } => RowName::Dep { place, period },
-        PriceKey::Arr { place, period } => RowName::Arr { place, period },
-        PriceKey::Sector { place, period } => RowName::Sector { place, period },
-        PriceKey::Connect { connection, period } => RowName::Connect { connection, period },
-    }
-}
 
 // Lists a price, unless it is 0.
 fn list_price(
@@ -36,12 +25,12 @@ fn list_price(
     requires prices { ArePricesOf (parts_of s.now) prices.now }
     requires placed { ArePlaced (parts_of s.now) prices.now }
     requires key { IsKeyFor (parts_of s.now) key }
-    requires listed { IsListed (parts_of s.now) prices.now (number_in key) (row_in key)
-        (period_in key) rows.old }
-    ensures { OnOk result (IsListed (parts_of s.now) prices.now (number_in key) (row_in key)
-        (period_in key + 1) rows.new) }
+    requires listed { IsListed (parts_of s.now) prices.now (kind_number key.kind) key.row
+        key.period rows.old }
+    ensures { OnOk result (IsListed (parts_of s.now) prices.now (kind_number key.kind) key.row
+        (key.period + 1) rows.new) }
 {
-    let value = price_at(prices, key);
+    let value = prices.get(key);
     if value > 0 {
         let row = row_of(key);
         rows.add(Multiplier { row, value })?;
@@ -59,13 +48,13 @@ fn list_row(
 ) -> Result<(), OutOfMemory>
     requires prices { ArePricesOf (parts_of s.now) prices.now }
     requires placed { ArePlaced (parts_of s.now) prices.now }
-    requires row { row < rows_of (parts_of s.now) kind }
+    requires row { row < row_count (parts_of s.now) kind }
     requires listed { IsListed (parts_of s.now) prices.now (kind_number kind) row 0 rows.old }
     ensures { OnOk result
         (IsListed (parts_of s.now) prices.now (kind_number kind) (row + 1) 0 rows.new) }
 {
     for period in 0..s.day().periods {
-        list_price(s, prices, key_in(kind, row, period), rows)?;
+        list_price(s, prices, PriceKey { kind, row, period }, rows)?;
     }
     Ok(())
 }
@@ -83,7 +72,7 @@ fn list_kind(
     ensures { OnOk result
         (IsListed (parts_of s.now) prices.now (kind_number kind + 1) 0 0 rows.new) }
 {
-    for row in 0..rows_of(s, kind) {
+    for row in 0..row_count(s, kind) {
         list_row(s, prices, kind, row as u32, rows)?;
     }
     Ok(())
@@ -96,10 +85,10 @@ fn list_prices(alloc: Global, s: &Scenario, prices: &Prices) -> Result<Multiplie
     ensures { IfOk result (IsListed (parts_of s.now) prices.now 4 0 0) }
 {
     let mut rows = Multipliers::empty(alloc);
-    list_kind(s, prices, PriceKind::Departure, &mut rows)?;
-    list_kind(s, prices, PriceKind::Arrival, &mut rows)?;
-    list_kind(s, prices, PriceKind::Stay, &mut rows)?;
-    list_kind(s, prices, PriceKind::Turn, &mut rows)?;
+    let kinds = price_kinds();
+    for at in 0..kinds.len() {
+        list_kind(s, prices, kinds[at], &mut rows)?;
+    }
     Ok(rows)
 }
 

@@ -5,14 +5,15 @@ use Rattle.std.proofs.lemmas.Int.{ints}
 use Rattle.std.proofs.lemmas.List.Sums.{sum_by-cons}
 use Rattle.exact_sums.proofs.ProductFacts.{times-more}
 use Rattle.std.proofs.Math.IntN.{zero-*ℤ}
-use Rattle.flow_types.specs.declared.bound.PriceKey.TheVariants as key
+use Rattle.flow_types.specs.declared.bound.PriceKind.TheVariants.{Capacity, Connection as Connected}
 use Rattle.flow_types.specs.declared.flight.Connection.{Connection}
 use Rattle.flow_types.specs.declared.flight.Flight.{Flight}
 use Rattle.flow_types.specs.declared.parts.Parts.{Parts}
+use Rattle.flow_types.specs.declared.place.CapKind.TheVariants as cap
 use Rattle.flow_types.specs.declared.plan.Stop.{Stop}
 use Rattle.flow_types.specs.Costs.{trip_cost, trip_cost_at}
 use Rattle.flow_types.specs.Trips.{arrival_from, place_at}
-use Rattle.flight_routes.specs.Prices.{AreFree, PriceTable, price_in, priced_cost, priced_cost_of, stays_price, summed, trip_price, turns_back, turns_paid}
+use Rattle.flight_routes.specs.Prices.{AreFree, PriceTable, key_in, price_in, priced_cost, priced_cost_of, stays_price, summed, trip_price, turns_back, turns_paid}
 
 sum_free : (price : ℕ → ℕ) → ((t : ℕ) → price t ≡ 0) → (from n : ℕ)
     → sum_by price (range_with_len from n) ≡ 0
@@ -43,7 +44,7 @@ module _ (table : PriceTable) (free : AreFree table) where
         if_free (stop.node == 0) 0
             (summed (price_in table.inside (place_at flight stop.node)) stop.time next.time) refl
             (summed_free (price_in table.inside (place_at flight stop.node))
-            (λ t. free (key.Sector (place_at flight stop.node) t)) stop.time next.time),
+            (λ t. free (key_in (Capacity cap.Sector) (place_at flight stop.node) t)) stop.time next.time),
         stays_free flight next rest,
       )
 
@@ -54,7 +55,7 @@ module _ (table : PriceTable) (free : AreFree table) where
       omega (
         arith,
         if_free (connection.second == number) (summed (price_in table.turns k) t periods)
-            0 (summed_free (price_in table.turns k) (λ p. free (key.Connect k p)) t periods) refl,
+            0 (summed_free (price_in table.turns k) (λ p. free (key_in Connected k p)) t periods) refl,
         paid_free periods number t (k + 1) connections,
       )
 
@@ -66,7 +67,7 @@ module _ (table : PriceTable) (free : AreFree table) where
         arith,
         if_free (connection.first == number)
             (summed (price_in table.turns k) (t + connection.turnaround) periods)
-            0 (summed_free (price_in table.turns k) (λ p. free (key.Connect k p))
+            0 (summed_free (price_in table.turns k) (λ p. free (key_in Connected k p))
             (t + connection.turnaround) periods) refl,
         back_free periods number t (k + 1) connections,
       )
@@ -76,11 +77,11 @@ module _ (table : PriceTable) (free : AreFree table) where
   price_free parts number flight [] = refl
   price_free parts number flight (stop ∷ rest) =
       let a : price_in table.departures flight.from stop.time ≡ 0 =
-      free (key.Dep flight.from stop.time) in
+      free (key_in (Capacity cap.Dep) flight.from stop.time) in
       let b = stays_free flight stop rest in
       let c = paid_free parts.day.periods number stop.time 0 parts.connections in
       let d : price_in table.arrivals flight.to (arrival_from stop rest) ≡ 0 =
-      free (key.Arr flight.to (arrival_from stop rest)) in
+      free (key_in (Capacity cap.Arr) flight.to (arrival_from stop rest)) in
       let e = back_free parts.day.periods number (arrival_from stop rest) 0 parts.connections in
       omega (arith, ints, a, b, c, d, e)
 

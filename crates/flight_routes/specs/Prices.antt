@@ -1,11 +1,13 @@
 -- What a trip pays where prices are put on capacities and connections.
-use Rattle.std.specs.Prelude.{◌≡◌, ◌<◌, length, ℕ, ◌+◌, ◌*◌, ◌-◌, ◌==◌, List, [], ◌∷◌, slice_index, sum_by, if◌then◌else◌, ℤ, pos, ◌+ℤ◌, ◌-ℤ◌, ◌*ℤ◌, Option, None, Some}
+use Rattle.std.specs.Prelude.{◌≡◌, ◌≢◌, ◌<◌, length, ℕ, ◌+◌, ◌*◌, ◌-◌, ◌==◌, List, [], ◌∷◌, slice_index, sum_by, if◌then◌else◌, ℤ, pos, ◌+ℤ◌, ◌-ℤ◌, ◌*ℤ◌, Option, None, Some}
 use Rattle.std.specs.List.{range_with_len}
 use Rattle.flow_types.specs.declared.bound.PriceKey.{PriceKey}
-use Rattle.flow_types.specs.declared.bound.PriceKey.TheVariants as key
+use Rattle.flow_types.specs.declared.bound.PriceKind.{PriceKind}
+use Rattle.flow_types.specs.declared.bound.PriceKind.TheVariants.{Capacity, Connection as Connected}
 use Rattle.flow_types.specs.declared.flight.Connection.{Connection}
 use Rattle.flow_types.specs.declared.flight.Flight.{Flight}
 use Rattle.flow_types.specs.declared.parts.Parts.{Parts}
+use Rattle.flow_types.specs.declared.place.CapKind.TheVariants as cap
 use Rattle.flow_types.specs.declared.plan.Stop.{Stop}
 use Rattle.flow_types.specs.Costs.{trip_cost}
 use Rattle.flow_types.specs.Trips.{arrival_from, place_at}
@@ -27,12 +29,31 @@ pub record PriceTable : Type 0 where
 abbrev pub price_in : Block → ℕ → ℕ → ℕ
 price_in block row period = slice_index block.prices (row * block.periods + period)
 
--- the price of a departure, an arrival, a period in a sector, or a connection from a period on
+-- the prices of a kind: of departures, of arrivals, of periods in sectors, or of connections from
+-- each period on
+abbrev pub block_of : PriceKind → PriceTable → Block
+block_of (Capacity cap.Dep) table = table.departures
+block_of (Capacity cap.Arr) table = table.arrivals
+block_of (Capacity cap.Sector) table = table.inside
+block_of Connected table = table.turns
+
+-- the kinds in their order
+abbrev pub kind_number : PriceKind → ℕ
+kind_number (Capacity cap.Dep) = 0
+kind_number (Capacity cap.Arr) = 1
+kind_number (Capacity cap.Sector) = 2
+kind_number Connected = 3
+
+-- how many rows they have: places, or connections
+abbrev pub row_count : Parts → PriceKind → ℕ
+row_count parts (Capacity kind) = length parts.places
+row_count parts Connected = length parts.connections
+
+abbrev pub key_in : PriceKind → ℕ → ℕ → PriceKey
+key_in kind row period = record { kind = kind; row = row; period = period }
+
 abbrev pub price_at : PriceTable → PriceKey → ℕ
-price_at table (key.Dep place period) = price_in table.departures place period
-price_at table (key.Arr place period) = price_in table.arrivals place period
-price_at table (key.Sector place period) = price_in table.inside place period
-price_at table (key.Connect connection period) = price_in table.turns connection period
+price_at table key = price_in (block_of key.kind table) key.row key.period
 
 -- a price added up over the periods from one up to another
 abbrev pub summed : (ℕ → ℕ) → ℕ → ℕ → ℕ
@@ -91,10 +112,7 @@ pub record IsPlaceIn (block : Block) (row period : ℕ) : Type 0 where
 
 -- the key names a price of the table
 abbrev pub IsKeyOf : PriceTable → PriceKey → Type 0
-IsKeyOf table (key.Dep place period) = IsPlaceIn table.departures place period
-IsKeyOf table (key.Arr place period) = IsPlaceIn table.arrivals place period
-IsKeyOf table (key.Sector place period) = IsPlaceIn table.inside place period
-IsKeyOf table (key.Connect connection period) = IsPlaceIn table.turns connection period
+IsKeyOf table key = IsPlaceIn (block_of key.kind table) key.row key.period
 
 -- as many rows and periods
 pub record IsSized (rows periods : ℕ) (block : Block) : Type 0 where
@@ -126,3 +144,8 @@ pub record SetsPrice (row period value : ℕ) (old new : Block) : Type 0 where
   pub here : price_in new row period ≡ value
   pub others : (k t : ℕ) → IsPlaceIn old k t → ((k ≡ row) × (t ≡ period) → ⊥)
       → price_in new k t ≡ price_in old k t
+
+-- of a table: one price set in the block of its kind, and the other blocks as before
+pub record Sets (key : PriceKey) (value : ℕ) (old new : PriceTable) : Type 0 where
+  pub here : SetsPrice key.row key.period value (block_of key.kind old) (block_of key.kind new)
+  pub others : (kind : PriceKind) → kind ≢ key.kind → block_of kind new ≡ block_of kind old

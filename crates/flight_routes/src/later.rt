@@ -5,7 +5,7 @@ ghost use Rattle.flight_routes.specs.Later.{shift_of};
 ghost use Rattle.flight_routes.specs.Prices.{price_in, summed};
 
 use crate::prices::Prices;
-use flow_types::MOST_PERIODS;
+use flow_types::{MOST_PERIODS, PriceKind};
 use time_windows::{End, Turn};
 
 /// Sets the sum of each period to what the connections cost from then on: with a departure from the
@@ -61,7 +61,7 @@ fn add_later(sums: &mut [u128], prices: &Prices, connection: u32, shift: u16, pe
         + summed (price_in prices.now.turns connection) (t + shift) periods }
     ensures small { (t : ℕ) → slice_index sums.new t ≤ slice_index sums.old t + 2 ^ 71 }
 {
-    let turns = prices.turns(connection);
+    let turns = prices.row(PriceKind::Connection, connection);
     let mut sum = 0u128;
     let mut time = periods;
     while shift < time {

@@ -5,7 +5,8 @@
 //!
 //!     let mut work = Work::new(alloc, &s)?;
 //!     let mut prices = Prices::new(alloc, &s)?;
-//!     prices.set(PriceKey::Dep { place, period }, 40);
+//!     let kind = PriceKind::Capacity(CapKind::Dep);
+//!     prices.set(PriceKey { kind, row, period }, 40);
 //!     match work.least_trip(&s, &boxes, flight, 1, &prices) {
 //!         Some(least) => println!("{flight} pays {least}, over {} nodes", work.trip().len()),
 //!         None => println!("{flight} has no trip in the box"),

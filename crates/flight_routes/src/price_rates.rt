@@ -16,11 +16,12 @@ ghost use Rattle.flight_routes.specs.TripRates.{AreTripRates};
 ghost use Rattle.time_windows.specs.Turns.{AreTurnsOf};
 
 use crate::cost::Cost;
+use crate::ends::{airport_at, kind_at};
 use crate::later::add_up_later;
 use crate::prices::Prices;
 use crate::rates::RateTable;
 use crate::time_costs::{credit_then, last_of, total_then};
-use flow_types::{Flight, Scenario, place_at};
+use flow_types::{CapKind, Flight, PriceKey, PriceKind, Scenario, place_at};
 use time_windows::{Access, End, Turns, Window};
 
 // A weight times a cost.
@@ -83,21 +84,19 @@ fn end_value(
         (flight_at s.now flight) time later) }
     ensures within { IfSome result (IsNear (2 ^ 110)) }
 {
-    let details = &s.flights()[flight as usize];
+    let price = prices.get(PriceKey {
+        kind: PriceKind::Capacity(kind_at(end)),
+        row: airport_at(end, &s.flights()[flight as usize]),
+        period: time,
+    });
     match end {
         End::Departure => {
             less(
-                u128::from(prices.departure(details.from, time)) + later,
+                u128::from(price) + later,
                 weighted(weight, credit_then(s, flight, time)),
             )
         }
-        End::Arrival => {
-            more(
-                weighted(weight, total_then(s, flight, time)),
-                prices.arrival(details.to, time),
-                later,
-            )
-        }
+        End::Arrival => { more(weighted(weight, total_then(s, flight, time)), price, later) }
     }
 }
 
@@ -143,7 +142,7 @@ fn set_paid(table: &mut RateTable, s: &Scenario, node: u16, place: u32, prices: 
     ensures only { OnlyPaid node table.old table.new }
     ensures within { ArePaidSmall table.old → ArePaidSmall table.new }
 {
-    let stays = prices.stays(place);
+    let stays = prices.row(PriceKind::Capacity(CapKind::Sector), place);
     let mut sum = 0u128;
     for time in 0..s.day().periods {
         table.set_paid(node, time, sum);

@@ -2,7 +2,7 @@
 ghost use Rattle.std.specs.Prelude.{◌≡◌};
 
 use crate::price_block::PriceBlock;
-use flow_types::{OutOfMemory, PriceKey, Scenario};
+use flow_types::{CapKind, OutOfMemory, PriceKey, PriceKind, Scenario};
 use std::alloc::Global;
 use std::marker::Model;
 
@@ -35,7 +35,7 @@ impl Prices {
     ghost use Rattle.flow_types.specs.declared.bound.PriceKey.{PriceKey};
     ghost use Rattle.flow_types.specs.declared.parts.Parts.{Parts};
     ghost use Rattle.flow_types.specs.Scenario.{parts_of};
-    ghost use Rattle.flight_routes.specs.Prices.{AreAlike, AreFree, ArePricesOf, IsKeyOf, IsPlaceIn, price_at, price_in};
+    ghost use Rattle.flight_routes.specs.Prices.{AreAlike, AreFree, ArePricesOf, IsKeyOf, Sets, block_of, price_at, price_in};
 
     /// The prices of the scenario, all 0.
     pub fn new(alloc: Global, s: &Scenario) -> Result<Prices, OutOfMemory>
@@ -52,8 +52,36 @@ impl Prices {
         })
     }
 
+    // The prices of a kind.
+    fn block(&self, kind: PriceKind) -> &PriceBlock
+        ensures { result.now ≡ block_of kind self.now }
+    {
+        match kind {
+            PriceKind::Capacity(CapKind::Dep) => &self.departures,
+            PriceKind::Capacity(CapKind::Arr) => &self.arrivals,
+            PriceKind::Capacity(CapKind::Sector) => &self.inside,
+            PriceKind::Connection => &self.turns,
+        }
+    }
+
+    // Sets one price in the block of its kind.
+    fn put(&mut self, key: PriceKey, value: u64)
+        requires key { IsKeyOf self.old key }
+        requires value { value < 2 ^ 62 }
+        ensures { Sets key value self.old self.new }
+    {
+        let PriceKey { kind, row, period } = key;
+        match kind {
+            PriceKind::Capacity(CapKind::Dep) => self.departures.set(row, period, value),
+            PriceKind::Capacity(CapKind::Arr) => self.arrivals.set(row, period, value),
+            PriceKind::Capacity(CapKind::Sector) => self.inside.set(row, period, value),
+            PriceKind::Connection => self.turns.set(row, period, value),
+        }
+    }
+
     /// Sets one price, of a place or a connection and a period of the scenario that the prices were
     /// made for. A price is below 2^62.
+    #[tactic(auto, using(crate::proofs::PriceFacts::set_others, crate::proofs::PriceFacts::set_size))]
     pub fn set(&mut self, key: PriceKey, value: u64)
         requires key { IsKeyOf self.old key }
         requires value { value < 2 ^ 62 }
@@ -62,12 +90,7 @@ impl Prices {
         ensures others { (other : PriceKey) → IsKeyOf self.old other → other ≢ key
             → price_at self.new other ≡ price_at self.old other }
     {
-        match key {
-            PriceKey::Dep { place, period } => self.departures.set(place, period, value),
-            PriceKey::Arr { place, period } => self.arrivals.set(place, period, value),
-            PriceKey::Sector { place, period } => self.inside.set(place, period, value),
-            PriceKey::Connect { connection, period } => self.turns.set(connection, period, value),
-        }
+        self.put(key, value);
     }
 
     /// Sets every price to 0.
@@ -92,61 +115,23 @@ impl Prices {
         self.turns.copy_from(&other.turns);
     }
 
-    /// The price of a departure.
-    pub fn departure(&self, place: u32, period: u16) -> u64
-        requires { IsPlaceIn self.now.departures place period }
-        ensures price { result ≡ price_in self.now.departures place period }
+    /// The price that the key names.
+    pub fn get(&self, key: PriceKey) -> u64
+        requires { IsKeyOf self.now key }
+        ensures price { result ≡ price_at self.now key }
         ensures small { result < 2 ^ 62 }
     {
-        self.departures.get(place, period)
+        self.block(key.kind).get(key.row, key.period)
     }
 
-    /// The price of an arrival.
-    pub fn arrival(&self, place: u32, period: u16) -> u64
-        requires { IsPlaceIn self.now.arrivals place period }
-        ensures price { result ≡ price_in self.now.arrivals place period }
-        ensures small { result < 2 ^ 62 }
-    {
-        self.arrivals.get(place, period)
-    }
-
-    /// The price of a period in a sector.
-    pub fn stay(&self, place: u32, period: u16) -> u64
-        requires { IsPlaceIn self.now.inside place period }
-        ensures price { result ≡ price_in self.now.inside place period }
-        ensures small { result < 2 ^ 62 }
-    {
-        self.inside.get(place, period)
-    }
-
-    /// The prices of the periods in a sector.
-    pub fn stays(&self, place: u32) -> &[u64]
-        requires { place < self.now.inside.rows }
-        ensures length { length result.now ≡ self.now.inside.periods }
-        ensures prices { (t : ℕ) → t < self.now.inside.periods
-            → slice_index result.now t ≡ price_in self.now.inside place t }
+    /// The prices of a place or a connection, by period.
+    pub fn row(&self, kind: PriceKind, row: u32) -> &[u64]
+        requires { row < (block_of kind self.now).rows }
+        ensures length { length result.now ≡ (block_of kind self.now).periods }
+        ensures prices { (t : ℕ) → t < (block_of kind self.now).periods
+            → slice_index result.now t ≡ price_in (block_of kind self.now) row t }
         ensures small { All (λ price. price < 2 ^ 62) result.now }
     {
-        self.inside.row(place)
-    }
-
-    /// The prices of a connection from each period on.
-    pub fn turns(&self, connection: u32) -> &[u64]
-        requires { connection < self.now.turns.rows }
-        ensures length { length result.now ≡ self.now.turns.periods }
-        ensures prices { (t : ℕ) → t < self.now.turns.periods
-            → slice_index result.now t ≡ price_in self.now.turns connection t }
-        ensures small { All (λ price. price < 2 ^ 62) result.now }
-    {
-        self.turns.row(connection)
-    }
-
-    /// The price of a connection from a period on.
-    pub fn turn(&self, connection: u32, period: u16) -> u64
-        requires { IsPlaceIn self.now.turns connection period }
-        ensures price { result ≡ price_in self.now.turns connection period }
-        ensures small { result < 2 ^ 62 }
-    {
-        self.turns.get(connection, period)
+        self.block(kind).row(row)
     }
 }

@@ -1,4 +1,6 @@
-//! Lower bounds on the cost of plans, and the rows that prices are put on.
+//! Lower bounds on the cost of plans, and what prices are put on.
+
+use crate::place::CapKind;
 
 /// A lower bound on the cost of every plan that keeps the rules.
 #[derive(Clone, Copy, Debug, PartialEq, Eq)]
@@ -60,11 +62,20 @@ impl Bound {
     }
 }
 
-/// A capacity in a period, or a connection from a period on.
+/// What prices are put on.
 #[derive(Clone, Copy, Debug, PartialEq, Eq)]
-pub enum PriceKey {
-    Dep { place: u32, period: u16 },
-    Arr { place: u32, period: u16 },
-    Sector { place: u32, period: u16 },
-    Connect { connection: u32, period: u16 },
+pub enum PriceKind {
+    /// The capacities of places, of this kind.
+    Capacity(CapKind),
+    /// Connections.
+    Connection,
+}
+
+/// What one price is put on: a capacity in a period, or a connection from a period on. The row is
+/// the position of the place or of the connection.
+#[derive(Clone, Copy, Debug, PartialEq, Eq)]
+pub struct PriceKey {
+    pub kind: PriceKind,
+    pub row: u32,
+    pub period: u16,
 }

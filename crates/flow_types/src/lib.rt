@@ -37,7 +37,7 @@ mod sequence;
 mod valid;
 mod words;
 
-pub use bound::{Bound, PriceKey};
+pub use bound::{Bound, PriceKey, PriceKind};
 pub use calendar::{days_in_month, is_date};
 pub use day::Day;
 pub use fault::{Cause, Fault};

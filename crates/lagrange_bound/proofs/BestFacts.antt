@@ -4,25 +4,21 @@ use Rattle.std.proofs.lemmas.Bool.{cases_lt}
 use Rattle.std.proofs.lemmas.Int.{ints}
 use Rattle.flow_types.specs.declared.bound.Bound.{Bound}
 use Rattle.flow_types.specs.declared.bound.Bound.TheVariants.{AtLeast, NoPlan}
-use Rattle.flow_types.specs.declared.bound.PriceKey.TheVariants as key
 use Rattle.flow_types.specs.declared.parts.Parts.{Parts}
-use Rattle.flow_types.specs.declared.place.CapKind.TheVariants as kind
 use Rattle.flow_types.specs.declared.plan.Stop.{Stop}
-use Rattle.flow_types.specs.Capacities.{has_kind}
-use Rattle.flow_types.specs.Counts.{arrivals_at, departures_at, occupancy_at}
 use Rattle.flow_types.specs.Valid.{IsScenario}
-use Rattle.flight_routes.specs.Prices.{AreFree, ArePricesOf, PriceTable, price_in}
+use Rattle.flight_routes.specs.Prices.{AreFree, ArePricesOf, PriceTable, price_at}
 use Rattle.plan_rules.specs.Cells.{Tally}
 use Rattle.time_windows.specs.Boxes.{Box}
-use Rattle.priced_plans.specs.Keys.{ArePlaced}
+use Rattle.priced_plans.specs.Keys.{ArePlaced, has_limit}
+use Rattle.priced_plans.specs.Usage.{limit, traffic_of, used}
 use Rattle.priced_plans.specs.Valuing.{LacksTrip}
 use Rattle.lagrange_bound.specs.Best.{HaveBounds, IsMostOfRounds}
 use Rattle.flow_types.specs.Bounds.{IsAtMost}
 use Rattle.lagrange_bound.specs.Rounds.{IsMovedBy, IsRoundBound, IsRoundStep, IsRoundTable, IsTableBound, moved, step_of}
 use Rattle.lagrange_bound.specs.Taking.{HaveTaken}
 use Rattle.lagrange_bound.specs.Work.{AreLow, ArePlayed, AreTakenFor, IsBest}
-use Rattle.priced_plans.proofs.KeyFacts.{key_of}
-use Rattle.lagrange_bound.proofs.SameFacts.{round_same, table_sized}
+use Rattle.lagrange_bound.proofs.SameFacts.{round_same}
 
 pub at_most_itself : (bound : Bound) → IsAtMost bound bound
 at_most_itself NoPlan = tt
@@ -189,40 +185,23 @@ stays true m x y is none free = let never : ⊥ = cc in absurd never
 stays false m x y is none free = is ∙ free
 
 moved_placed : (parts : Parts) (trips : List (List Stop)) (step : ℕ) (old new : PriceTable)
-    → ArePricesOf parts old → IsMovedBy parts trips step old new → ArePlaced parts old
-    → ArePlaced parts new
-moved_placed parts trips step old new sized by placed (key.Dep k t) within none =
-    stays (has_kind kind.Dep (slice_get parts.places k))
-    (moved step (departures_at parts.flights trips k t) _ (price_in old.departures k t))
-    (price_in old.departures k t) (price_in new.departures k t)
-    (by.departures.prices k t (key_of parts old (key.Dep k t) sized within)) none
-    (placed (key.Dep k t) within none)
-moved_placed parts trips step old new sized by placed (key.Arr k t) within none =
-    stays (has_kind kind.Arr (slice_get parts.places k))
-    (moved step (arrivals_at parts.flights trips k t) _ (price_in old.arrivals k t))
-    (price_in old.arrivals k t) (price_in new.arrivals k t)
-    (by.arrivals.prices k t (key_of parts old (key.Arr k t) sized within)) none
-    (placed (key.Arr k t) within none)
-moved_placed parts trips step old new sized by placed (key.Sector k t) within none =
-    stays (has_kind kind.Sector (slice_get parts.places k))
-    (moved step (occupancy_at parts.flights trips k t) _ (price_in old.inside k t))
-    (price_in old.inside k t) (price_in new.inside k t)
-    (by.inside.prices k t (key_of parts old (key.Sector k t) sized within)) none
-    (placed (key.Sector k t) within none)
-moved_placed parts trips step old new sized by placed (key.Connect k t) within none =
-    let never : ⊥ = cc in absurd never
+    → IsMovedBy parts trips step old new → ArePlaced parts old → ArePlaced parts new
+moved_placed parts trips step old new by placed k within none =
+    stays (has_limit parts k)
+    (moved step (used parts (traffic_of parts trips) k) (limit parts (traffic_of parts trips) k)
+    (price_at old k))
+    (price_at old k) (price_at new k) (by.each k within) none (placed k within none)
 
 step_placed : (parts : Parts) (box : Box) (round : ℕ) (old new : PriceTable)
-    → ArePricesOf parts old → IsRoundStep parts box round old new → ArePlaced parts old
-    → ArePlaced parts new
-step_placed parts box round old new sized (inl (trips, by)) placed =
-    moved_placed parts trips (step_of round) old new sized by.moved placed
-step_placed parts box round old new sized (inr without) placed =
+    → IsRoundStep parts box round old new → ArePlaced parts old → ArePlaced parts new
+step_placed parts box round old new (inl (trips, by)) placed =
+    moved_placed parts trips (step_of round) old new by.moved placed
+step_placed parts box round old new (inr without) placed =
     subst (ArePlaced parts) (sym without.same) placed
 
 pub round_placed : (parts : Parts) (box : Box) (round : ℕ) (table : PriceTable)
     → IsRoundTable parts box round table → ArePlaced parts table
 round_placed parts box zero table is = λ k within none. is.1 k
 round_placed parts box (suc before) table is =
-    step_placed parts box (suc before) is.0 table (table_sized parts box before is.0 is.1) is.2
+    step_placed parts box (suc before) is.0 table is.2
     (round_placed parts box before is.0 is.1)

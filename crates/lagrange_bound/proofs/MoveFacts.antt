@@ -3,13 +3,11 @@ use Rattle.std.proofs.Common.{◌≡◌, ◌≢◌, ◌⊎◌, inl, inr, ℕ, �
 use Rattle.std.proofs.lemmas.Bool.{cases_eq}
 use Rattle.std.proofs.lemmas.Bool.Decides.{nat_tests}
 use Rattle.flow_types.specs.declared.bound.PriceKey.{PriceKey}
-use Rattle.flow_types.specs.declared.bound.PriceKey.TheVariants as key
+use Rattle.flow_types.specs.declared.bound.PriceKind.{PriceKind}
 use Rattle.flow_types.specs.declared.parts.Parts.{Parts}
-use Rattle.flight_routes.specs.Prices.{ArePricesOf, IsKeyOf, PriceTable, price_at}
-use Rattle.priced_plans.specs.declared.kinds.PriceKind.{PriceKind}
-use Rattle.priced_plans.specs.declared.kinds.PriceKind.TheVariants.{Departure}
-use Rattle.priced_plans.specs.Keys.{IsKeyFor, is_at, key_in, kind_number, number_in, period_in, row_in, rows_of}
-use Rattle.priced_plans.proofs.KeyFacts.{itself, key_at, key_for, key_of, number_of, period_of, period_within, row_of, row_within}
+use Rattle.flight_routes.specs.Prices.{ArePricesOf, IsKeyOf, PriceTable, key_in, kind_number, price_at, row_count}
+use Rattle.priced_plans.specs.Keys.{IsKeyFor, is_at}
+use Rattle.priced_plans.proofs.KeyFacts.{itself, key_at, key_of, kind_below, row_within}
 use Rattle.lagrange_bound.specs.Moves.{AreMoved, HasRoomIn, HaveRoom, is_in_kinds, is_in_row, is_in_rows, most_rise}
 
 -- one price
@@ -19,7 +17,7 @@ module _ (parts : Parts) (move : PriceKey → ℕ → ℕ) (k : PriceKey) (old n
     (others : (other : PriceKey) → IsKeyOf old other → other ≢ k
     → price_at new other ≡ price_at old other) where
   abbrev is_here : PriceKey → Bool
-  is_here = is_at (number_in k) (row_in k) (period_in k)
+  is_here = is_at (kind_number k.kind) k.row k.period
 
   each_by : (other : PriceKey) → IsKeyFor parts other → (b : Bool) → is_here other ≡ b
       → price_at new other
@@ -31,7 +29,7 @@ module _ (parts : Parts) (move : PriceKey → ℕ → ℕ) (k : PriceKey) (old n
       (λ same. absurd (cc (
         at,
         subst (λ o. is_here o ≡ true) (sym same)
-            (itself (number_in k) (row_in k) (period_in k)),
+            (itself (kind_number k.kind) k.row k.period),
       )))
 
   rise_by : (other : PriceKey) → IsKeyFor parts other → (b : Bool) → is_here other ≡ b
@@ -136,39 +134,27 @@ module _ (parts : Parts) (move : PriceKey → ℕ → ℕ) (kind : PriceKind) wh
   abbrev number : ℕ
   number = kind_number kind
 
-  -- one period more
-  at_key : (row t : ℕ) (k : PriceKey) (old new : PriceTable) → k ≡ key_in kind row t
-      → AreMoved parts move (is_at (number_in k) (row_in k) (period_in k)) old new
-      → AreMoved parts move (is_at number row t) old new
-  at_key row t k old new is moved =
-      subst (λ n. AreMoved parts move (is_at n row t) old new)
-      (ap number_in is ∙ number_of kind row t)
-      (subst (λ r. AreMoved parts move (is_at (number_in k) r t) old new)
-      (ap row_in is ∙ row_of kind row t)
-      (subst (λ p. AreMoved parts move (is_at (number_in k) (row_in k) p) old new)
-      (ap period_in is ∙ period_of kind row t) moved))
-
   pub row_start : (row : ℕ) (table : PriceTable) → ArePricesOf parts table
       → AreMoved parts move (is_in_row number row 0) table table
   row_start row table are =
       none_moved parts move (is_in_row number row 0) table are
-      (λ k. row_none (number_in k) number (row_in k) row (period_in k))
+      (λ k. row_none (kind_number k.kind) number k.row row k.period)
 
-  pub row_next : (row t : ℕ) (k : PriceKey) (old mid new : PriceTable) → k ≡ key_in kind row t
+  pub row_next : (row t : ℕ) (old mid new : PriceTable)
       → AreMoved parts move (is_in_row number row t) old mid
-      → AreMoved parts move (is_at (number_in k) (row_in k) (period_in k)) mid new
+      → AreMoved parts move (is_at number row t) mid new
       → AreMoved parts move (is_in_row number row (t + 1)) old new
-  row_next row t k old mid new is first second =
+  row_next row t old mid new first second =
       both_moved parts move (is_in_row number row t) (is_at number row t)
-      (is_in_row number row (t + 1)) old mid new first (at_key row t k mid new is second)
-      (λ k. row_apart (number_in k) number (row_in k) row (period_in k) t)
-      (λ k within. row_more (number_in k) number (row_in k) row (period_in k) t)
+      (is_in_row number row (t + 1)) old mid new first second
+      (λ k. row_apart (kind_number k.kind) number k.row row k.period t)
+      (λ k within. row_more (kind_number k.kind) number k.row row k.period t)
 
   pub rows_start : (table : PriceTable) → ArePricesOf parts table
       → AreMoved parts move (is_in_rows number 0) table table
   rows_start table are =
       none_moved parts move (is_in_rows number 0) table are
-      (λ k. rows_none (number_in k) number (row_in k))
+      (λ k. rows_none (kind_number k.kind) number k.row)
 
   pub rows_next : (row : ℕ) (old mid new : PriceTable)
       → AreMoved parts move (is_in_rows number row) old mid
@@ -177,18 +163,18 @@ module _ (parts : Parts) (move : PriceKey → ℕ → ℕ) (kind : PriceKind) wh
   rows_next row old mid new first second =
       both_moved parts move (is_in_rows number row) (is_in_row number row parts.day.periods)
       (is_in_rows number (row + 1)) old mid new first second
-      (λ k. rows_apart (number_in k) number (row_in k) row (period_in k) parts.day.periods)
-      (λ k within. rows_more (number_in k) number (row_in k) row (period_in k) parts.day.periods
-      (period_within parts k within))
+      (λ k. rows_apart (kind_number k.kind) number k.row row k.period parts.day.periods)
+      (λ k within. rows_more (kind_number k.kind) number k.row row k.period parts.day.periods
+      within.1)
 
   pub kinds_next : (old mid new : PriceTable) → AreMoved parts move (is_in_kinds number) old mid
-      → AreMoved parts move (is_in_rows number (rows_of parts kind)) mid new
+      → AreMoved parts move (is_in_rows number (row_count parts kind)) mid new
       → AreMoved parts move (is_in_kinds (number + 1)) old new
   kinds_next old mid new first second =
-      both_moved parts move (is_in_kinds number) (is_in_rows number (rows_of parts kind))
+      both_moved parts move (is_in_kinds number) (is_in_rows number (row_count parts kind))
       (is_in_kinds (number + 1)) old mid new first second
-      (λ k. kinds_apart (number_in k) number (row_in k) (rows_of parts kind))
-      (λ k within. kinds_more (number_in k) number (row_in k) (rows_of parts kind)
+      (λ k. kinds_apart (kind_number k.kind) number k.row (row_count parts kind))
+      (λ k within. kinds_more (kind_number k.kind) number k.row (row_count parts kind)
       (row_within parts kind k within))
 
   -- what wasn't moved has the room that it had
@@ -199,64 +185,75 @@ module _ (parts : Parts) (move : PriceKey → ℕ → ℕ) (kind : PriceKind) wh
       (moved.each k within)
 
   not_in_row : (row t : ℕ) → is_in_row number row t (key_in kind row t) ≡ false
-  not_in_row row t = let late = period_of kind row t in grind (arith, nat_tests)
+  not_in_row row t = grind (arith, nat_tests)
 
   not_in_rows : (row t : ℕ) → is_in_rows number row (key_in kind row t) ≡ false
-  not_in_rows row t = let late = row_of kind row t in grind (arith, nat_tests)
+  not_in_rows row t = grind (arith, nat_tests)
 
   not_in_kinds : (row t : ℕ) → is_in_kinds number (key_in kind row t) ≡ false
-  not_in_kinds row t = let late = number_of kind row t in grind (arith, nat_tests)
+  not_in_kinds row t = grind (arith, nat_tests)
 
-  pub room_in_row : (row t : ℕ) (old new : PriceTable) → row < rows_of parts kind
+  pub room_in_row : (row t : ℕ) (old new : PriceTable) → row < row_count parts kind
       → t < parts.day.periods → HasRoomIn parts kind old row
       → AreMoved parts move (is_in_row number row t) old new
       → price_at new (key_in kind row t) < 2 ^ 61
   room_in_row row t old new within in_day room moved =
       let same = same_by (is_in_row number row t) old new (key_in kind row t)
-      (key_for parts kind row t within in_day) moved (not_in_row row t) in
+      (within, in_day) moved (not_in_row row t) in
       omega (arith, same, room t in_day)
 
-  pub room_in_rows : (row : ℕ) (old new : PriceTable) → row < rows_of parts kind
+  pub room_in_rows : (row : ℕ) (old new : PriceTable) → row < row_count parts kind
       → HaveRoom parts kind old → AreMoved parts move (is_in_rows number row) old new
       → HasRoomIn parts kind new row
   room_in_rows row old new within room moved = λ t in_day.
       let same = same_by (is_in_rows number row) old new (key_in kind row t)
-      (key_for parts kind row t within in_day) moved (not_in_rows row t) in
+      (within, in_day) moved (not_in_rows row t) in
       omega (arith, same, room row within t in_day)
 
   pub room_in_kinds : (old new : PriceTable)
       → ((k : PriceKey) → IsKeyFor parts k → price_at old k < 2 ^ 61)
       → AreMoved parts move (is_in_kinds number) old new → HaveRoom parts kind new
   room_in_kinds old new room moved = λ row within t in_day.
-      let is = key_for parts kind row t within in_day in
+      let is : IsKeyFor parts (key_in kind row t) = (within, in_day) in
       let same = same_by (is_in_kinds number) old new (key_in kind row t) is moved
       (not_in_kinds row t) in
       omega (arith, same, room (key_in kind row t) is)
 
--- all prices
+-- all prices, kind after kind
 module _ (parts : Parts) (move : PriceKey → ℕ → ℕ) where
   no_kinds : (n : ℕ) → nat_lt n 0 ≡ false
   no_kinds n = grind (arith, nat_tests)
 
-  pub first_kind : (old new : PriceTable) → ArePricesOf parts old
-      → AreMoved parts move (is_in_rows 0 (length parts.places)) old new
-      → AreMoved parts move (is_in_kinds 1) old new
-  first_kind old new are moved =
-      kinds_next parts move Departure old old new
-      (none_moved parts move (is_in_kinds 0) old are (λ k. no_kinds (number_in k))) moved
+  pub kinds_start : (table : PriceTable) → ArePricesOf parts table
+      → AreMoved parts move (is_in_kinds 0) table table
+  kinds_start table are =
+      none_moved parts move (is_in_kinds 0) table are (λ k. no_kinds (kind_number k.kind))
 
-  every_kind : (k : PriceKey) → is_in_kinds 4 k ≡ true
-  every_kind (key.Dep row period) = refl
-  every_kind (key.Arr row period) = refl
-  every_kind (key.Sector row period) = refl
-  every_kind (key.Connect row period) = refl
+  pub kind_next : (at : ℕ) (kind : PriceKind) (old mid new : PriceTable) → kind_number kind ≡ at
+      → AreMoved parts move (is_in_kinds at) old mid
+      → AreMoved parts move (is_in_rows (kind_number kind) (row_count parts kind)) mid new
+      → AreMoved parts move (is_in_kinds (at + 1)) old new
+  kind_next at kind old mid new is first second =
+      subst (λ n. AreMoved parts move (is_in_kinds (n + 1)) old new) is
+      (kinds_next parts move kind old mid new
+      (subst (λ n. AreMoved parts move (is_in_kinds n) old mid) (sym is) first) second)
+
+  pub kind_room : (at : ℕ) (kind : PriceKind) (old new : PriceTable) → kind_number kind ≡ at
+      → ((k : PriceKey) → IsKeyFor parts k → price_at old k < 2 ^ 61)
+      → AreMoved parts move (is_in_kinds at) old new → HaveRoom parts kind new
+  kind_room at kind old new is room moved =
+      room_in_kinds parts move kind old new room
+      (subst (λ n. AreMoved parts move (is_in_kinds n) old new) (sym is) moved)
+
+  is_below : (a b : ℕ) → a < b → nat_lt a b ≡ true
+  is_below a b less = grind (arith, nat_tests)
 
   pub all_kinds : (old new : PriceTable) → AreMoved parts move (is_in_kinds 4) old new
       → AreMoved parts move (λ k. true) old new
   all_kinds old new moved = record {
     size = moved.size;
     each = λ k within. subst (λ b. price_at new k
-        ≡ (if b then move k (price_at old k) else price_at old k)) (every_kind k)
-        (moved.each k within);
+        ≡ (if b then move k (price_at old k) else price_at old k))
+        (is_below (kind_number k.kind) 4 (kind_below k.kind)) (moved.each k within);
     rise = moved.rise;
   }

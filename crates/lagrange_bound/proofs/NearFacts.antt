@@ -6,7 +6,7 @@ use Rattle.std.proofs.lemmas.List.Sums.{sum_by-cons}
 use Rattle.exact_sums.specs.Leasts.{IsLeast, IsLeastAt}
 use Rattle.exact_sums.proofs.ItemFacts.{All-item}
 use Rattle.flow_types.specs.declared.bound.PriceKey.{PriceKey}
-use Rattle.flow_types.specs.declared.bound.PriceKey.TheVariants as key
+use Rattle.flow_types.specs.declared.bound.PriceKind.TheVariants.{Capacity, Connection as Connected}
 use Rattle.flow_types.specs.declared.flight.Connection.{Connection}
 use Rattle.flow_types.specs.declared.flight.Flight.{Flight}
 use Rattle.flow_types.specs.declared.parts.Parts.{Parts}
@@ -18,7 +18,7 @@ use Rattle.flow_types.specs.Valid.{IsFlight, IsScenario}
 use Rattle.flow_types.proofs.CostFacts.{credit_at-within, total_at-within}
 use Rattle.flow_types.proofs.PlaceFacts.{has_kind-within}
 use Rattle.flight_routes.specs.Inside.{IsTripIn}
-use Rattle.flight_routes.specs.Prices.{PriceTable, price_at, price_in, priced_cost, priced_cost_of, stay_price, stays_price, summed, turns_back, turns_paid}
+use Rattle.flight_routes.specs.Prices.{PriceTable, key_in, price_at, price_in, priced_cost, priced_cost_of, stay_price, stays_price, summed, turns_back, turns_paid}
 use Rattle.exact_sums.specs.Near.{IsNear}
 use Rattle.flight_routes.proofs.TripFacts.{in_day}
 use Rattle.time_windows.specs.Boxes.{Box}
@@ -63,7 +63,7 @@ module _ (parts : Parts) (table : PriceTable) (valid : IsScenario parts)
   stay_low flight stop leaves true is day = omega arith
   stay_low flight stop leaves false is day =
       summed_low (price_in table.inside (place_at flight stop.node)) stop.time leaves
-      (λ t before. low (key.Sector (place_at flight stop.node) t)
+      (λ t before. low (key_in (Capacity kind.Sector) (place_at flight stop.node) t)
       (place_there parts flight is stop.node, omega (arith, before, day)))
 
   -- stays pay for no more periods than the trip takes
@@ -86,7 +86,7 @@ module _ (parts : Parts) (table : PriceTable) (valid : IsScenario parts)
       ≤ top * 512
   turn_low k from true within =
       let sum = summed_low (price_in table.turns k) from parts.day.periods
-      (λ t before. low (key.Connect k t) (within, before)) in
+      (λ t before. low (key_in Connected k t) (within, before)) in
       omega (arith, sum, valid.day.periods_to)
   turn_low k from false within = omega arith
 
@@ -141,9 +141,9 @@ module _ (parts : Parts) (table : PriceTable) (valid : IsScenario parts)
         low = omega (arith, ints, paid.low, saved.high);
         high = omega (arith, ints, paid.high, saved.low);
       } in
-      let from = low (key.Dep flight.from stop.time)
+      let from = low (key_in (Capacity kind.Dep) flight.from stop.time)
       (has_kind-within kind.Dep parts.places flight.from good.origin, leaves) in
-      let to = low (key.Arr flight.to (arrival_from stop rest))
+      let to = low (key_in (Capacity kind.Arr) flight.to (arrival_from stop rest))
       (has_kind-within kind.Arr parts.places flight.to good.destination, arrives) in
       let turns = paid_low number stop.time 0 parts.connections (omega arith) in
       let back = back_low number (arrival_from stop rest) 0 parts.connections (omega arith) in

@@ -6,21 +6,18 @@ use Rattle.exact_sums.specs.Leasts.{IsFirstLeast}
 use Rattle.exact_sums.proofs.ItemFacts.{item_there}
 use Rattle.flow_types.specs.declared.bound.Bound.{Bound}
 use Rattle.flow_types.specs.declared.bound.Bound.TheVariants.{AtLeast, NoPlan}
-use Rattle.flow_types.specs.declared.bound.PriceKey.TheVariants as key
 use Rattle.flow_types.specs.declared.parts.Parts.{Parts}
-use Rattle.flow_types.specs.declared.place.CapKind.TheVariants as kind
 use Rattle.flow_types.specs.declared.plan.Stop.{Stop}
-use Rattle.flow_types.specs.Counts.{arrivals_at, departures_at, occupancy_at}
 use Rattle.flow_types.specs.Valid.{IsScenario}
 use Rattle.flight_routes.specs.Inside.{IsTripIn}
 use Rattle.flight_routes.specs.Prices.{ArePricesOf, PriceTable, priced_cost}
 use Rattle.flight_routes.specs.TripOrder.{IsNoLater}
 use Rattle.time_windows.specs.Boxes.{Box}
 use Rattle.priced_plans.specs.PricedBound.{IsRoundedUp}
+use Rattle.priced_plans.specs.Usage.{traffic_of}
 use Rattle.priced_plans.specs.Valuing.{LacksTrip}
 use Rattle.priced_plans.proofs.OnceFacts.{lacks_none}
-use Rattle.lagrange_bound.specs.Rounds.{AreLeastTrips, IsLeastTrip, IsMovedBy, IsRoundBound, IsRoundStep, IsRoundTable, IsTableBound, cost_weight, moved_by_capacity, moved_by_turn, step_of}
-use Rattle.priced_plans.proofs.KeyFacts.{key_of}
+use Rattle.lagrange_bound.specs.Rounds.{AreLeastTrips, IsLeastTrip, IsMovedBy, IsRoundBound, IsRoundStep, IsRoundTable, IsTableBound, cost_weight, moved_price, step_of}
 use Rattle.priced_plans.proofs.SameFacts.{AreSame, cost_same, rounded_same, value_same}
 
 -- what is said twice of the same costs
@@ -92,52 +89,16 @@ lacks_least parts box table trips lacks are =
 
 -- moved alike, from the same
 moved_same : (parts : Parts) (trips : List (List Stop)) (step : ℕ) (a b c d : PriceTable)
-    → ArePricesOf parts a → ArePricesOf parts b → AreSame parts a b
-    → IsMovedBy parts trips step a c → IsMovedBy parts trips step b d → AreSame parts c d
-moved_same parts trips step a b c d sized like same p q (key.Dep k t) within =
-    p.departures.prices k t (key_of parts a (key.Dep k t) sized within)
-    ∙ ap (moved_by_capacity parts kind.Dep step k t (departures_at parts.flights trips k t))
-    (same (key.Dep k t) within)
-    ∙ sym (q.departures.prices k t (key_of parts b (key.Dep k t) like within))
-moved_same parts trips step a b c d sized like same p q (key.Arr k t) within =
-    p.arrivals.prices k t (key_of parts a (key.Arr k t) sized within)
-    ∙ ap (moved_by_capacity parts kind.Arr step k t (arrivals_at parts.flights trips k t))
-    (same (key.Arr k t) within)
-    ∙ sym (q.arrivals.prices k t (key_of parts b (key.Arr k t) like within))
-moved_same parts trips step a b c d sized like same p q (key.Sector k t) within =
-    p.inside.prices k t (key_of parts a (key.Sector k t) sized within)
-    ∙ ap (moved_by_capacity parts kind.Sector step k t (occupancy_at parts.flights trips k t))
-    (same (key.Sector k t) within)
-    ∙ sym (q.inside.prices k t (key_of parts b (key.Sector k t) like within))
-moved_same parts trips step a b c d sized like same p q (key.Connect k t) within =
-    p.turns.prices k t (key_of parts a (key.Connect k t) sized within)
-    ∙ ap (moved_by_turn trips step (slice_get parts.connections k) t)
-    (same (key.Connect k t) within)
-    ∙ sym (q.turns.prices k t (key_of parts b (key.Connect k t) like within))
+    → AreSame parts a b → IsMovedBy parts trips step a c → IsMovedBy parts trips step b d
+    → AreSame parts c d
+moved_same parts trips step a b c d same p q k within =
+    p.each k within ∙ ap (moved_price parts (traffic_of parts trips) step k) (same k within)
+    ∙ sym (q.each k within)
 
 -- a round keeps the size
 step_sized : (parts : Parts) (box : Box) (round : ℕ) (old new : PriceTable)
     → ArePricesOf parts old → IsRoundStep parts box round old new → ArePricesOf parts new
-step_sized parts box round old new are (inl (trips, by)) =
-    let moved = by.moved in
-    record {
-      departures = record {
-        wide = moved.departures.size.wide ∙ are.departures.wide;
-        long = moved.departures.size.long ∙ are.departures.long;
-      };
-      arrivals = record {
-        wide = moved.arrivals.size.wide ∙ are.arrivals.wide;
-        long = moved.arrivals.size.long ∙ are.arrivals.long;
-      };
-      inside = record {
-        wide = moved.inside.size.wide ∙ are.inside.wide;
-        long = moved.inside.size.long ∙ are.inside.long;
-      };
-      turns = record {
-        wide = moved.turns.size.wide ∙ are.turns.wide;
-        long = moved.turns.size.long ∙ are.turns.long;
-      };
-    }
+step_sized parts box round old new are (inl (trips, by)) = by.moved.size
 step_sized parts box round old new are (inr without) =
     subst (ArePricesOf parts) (sym without.same) are
 
@@ -148,18 +109,17 @@ table_sized parts box (suc before) table is =
     step_sized parts box (suc before) is.0 table (table_sized parts box before is.0 is.1) is.2
 
 module _ (parts : Parts) (box : Box) (valid : IsScenario parts) where
-  step_same : (round : ℕ) (a b c d : PriceTable) → ArePricesOf parts a → ArePricesOf parts b
-      → AreSame parts a b → IsRoundStep parts box round a c → IsRoundStep parts box round b d
+  step_same : (round : ℕ) (a b c d : PriceTable) → AreSame parts a b → IsRoundStep parts box round a c → IsRoundStep parts box round b d
       → AreSame parts c d
-  step_same round a b c d sized like same (inl (trips, by)) (inl (others, also)) =
-      moved_same parts trips (step_of round) a b c d sized like same by.moved
+  step_same round a b c d same (inl (trips, by)) (inl (others, also)) =
+      moved_same parts trips (step_of round) a b c d same by.moved
       (subst (λ ts. IsMovedBy parts ts (step_of round) b d)
       (sym (trips_same parts valid a b same box trips others by.least also.least)) also.moved)
-  step_same round a b c d sized like same (inl (trips, by)) (inr without) =
+  step_same round a b c d same (inl (trips, by)) (inr without) =
       absurd (lacks_least parts box a trips without.none by.least)
-  step_same round a b c d sized like same (inr without) (inl (trips, by)) =
+  step_same round a b c d same (inr without) (inl (trips, by)) =
       absurd (lacks_least parts box b trips without.none by.least)
-  step_same round a b c d sized like same (inr without) (inr also) =
+  step_same round a b c d same (inr without) (inr also) =
       subst (λ z. AreSame parts z d) (sym without.same)
       (subst (λ z. AreSame parts a z) (sym also.same) same)
 
@@ -168,8 +128,7 @@ module _ (parts : Parts) (box : Box) (valid : IsScenario parts) where
       → IsRoundTable parts box round b → AreSame parts a b
   table_same zero a b p q = λ k within. p.1 k ∙ sym (q.1 k)
   table_same (suc before) a b p q =
-      step_same (suc before) p.0 q.0 a b (table_sized parts box before p.0 p.1)
-      (table_sized parts box before q.0 q.1) (table_same before p.0 q.0 p.1 q.1) p.2 q.2
+      step_same (suc before) p.0 q.0 a b (table_same before p.0 q.0 p.1 q.1) p.2 q.2
 
   -- and so is the bound that they tell
   pub bound_same : (a b : PriceTable) (x y : Bound) → AreSame parts a b

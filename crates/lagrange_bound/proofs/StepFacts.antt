@@ -1,20 +1,23 @@
 -- What the loads move prices by is what the trips do that they count.
-use Rattle.std.proofs.Common.{◌≡◌, ◌⊎◌, ℕ, ◌<◌, ◌≤◌, true, List, [], length, Option, None, Some, slice_get, slice_index_or, inl, inr, refl, sym, ap, ap₂, subst, ◌∙◌, arith}
+use Rattle.std.proofs.Common.{◌≡◌, ◌⊎◌, ℕ, ◌<◌, ◌≤◌, true, if◌then◌else◌, List, [], length, Option, None, Some, slice_get, slice_index_or, inl, inr, refl, sym, ap, ap₂, subst, ◌∙◌, arith}
 use Rattle.std.proofs.lemmas.Bool.{cases_lt}
 use Rattle.std.proofs.lemmas.List.{get_or_past}
-use Rattle.flow_types.specs.declared.bound.PriceKey.TheVariants as key
+use Rattle.flow_types.specs.declared.bound.PriceKind.{PriceKind}
+use Rattle.flow_types.specs.declared.bound.PriceKind.TheVariants.{Capacity, Connection as Connected}
 use Rattle.flow_types.specs.declared.flight.Connection.{Connection}
 use Rattle.flow_types.specs.declared.parts.Parts.{Parts}
-use Rattle.flow_types.specs.declared.place.CapKind.TheVariants as kind
+use Rattle.flow_types.specs.declared.place.CapKind.TheVariants as cap
 use Rattle.flow_types.specs.declared.plan.Stop.{Stop}
 use Rattle.flow_types.specs.Trips.{arrival_of, departure_of}
-use Rattle.flight_routes.specs.Prices.{ArePricesOf, PriceTable, price_in}
+use Rattle.flight_routes.specs.Prices.{PriceTable, price_at, row_count}
 use Rattle.plan_rules.specs.Cells.{Tally}
 use Rattle.plan_rules.specs.Loads.{AreLoads, arrival_at, departure_at}
 use Rattle.plan_rules.proofs.CountFacts.{AreTripsOrNone-length}
+use Rattle.priced_plans.specs.Keys.{has_limit}
+use Rattle.priced_plans.specs.Usage.{is_by, left_by, limit_at, ready_by, traffic_in, traffic_of, used_at}
 use Rattle.time_windows.specs.Boxes.{Box}
-use Rattle.lagrange_bound.specs.Moves.{AreMoved, moved_by_times, moved_price}
-use Rattle.lagrange_bound.specs.Rounds.{IsMovedBy, IsRoundStep, is_by, moved, moved_by_capacity, moved_by_turn, step_of}
+use Rattle.lagrange_bound.specs.Moves.{AreMoved}
+use Rattle.lagrange_bound.specs.Rounds.{IsMovedBy, IsRoundStep, moved, moved_price, step_of}
 use Rattle.lagrange_bound.specs.Taking.{HaveTaken}
 use Rattle.lagrange_bound.proofs.TakeFacts.{all_taken}
 
@@ -44,83 +47,57 @@ module _ (parts : Parts) (trips : List (List Stop)) (loads : Tally)
           get_or_past loads.arrives f None (omega (arith, past, are.made.arrives))
           ∙ sym (ap arrival_of (get_or_past trips f [] (omega (arith, past, same))))
 
-  turn_is : (step : ℕ) (connection : Option Connection) (period price : ℕ)
-      → moved_by_times loads step connection period price
-      ≡ moved_by_turn trips step connection period price
-  turn_is step None period price = refl
-  turn_is step (Some connection) period price =
-      ap₂ (λ left ready. moved step (is_by left 0 period)
-      (is_by ready connection.turnaround period) price) (left_is connection.second)
-      (arrived_is connection.first)
+  left_same : (connection : Option Connection) (period : ℕ)
+      → left_by (traffic_in loads) connection period
+      ≡ left_by (traffic_of parts trips) connection period
+  left_same None period = refl
+  left_same (Some connection) period =
+      ap (λ time. is_by time 0 period) (left_is connection.second)
 
-  pub moved_by_trips : (step : ℕ) (old new : PriceTable) → ArePricesOf parts old
-      → AreMoved parts (moved_price parts loads step) (λ k. true) old new
+  ready_same : (connection : Option Connection) (period : ℕ)
+      → ready_by (traffic_in loads) connection period
+      ≡ ready_by (traffic_of parts trips) connection period
+  ready_same None period = refl
+  ready_same (Some connection) period =
+      ap (λ time. is_by time connection.turnaround period) (arrived_is connection.first)
+
+  used_same : (kind : PriceKind) (row period : ℕ) → row < row_count parts kind
+      → period < parts.day.periods → used_at parts (traffic_in loads) kind row period
+      ≡ used_at parts (traffic_of parts trips) kind row period
+  used_same (Capacity cap.Dep) row period within in_day = are.departures row period within in_day
+  used_same (Capacity cap.Arr) row period within in_day = are.arrivals row period within in_day
+  used_same (Capacity cap.Sector) row period within in_day = are.sectors row period within in_day
+  used_same Connected row period within in_day =
+      left_same (slice_get parts.connections row) period
+
+  limit_same : (kind : PriceKind) (row period : ℕ)
+      → limit_at parts (traffic_in loads) kind row period
+      ≡ limit_at parts (traffic_of parts trips) kind row period
+  limit_same (Capacity kind) row period = refl
+  limit_same Connected row period = ready_same (slice_get parts.connections row) period
+
+  pub moved_by_trips : (step : ℕ) (old new : PriceTable)
+      → AreMoved parts (moved_price parts (traffic_in loads) step) (λ k. true) old new
       → IsMovedBy parts trips step old new
-  moved_by_trips step old new sized made = record {
-    departures = record {
-      size = record {
-        wide = made.size.departures.wide ∙ sym sized.departures.wide;
-        long = made.size.departures.long ∙ sym sized.departures.long;
-      };
-      prices = λ k t place.
-          let within : k < length parts.places =
-          omega (arith, sized.departures.wide, place.within) in
-          let in_day : t < parts.day.periods = omega (arith, sized.departures.long, place.in_day) in
-          made.each (key.Dep k t) (within, in_day)
-          ∙ ap (λ n. moved_by_capacity parts kind.Dep step k t n (price_in old.departures k t))
-          (are.departures k t within in_day);
-    };
-    arrivals = record {
-      size = record {
-        wide = made.size.arrivals.wide ∙ sym sized.arrivals.wide;
-        long = made.size.arrivals.long ∙ sym sized.arrivals.long;
-      };
-      prices = λ k t place.
-          let within : k < length parts.places =
-          omega (arith, sized.arrivals.wide, place.within) in
-          let in_day : t < parts.day.periods = omega (arith, sized.arrivals.long, place.in_day) in
-          made.each (key.Arr k t) (within, in_day)
-          ∙ ap (λ n. moved_by_capacity parts kind.Arr step k t n (price_in old.arrivals k t))
-          (are.arrivals k t within in_day);
-    };
-    inside = record {
-      size = record {
-        wide = made.size.inside.wide ∙ sym sized.inside.wide;
-        long = made.size.inside.long ∙ sym sized.inside.long;
-      };
-      prices = λ k t place.
-          let within : k < length parts.places =
-          omega (arith, sized.inside.wide, place.within) in
-          let in_day : t < parts.day.periods = omega (arith, sized.inside.long, place.in_day) in
-          made.each (key.Sector k t) (within, in_day)
-          ∙ ap (λ n. moved_by_capacity parts kind.Sector step k t n (price_in old.inside k t))
-          (are.sectors k t within in_day);
-    };
-    turns = record {
-      size = record {
-        wide = made.size.turns.wide ∙ sym sized.turns.wide;
-        long = made.size.turns.long ∙ sym sized.turns.long;
-      };
-      prices = λ k t place.
-          let within : k < length parts.connections =
-          omega (arith, sized.turns.wide, place.within) in
-          let in_day : t < parts.day.periods = omega (arith, sized.turns.long, place.in_day) in
-          made.each (key.Connect k t) (within, in_day)
-          ∙ turn_is step (slice_get parts.connections k) t (price_in old.turns k t);
-    };
+  moved_by_trips step old new made = record {
+    size = made.size;
+    each = λ k within. made.each k within
+        ∙ ap₂ (λ used limit. if has_limit parts k then moved step used limit (price_at old k)
+        else price_at old k)
+        (used_same k.kind k.row k.period within.0 within.1) (limit_same k.kind k.row k.period);
   }
 
 -- a round, once the trips are taken
 pub round_played : (parts : Parts) (box : Box) (round step : ℕ) (loads : Tally)
-    (old new : PriceTable) → ArePricesOf parts old → step ≡ step_of round
+    (old new : PriceTable) → step ≡ step_of round
     → HaveTaken parts box old (length parts.flights) loads
-    → AreMoved parts (moved_price parts loads step) (λ k. true) old new
+    → AreMoved parts (moved_price parts (traffic_in loads) step) (λ k. true) old new
     → IsRoundStep parts box round old new
-round_played parts box round step loads old new sized is (trips, have) made = inl (
+round_played parts box round step loads old new is (trips, have) made = inl (
   trips,
   record {
     least = all_taken parts box old loads trips have;
     moved = subst (λ n. IsMovedBy parts trips n old new) is
-        (moved_by_trips parts trips loads have.counted step old new sized made);
+        (moved_by_trips parts trips loads have.counted step old new made);
   },
 )

@@ -1,25 +1,21 @@
 -- After round 1,024 the step is 0: prices stay where they are, and no round tells more.
-use Rattle.std.proofs.Common.{◌≡◌, ◌⊎◌, ℕ, zero, suc, ◌<◌, ◌≤◌, Bool, true, false, if◌then◌else◌, length, Option, None, Some, slice_get, inl, inr, refl, sym, subst, arith}
+use Rattle.std.proofs.Common.{◌≡◌, ◌⊎◌, ℕ, zero, suc, ◌<◌, ◌≤◌, Bool, true, false, if◌then◌else◌, length, inl, inr, refl, sym, subst, arith}
 use Rattle.std.proofs.lemmas.Bool.{cases_lt}
 use Rattle.std.proofs.Math.Nat.{div-eq_of_lt}
 use Rattle.flow_types.specs.declared.bound.Bound.{Bound}
 use Rattle.flow_types.specs.declared.bound.Bound.TheVariants.{AtLeast, NoPlan}
 use Rattle.flow_types.specs.declared.bound.PriceKey.{PriceKey}
-use Rattle.flow_types.specs.declared.bound.PriceKey.TheVariants as key
-use Rattle.flow_types.specs.declared.flight.Connection.{Connection}
 use Rattle.flow_types.specs.declared.parts.Parts.{Parts}
-use Rattle.flow_types.specs.declared.place.CapKind.{CapKind}
-use Rattle.flow_types.specs.declared.place.CapKind.TheVariants as kind
-use Rattle.flow_types.specs.Capacities.{capacity_of, has_kind}
 use Rattle.flow_types.specs.Valid.{IsScenario}
 use Rattle.flight_routes.specs.Prices.{ArePricesOf, PriceTable, price_at}
 use Rattle.plan_rules.specs.Cells.{Tally}
-use Rattle.plan_rules.specs.Loads.{load_at}
+use Rattle.priced_plans.specs.Keys.{has_limit}
+use Rattle.priced_plans.specs.Usage.{Traffic, limit, traffic_in, used}
 use Rattle.time_windows.specs.Boxes.{Box}
 use Rattle.lagrange_bound.specs.Best.{IsMostOfRounds}
 use Rattle.flow_types.specs.Bounds.{IsAtMost}
-use Rattle.lagrange_bound.specs.Moves.{AreMoved, moved_by_times, moved_price}
-use Rattle.lagrange_bound.specs.Rounds.{IsRoundBound, IsRoundStep, IsRoundTable, IsTableBound, moved, moved_by_capacity}
+use Rattle.lagrange_bound.specs.Moves.{AreMoved}
+use Rattle.lagrange_bound.specs.Rounds.{IsRoundBound, IsRoundStep, IsRoundTable, IsTableBound, moved, moved_price}
 use Rattle.lagrange_bound.specs.Taking.{HaveTaken}
 use Rattle.lagrange_bound.specs.Work.{ArePlayed, IsBest}
 use Rattle.lagrange_bound.proofs.BestFacts.{rounds_go_on}
@@ -30,37 +26,21 @@ moved_none : (count limit price : ℕ) → moved 0 count limit price ≡ price
 moved_none count limit price = omega arith
 
 module _ (parts : Parts) where
-  capacity_none : (kind : CapKind) (place period count price : ℕ)
-      → moved_by_capacity parts kind 0 place period count price ≡ price
-  capacity_none kind place period count price =
-      by (has_kind kind (slice_get parts.places place))
+  price_stays : (traffic : Traffic) (k : PriceKey) (price : ℕ)
+      → moved_price parts traffic 0 k price ≡ price
+  price_stays traffic k price = by (has_limit parts k)
     where
-      by : (b : Bool) → (if b then moved 0 count (capacity_of parts.places kind place period) price
-          else price) ≡ price
-      by true = moved_none count (capacity_of parts.places kind place period) price
+      by : (b : Bool)
+          → (if b then moved 0 (used parts traffic k) (limit parts traffic k) price else price)
+          ≡ price
+      by true = moved_none (used parts traffic k) (limit parts traffic k) price
       by false = refl
 
-  times_none : (loads : Tally) (found : Option Connection) (period price : ℕ)
-      → moved_by_times loads 0 found period price ≡ price
-  times_none loads None period price = refl
-  times_none loads (Some connection) period price = moved_none _ _ price
-
-  price_stays : (loads : Tally) (k : PriceKey) (price : ℕ)
-      → moved_price parts loads 0 k price ≡ price
-  price_stays loads (key.Dep place period) price =
-      capacity_none kind.Dep place period (load_at loads kind.Dep place period) price
-  price_stays loads (key.Arr place period) price =
-      capacity_none kind.Arr place period (load_at loads kind.Arr place period) price
-  price_stays loads (key.Sector place period) price =
-      capacity_none kind.Sector place period (load_at loads kind.Sector place period) price
-  price_stays loads (key.Connect connection period) price =
-      times_none loads (slice_get parts.connections connection) period price
-
   still : (loads : Tally) (table : PriceTable) → ArePricesOf parts table
-      → AreMoved parts (moved_price parts loads 0) (λ k. true) table table
+      → AreMoved parts (moved_price parts (traffic_in loads) 0) (λ k. true) table table
   still loads table size = record {
     size = size;
-    each = λ k within. sym (price_stays loads k (price_at table k));
+    each = λ k within. sym (price_stays (traffic_in loads) k (price_at table k));
     rise = λ k within. omega arith;
   }
 
@@ -72,7 +52,7 @@ module _ (parts : Parts) where
       (told : IsTableBound parts box table last) where
     step_stays : (round : ℕ) → 1024 < round → IsRoundStep parts box round table table
     step_stays round late =
-        round_played parts box round 0 loads table table size (sym (div-eq_of_lt late)) taken
+        round_played parts box round 0 loads table table (sym (div-eq_of_lt late)) taken
         (still loads table size)
 
     stands : (round : ℕ) → 1024 ≤ round → IsRoundTable parts box round table

@@ -7,26 +7,27 @@ use Rattle.std.proofs.lemmas.Bool.Decides.{nat_tests}
 use Rattle.std.proofs.lemmas.Int.{ints}
 use Rattle.exact_sums.specs.Leasts.{IsLeastAt}
 use Rattle.flow_types.specs.declared.bound.Bound.TheVariants.{AtLeast}
-use Rattle.flow_types.specs.declared.bound.PriceKey.TheVariants as key
+use Rattle.flow_types.specs.declared.bound.PriceKind.{PriceKind}
+use Rattle.flow_types.specs.declared.bound.PriceKind.TheVariants.{Capacity, Connection as Connected}
 use Rattle.flow_types.specs.declared.flight.Cost.TheVariants.{Linear}
 use Rattle.flow_types.specs.declared.flight.Flight.{Flight}
 use Rattle.flow_types.specs.declared.flight.Leg.{Leg}
 use Rattle.flow_types.specs.declared.parts.Parts.{Parts}
 use Rattle.flow_types.specs.declared.plan.Stop.{Stop}
-use Rattle.flow_types.specs.declared.place.CapKind.TheVariants as kind
+use Rattle.flow_types.specs.declared.place.CapKind.TheVariants as cap
 use Rattle.flow_types.specs.Costs.{times_cost}
-use Rattle.flow_types.specs.Counts.{arrivals_at, departures_at, occupancy_at}
 use Rattle.flow_types.specs.Trips.{IsOnward, IsStep, IsTrip}
 use Rattle.flight_routes.specs.Inside.{IsTripIn}
-use Rattle.flight_routes.specs.Prices.{AreFree, ArePricesOf, Block, PriceTable, price_in, priced_cost, priced_cost_of, stays_price}
+use Rattle.flight_routes.specs.Prices.{AreFree, ArePricesOf, Block, PriceTable, block_of, key_in, price_at, price_in, priced_cost, priced_cost_of, row_count, stays_price}
 use Rattle.flight_routes.specs.TripOrder.{IsNoLater}
 use Rattle.time_windows.specs.Boxes.{Box}
 use Rattle.worked_days.specs.Days.{beside, flight_with, legs_with, plan_with, stop_at, there, trip_at, two_flights}
 use Rattle.worked_days.proofs.WorkedDay.{all_below}
 use Rattle.priced_plans.specs.Values.{IsPricedValue, limit_price}
 use Rattle.priced_plans.specs.PricedBound.{IsRoundedUp}
+use Rattle.priced_plans.specs.Usage.{traffic_of}
 use Rattle.priced_plans.proofs.WorkedPrices.{on_time as trip_on_time}
-use Rattle.lagrange_bound.specs.Rounds.{AreLeastTrips, IsLeastTrip, IsMoved, IsMovedBy, IsRoundBound, IsRoundStep, IsRoundTable, moved_by_capacity, moved_by_turn}
+use Rattle.lagrange_bound.specs.Rounds.{AreLeastTrips, IsLeastTrip, IsMovedBy, IsRoundBound, IsRoundStep, IsRoundTable, moved_price}
 
 abbrev two : Parts
 two = two_flights 1 9 9
@@ -257,35 +258,36 @@ below (suc n) (suc k) test all less =
 same_numbers : (a b : ℕ) → nat_eq a b ≡ true → a ≡ b
 same_numbers a b test = grind (arith, nat_tests)
 
-module _ (rows : ℕ) (move : ℕ → ℕ → ℕ → ℕ) (old new : List ℕ) where
-  abbrev block_of : List ℕ → Block
-  block_of prices = record { rows = rows; periods = 8; prices = prices }
-
-  abbrev is_same : ℕ → ℕ → Bool
-  is_same k t =
-      nat_eq (price_in (block_of new) k t) (move k t (price_in (block_of old) k t))
-
-  moved_is : all_below rows (λ k. all_below 8 (is_same k)) ≡ true
-      → IsMoved move (block_of old) (block_of new)
-  moved_is all = record {
-    size = record { wide = refl; long = refl };
-    prices = λ k t place.
-        same_numbers (price_in (block_of new) k t) (move k t (price_in (block_of old) k t))
-        (below 8 t (is_same k) (below rows k (λ k. all_below 8 (is_same k)) all place.within)
-        place.in_day);
-  }
-
 -- One departure too many, at 1024 for each.
+abbrev is_moved : PriceKind → ℕ → ℕ → Bool
+is_moved kind k t =
+    nat_eq (price_at (table_with 1024) (key_in kind k t))
+    (moved_price two (traffic_of two on_time_plan) 1024 (key_in kind k t)
+    (price_at (table_with 0) (key_in kind k t)))
+
+kind_moved : (kind : PriceKind)
+    → all_below (row_count two kind) (λ k. all_below 8 (is_moved kind k)) ≡ true → (k t : ℕ)
+    → k < row_count two kind → t < 8 → price_at (table_with 1024) (key_in kind k t)
+    ≡ moved_price two (traffic_of two on_time_plan) 1024 (key_in kind k t)
+    (price_at (table_with 0) (key_in kind k t))
+kind_moved kind all k t within in_day =
+    same_numbers (price_at (table_with 1024) (key_in kind k t))
+    (moved_price two (traffic_of two on_time_plan) 1024 (key_in kind k t)
+    (price_at (table_with 0) (key_in kind k t)))
+    (below 8 t (is_moved kind k)
+    (below (row_count two kind) k (λ k. all_below 8 (is_moved kind k)) all within) in_day)
+
+all_moved : (kind : PriceKind)
+    → all_below (row_count two kind) (λ k. all_below 8 (is_moved kind k)) ≡ true
+all_moved (Capacity cap.Dep) = refl
+all_moved (Capacity cap.Arr) = refl
+all_moved (Capacity cap.Sector) = refl
+all_moved Connected = refl
+
 moved_by_plan : IsMovedBy two on_time_plan 1024 (table_with 0) (table_with 1024)
 moved_by_plan = record {
-  departures = moved_is 3 (λ k t. moved_by_capacity two kind.Dep 1024 k t
-      (departures_at two.flights on_time_plan k t)) (replicate 24 0) (1024 ∷ replicate 23 0) refl;
-  arrivals = moved_is 3 (λ k t. moved_by_capacity two kind.Arr 1024 k t
-      (arrivals_at two.flights on_time_plan k t)) (replicate 24 0) (replicate 24 0) refl;
-  inside = moved_is 3 (λ k t. moved_by_capacity two kind.Sector 1024 k t
-      (occupancy_at two.flights on_time_plan k t)) (replicate 24 0) (replicate 24 0) refl;
-  turns = moved_is 0 (λ k. moved_by_turn on_time_plan 1024 (slice_get two.connections k))
-      [] [] refl;
+  size = are_prices 1024;
+  each = λ k within. kind_moved k.kind (all_moved k.kind) k.row k.period within.0 within.1;
 }
 
 zeros_free : (n k : ℕ) → slice_index (replicate n 0) k ≡ 0
@@ -293,11 +295,14 @@ zeros_free zero k = refl
 zeros_free (suc n) zero = refl
 zeros_free (suc n) (suc k) = zeros_free n k
 
+kind_free : (kind : PriceKind) (k t : ℕ) → price_in (block_of kind (table_with 0)) k t ≡ 0
+kind_free (Capacity cap.Dep) k t = zeros_free 24 (k * 8 + t)
+kind_free (Capacity cap.Arr) k t = zeros_free 24 (k * 8 + t)
+kind_free (Capacity cap.Sector) k t = zeros_free 24 (k * 8 + t)
+kind_free Connected k t = zeros_free 0 (k * 8 + t)
+
 free : AreFree (table_with 0)
-free (key.Dep place period) = zeros_free 24 (place * 8 + period)
-free (key.Arr place period) = zeros_free 24 (place * 8 + period)
-free (key.Sector place period) = zeros_free 24 (place * 8 + period)
-free (key.Connect connection period) = zeros_free 0 (connection * 8 + period)
+free k = kind_free k.kind k.row k.period
 
 no_round : IsRoundTable two all_open 0 (table_with 0)
 no_round = (are_prices 0, free)

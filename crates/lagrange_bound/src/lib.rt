@@ -11,7 +11,8 @@
 //!         Bound::AtLeast(least) => println!("no plan in the box costs less than {least}"),
 //!         Bound::NoPlan => println!("a flight has no trip in the box"),
 //!     }
-//!     let price = rounds.prices().departure(place, period);
+//!     let kind = PriceKind::Capacity(CapKind::Dep);
+//!     let price = rounds.prices().get(PriceKey { kind, row: place, period });
 //!
 //! These are the subgradient steps of Lagrangian relaxation (Held, Wolfe and Crowder, "Validation
 //! of subgradient optimization", 1974). Their bounds rise and fall, so the best prices are kept.
@@ -42,6 +43,5 @@ mod taking;
 mod values;
 
 pub use laws::{round_bounds_are_bounds, round_bounds_are_the_same};
-pub use moves::is_by;
 pub use rounds::Rounds;
 pub use taking::COST_WEIGHT;

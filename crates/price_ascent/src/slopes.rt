@@ -1,18 +1,16 @@
 //! Prices that may rise, and which way they move.
-ghost use Rattle.std.specs.Prelude.{◌≡◌, ◌<◌, ◌^◌, IfOk, IsTrue, OnOk, length, slice_get};
-ghost use Rattle.flow_types.specs.Capacities.{has_kind};
+ghost use Rattle.std.specs.Prelude.{◌<◌, ◌^◌, IfOk, OnOk, length};
 ghost use Rattle.flow_types.specs.Scenario.{parts_of};
 ghost use Rattle.plan_rules.specs.Loads.{IsMadeFor};
-ghost use Rattle.flight_routes.specs.Prices.{ArePricesOf};
-ghost use Rattle.priced_plans.specs.Keys.{IsKeyFor, has_limit, rows_of};
+ghost use Rattle.flight_routes.specs.Prices.{row_count};
+ghost use Rattle.priced_plans.specs.Keys.{IsKeyFor};
 ghost use Rattle.price_ascent.specs.Slopes.{AreSlopesFor, IsGood, IsSlopeKey};
 
 use crate::users::Users;
 use flight_routes::Prices;
-use flow_types::{CapKind, OutOfMemory, PriceKey, Scenario, capacity_at, has_kind};
-use lagrange_bound::is_by;
+use flow_types::{CapKind, OutOfMemory, PriceKey, PriceKind, Scenario, capacity_at};
 use plan_rules::Loads;
-use priced_plans::{PriceKind, key_in, price_at, rows_of};
+use priced_plans::{has_limit, price_kinds, row_count, usage_of};
 use std::alloc::Global;
 
 /// A price that may rise.
@@ -37,10 +35,9 @@ pub fn all_slopes(alloc: Global, s: &Scenario) -> Result<Vec<Slope>, OutOfMemory
 {
     let users = Users::new(alloc, s)?;
     let mut slopes = Vec::new(alloc);
-    add_kind(s, &users, PriceKind::Departure, &mut slopes)?;
-    add_kind(s, &users, PriceKind::Arrival, &mut slopes)?;
-    add_kind(s, &users, PriceKind::Stay, &mut slopes)?;
-    add_kind(s, &users, PriceKind::Turn, &mut slopes)?;
+    for kind in price_kinds() {
+        add_kind(s, &users, kind, &mut slopes)?;
+    }
     Ok(slopes)
 }
 
@@ -54,7 +51,7 @@ fn add_kind(
     requires { AreSlopesFor (parts_of s.now) slopes.old.items }
     ensures { OnOk result (AreSlopesFor (parts_of s.now) slopes.new.items) }
 {
-    for row in 0..rows_of(s, kind) {
+    for row in 0..row_count(s, kind) {
         add_row(s, users, kind, row as u32, slopes)?;
     }
     Ok(())
@@ -68,12 +65,12 @@ fn add_row(
     row: u32,
     slopes: &mut Vec<Slope>,
 ) -> Result<(), OutOfMemory>
-    requires row { row < rows_of (parts_of s.now) kind }
+    requires row { row < row_count (parts_of s.now) kind }
     requires slopes { AreSlopesFor (parts_of s.now) slopes.old.items }
     ensures { OnOk result (AreSlopesFor (parts_of s.now) slopes.new.items) }
 {
     for period in 0..s.day().periods {
-        add(s, users, key_in(kind, row, period), slopes)?;
+        add(s, users, PriceKey { kind, row, period }, slopes)?;
     }
     Ok(())
 }
@@ -95,28 +92,13 @@ fn add(
     Ok(())
 }
 
-// Whether a price may be put on it: on a capacity that is there, or a connection.
-fn has_limit(s: &Scenario, key: PriceKey) -> bool
-    requires { IsKeyFor (parts_of s.now) key }
-    ensures { result ≡ has_limit (parts_of s.now) key }
-{
-    match key {
-        PriceKey::Dep { place, .. } => has_kind(CapKind::Dep, s.places(), place),
-        PriceKey::Arr { place, .. } => has_kind(CapKind::Arr, s.places(), place),
-        PriceKey::Sector { place, .. } => has_kind(CapKind::Sector, s.places(), place),
-        PriceKey::Connect { .. } => true,
-    }
-}
-
 // Whether trips may pass the limit at all.
 fn may_pass(s: &Scenario, users: &Users, key: PriceKey) -> bool
     requires { IsKeyFor (parts_of s.now) key }
 {
-    match key {
-        PriceKey::Dep { place, period } => may_fill(s, users, CapKind::Dep, place, period),
-        PriceKey::Arr { place, period } => may_fill(s, users, CapKind::Arr, place, period),
-        PriceKey::Sector { place, period } => may_fill(s, users, CapKind::Sector, place, period),
-        PriceKey::Connect { connection, period } => may_leave(s, connection, period),
+    match key.kind {
+        PriceKind::Capacity(kind) => may_fill(s, users, kind, key.row, key.period),
+        PriceKind::Connection => may_leave(s, key.row, key.period),
     }
 }
 
@@ -172,7 +154,7 @@ pub fn paid_by_limits(slopes: &[Slope], s: &Scenario, prices: &Prices) -> i128
 {
     let mut sum = 0i128;
     for slope in slopes {
-        let price = i128::from(price_at(prices, slope.key));
+        let price = i128::from(prices.get(slope.key));
         sum = sum.saturating_add(price.saturating_mul(i128::from(limit_of(s, slope.key))));
     }
     sum
@@ -180,13 +162,9 @@ pub fn paid_by_limits(slopes: &[Slope], s: &Scenario, prices: &Prices) -> i128
 
 // How many flights pass no limit; of a connection, what the first one makes room for isn't counted.
 fn limit_of(s: &Scenario, key: PriceKey) -> u32 {
-    match key {
-        PriceKey::Dep { place, period } => capacity_at(s.places(), CapKind::Dep, place, period),
-        PriceKey::Arr { place, period } => capacity_at(s.places(), CapKind::Arr, place, period),
-        PriceKey::Sector { place, period } => {
-            capacity_at(s.places(), CapKind::Sector, place, period)
-        }
-        PriceKey::Connect { .. } => 0,
+    match key.kind {
+        PriceKind::Capacity(kind) => capacity_at(s.places(), kind, key.row, key.period),
+        PriceKind::Connection => 0,
     }
 }
 
@@ -216,7 +194,7 @@ pub fn turn_slopes(
             key,
             way: turned_way(way, fifths, excess),
         };
-        turned = counted(turned, excess, price_at(prices, key));
+        turned = counted(turned, excess, prices.get(key));
     }
     turned
 }
@@ -244,34 +222,13 @@ fn turned_way(way: i64, fifths: i64, excess: i64) -> i64 {
         .saturating_add((way / 5).saturating_mul(fifths))
 }
 
-// By how many flights the loads exceed the limit.
+// By how much the loads exceed the limit.
 fn excess_of(s: &Scenario, loads: &Loads, key: PriceKey) -> i64
     requires key { IsSlopeKey (parts_of s.now) key }
     requires loads { IsMadeFor (parts_of s.now) loads.now }
 {
-    match key {
-        PriceKey::Dep { place, period } => over_capacity(s, loads, CapKind::Dep, place, period),
-        PriceKey::Arr { place, period } => over_capacity(s, loads, CapKind::Arr, place, period),
-        PriceKey::Sector { place, period } => {
-            over_capacity(s, loads, CapKind::Sector, place, period)
-        }
-        PriceKey::Connect { connection, period } => {
-            let turn = &s.connections()[connection as usize];
-            let left = is_by(loads.departure(turn.second), 0, period);
-            let ready = is_by(loads.arrival(turn.first), turn.turnaround, period);
-            i64::from(left) - i64::from(ready)
-        }
-    }
-}
-
-// By how many they exceed a capacity.
-fn over_capacity(s: &Scenario, loads: &Loads, kind: CapKind, place: u32, period: u16) -> i64
-    requires loads { IsMadeFor (parts_of s.now) loads.now }
-    requires place { place < length (parts_of s.now).places }
-    requires has { IsTrue (has_kind kind (slice_get (parts_of s.now).places place)) }
-    requires period { period < (parts_of s.now).day.periods }
-{
-    i64::from(loads.load(kind, place, period)) - i64::from(s.capacity(kind, place, period))
+    let usage = usage_of(s, loads, key);
+    i64::from(usage.used) - i64::from(usage.limit)
 }
 
 /// Moves each price along its slope, by so many 1,024ths for a flight; no price falls below 0.
@@ -281,7 +238,7 @@ pub fn move_prices(slopes: &[Slope], s: &Scenario, stride: i64, prices: &mut Pri
     ensures { IsGood (parts_of s.now) prices.new }
 {
     for slope in slopes {
-        let price = price_at(prices, slope.key);
+        let price = prices.get(slope.key);
         set_price(s, slope.key, moved(price, slope.way, stride), prices);
     }
 }

@@ -7,7 +7,8 @@ use Rattle.std.proofs.lemmas.List.Sums.{sum_by-cons}
 use Rattle.exact_sums.specs.Leasts.{IsLeast, IsLeastAt}
 use Rattle.exact_sums.proofs.ItemFacts.{All-item}
 use Rattle.exact_sums.proofs.ProductFacts.{times-within}
-use Rattle.flow_types.specs.declared.bound.PriceKey.TheVariants as key
+use Rattle.flow_types.specs.declared.bound.PriceKind.{PriceKind}
+use Rattle.flow_types.specs.declared.bound.PriceKind.TheVariants.{Capacity, Connection as Connected}
 use Rattle.flow_types.specs.declared.flight.Connection.{Connection}
 use Rattle.flow_types.specs.declared.flight.Flight.{Flight}
 use Rattle.flow_types.specs.declared.parts.Parts.{Parts}
@@ -19,13 +20,14 @@ use Rattle.flow_types.specs.Valid.{IsFlight, IsScenario}
 use Rattle.flow_types.proofs.CostFacts.{credit_at-within, total_at-within}
 use Rattle.flow_types.proofs.PlaceFacts.{has_kind-within}
 use Rattle.flight_routes.specs.Inside.{IsTripIn}
-use Rattle.flight_routes.specs.Prices.{ArePricesOf, PriceTable, price_in, priced_cost, priced_cost_of, stay_price, stays_price, summed, turns_back, turns_paid}
+use Rattle.flight_routes.specs.Prices.{ArePricesOf, PriceTable, block_of, key_in, price_in, priced_cost, priced_cost_of, row_count, stay_price, stays_price, summed, turns_back, turns_paid}
 use Rattle.exact_sums.specs.Near.{IsNear}
 use Rattle.flight_routes.proofs.TripFacts.{in_day, step_up}
 use Rattle.time_windows.specs.Boxes.{Box}
 use Rattle.priced_plans.specs.Values.{IsPricedSum}
 use Rattle.priced_plans.specs.Valuing.{AreSmall, LacksTrip}
 use Rattle.exact_sums.specs.Sums.{plus}
+use Rattle.priced_plans.proofs.KeyFacts.{key_of}
 
 -- a sum of so many numbers, none of them greater than this
 range-few : (f : ℕ → ℕ) (most from n : ℕ)
@@ -53,44 +55,17 @@ summed-few price from to few each =
 
 module _ (parts : Parts) (table : PriceTable) (valid : IsScenario parts)
     (sized : ArePricesOf parts table) (small : AreSmall table) where
-  dep-small : (k t : ℕ) → k < length parts.places → t < parts.day.periods
-      → price_in table.departures k t < 2 ^ 62
-  dep-small k t within day =
-      small (key.Dep k t) (record {
-        within = omega (arith, within, sized.departures.wide);
-        in_day = omega (arith, day, sized.departures.long);
-      })
-
-  arr-small : (k t : ℕ) → k < length parts.places → t < parts.day.periods
-      → price_in table.arrivals k t < 2 ^ 62
-  arr-small k t within day =
-      small (key.Arr k t) (record {
-        within = omega (arith, within, sized.arrivals.wide);
-        in_day = omega (arith, day, sized.arrivals.long);
-      })
-
-  stay-small : (k t : ℕ) → k < length parts.places → t < parts.day.periods
-      → price_in table.inside k t < 2 ^ 62
-  stay-small k t within day =
-      small (key.Sector k t) (record {
-        within = omega (arith, within, sized.inside.wide);
-        in_day = omega (arith, day, sized.inside.long);
-      })
-
-  turn-small : (k t : ℕ) → k < length parts.connections → t < parts.day.periods
-      → price_in table.turns k t < 2 ^ 62
-  turn-small k t within day =
-      small (key.Connect k t) (record {
-        within = omega (arith, within, sized.turns.wide);
-        in_day = omega (arith, day, sized.turns.long);
-      })
+  price-small : (kind : PriceKind) (k t : ℕ) → k < row_count parts kind → t < parts.day.periods
+      → price_in (block_of kind table) k t < 2 ^ 62
+  price-small kind k t within day =
+      small (key_in kind k t) (key_of parts table (key_in kind k t) sized (within, day))
 
   -- what a flight pays for its connections, and is paid back
   turn-few : (k from : ℕ) → k < length parts.connections
       → summed (price_in table.turns k) from parts.day.periods ≤ 2 ^ 71
   turn-few k from within =
       summed-few (price_in table.turns k) from parts.day.periods valid.day.periods_to
-      (λ t day. turn-small k t within day)
+      (λ t day. price-small Connected k t within day)
 
   paid-few : (number leaves k : ℕ) (connections : List Connection)
       → k + length connections ≤ length parts.connections
@@ -133,7 +108,7 @@ module _ (parts : Parts) (table : PriceTable) (valid : IsScenario parts)
           (is.route.sectors stop.node after inner) in
           summed-few (price_in table.inside (place_at flight stop.node)) stop.time leaves
           (omega (arith, day, valid.day.periods_to))
-          (λ t before. stay-small (place_at flight stop.node) t place (omega (arith, day, before)))
+          (λ t before. price-small (Capacity kind.Sector) (place_at flight stop.node) t place (omega (arith, day, before)))
 
     stays-few : (stop : Stop) (rest : List Stop) → IsOnward parts.day.periods flight stop rest
         → stays_price table flight stop rest + stop.node * 2 ^ 71
@@ -173,9 +148,9 @@ module _ (parts : Parts) (table : PriceTable) (valid : IsScenario parts)
         (trip_cost parts.tables flight (stop ∷ rest)) (omega (arith, light))
         (omega (arith, ints, total.low, credit.high))
         (omega (arith, ints, total.high, credit.low)) in
-        let departs = dep-small flight.from stop.time
+        let departs = price-small (Capacity kind.Dep) flight.from stop.time
         (has_kind-within kind.Dep parts.places flight.from is.origin) leaves in
-        let lands = arr-small flight.to (arrival_from stop rest)
+        let lands = price-small (Capacity kind.Arr) flight.to (arrival_from stop rest)
         (has_kind-within kind.Arr parts.places flight.to is.destination) arrives in
         let stays = stays-few flight is stop rest trip.2 in
         let paid = paid-few number stop.time 0 parts.connections (omega arith) in

@@ -6,7 +6,7 @@ use Rattle.std.proofs.lemmas.Int.{ints}
 use Rattle.exact_sums.specs.Leasts.{IsLeastAt}
 use Rattle.exact_sums.proofs.ItemFacts.{All-item}
 use Rattle.flow_types.specs.declared.bound.PriceKey.{PriceKey}
-use Rattle.flow_types.specs.declared.bound.PriceKey.TheVariants as key
+use Rattle.flow_types.specs.declared.bound.PriceKind.TheVariants.{Capacity, Connection as Connected}
 use Rattle.flow_types.specs.declared.flight.Connection.{Connection}
 use Rattle.flow_types.specs.declared.flight.Flight.{Flight}
 use Rattle.flow_types.specs.declared.parts.Parts.{Parts}
@@ -19,7 +19,7 @@ use Rattle.flow_types.specs.Trips.{IsOnward, arrival_from, place_at}
 use Rattle.flow_types.specs.Valid.{IsFlight, IsScenario}
 use Rattle.flow_types.proofs.PlaceFacts.{has_kind-within}
 use Rattle.flight_routes.specs.Inside.{IsTripIn}
-use Rattle.flight_routes.specs.Prices.{Block, PriceTable, price_at, price_in, priced_cost, priced_cost_of, stay_price, stays_price, summed, turns_back, turns_paid}
+use Rattle.flight_routes.specs.Prices.{Block, PriceTable, key_in, price_at, price_in, priced_cost, priced_cost_of, stay_price, stays_price, summed, turns_back, turns_paid}
 use Rattle.flight_routes.proofs.TripFacts.{in_day}
 use Rattle.time_windows.specs.Boxes.{Box}
 use Rattle.priced_plans.specs.PricedBound.{IsRoundedUp}
@@ -81,7 +81,7 @@ module _ (parts : Parts) (valid : IsScenario parts) (a b : PriceTable)
   stay_same flight stop leaves false is day =
       summed_same (price_in a.inside (place_at flight stop.node))
       (price_in b.inside (place_at flight stop.node)) stop.time leaves
-      (λ t before. same (key.Sector (place_at flight stop.node) t)
+      (λ t before. same (key_in (Capacity kind.Sector) (place_at flight stop.node) t)
       (place_there parts flight is stop.node, omega (arith, before, day)))
 
   stays_same : (flight : Flight) (stop : Stop) (rest : List Stop)
@@ -102,7 +102,7 @@ module _ (parts : Parts) (valid : IsScenario parts) (a b : PriceTable)
       ≡ (if mine then summed (price_in b.turns k) from parts.day.periods else 0)
   turn_same k from true within =
       summed_same (price_in a.turns k) (price_in b.turns k) from parts.day.periods
-      (λ t before. same (key.Connect k t) (within, before))
+      (λ t before. same (key_in Connected k t) (within, before))
   turn_same k from false within = refl
 
   paid_same : (number leaves k : ℕ) (connections : List Connection)
@@ -138,9 +138,9 @@ module _ (parts : Parts) (valid : IsScenario parts) (a b : PriceTable)
       flight valid.flights.each is.there in
       let leaves = in_day parts.day.periods flight stop valid.day.periods_from is.trip.1 in
       let stays = stays_same flight stop rest good leaves is.trip.2 in
-      let from = same (key.Dep flight.from stop.time)
+      let from = same (key_in (Capacity kind.Dep) flight.from stop.time)
       (has_kind-within kind.Dep parts.places flight.from good.origin, leaves) in
-      let to = same (key.Arr flight.to (arrival_from stop rest))
+      let to = same (key_in (Capacity kind.Arr) flight.to (arrival_from stop rest))
       (has_kind-within kind.Arr parts.places flight.to good.destination, stays.1) in
       let paid = paid_same number stop.time 0 parts.connections (omega arith) in
       let back = back_same number (arrival_from stop rest) 0 parts.connections (omega arith) in
@@ -158,11 +158,11 @@ module _ (parts : Parts) (valid : IsScenario parts) (a b : PriceTable)
       ap₂ (λ (m n : ℕ). m + n)
       (ap₂ (λ (m n : ℕ). m + n)
       (capacity_same parts kind.Dep a.departures b.departures
-      (λ k t within in_day. same (key.Dep k t) (within, in_day)))
+      (λ k t within in_day. same (key_in (Capacity kind.Dep) k t) (within, in_day)))
       (capacity_same parts kind.Arr a.arrivals b.arrivals
-      (λ k t within in_day. same (key.Arr k t) (within, in_day))))
+      (λ k t within in_day. same (key_in (Capacity kind.Arr) k t) (within, in_day))))
       (capacity_same parts kind.Sector a.inside b.inside
-      (λ k t within in_day. same (key.Sector k t) (within, in_day)))
+      (λ k t within in_day. same (key_in (Capacity kind.Sector) k t) (within, in_day)))
 
   module _ (box : Box) (weight : ℕ) where
     sum_same : (n : ℕ) (x y : ℤ) → IsPricedSum parts box weight a n x

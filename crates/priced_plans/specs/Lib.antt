@@ -1,4 +1,5 @@
 pub mod Keys
+pub mod Usage
 pub mod Values
 pub mod Valuing
 pub mod PricedBound

@@ -2,13 +2,13 @@
 use Rattle.std.specs.Prelude.{ℕ, ◌*◌, ◌<◌, ◌^◌, List, length, sum_by}
 use Rattle.std.specs.List.{range_with_len}
 use Rattle.flow_types.specs.declared.bound.PriceKey.{PriceKey}
+use Rattle.flow_types.specs.declared.bound.PriceKind.TheVariants.{Capacity}
 use Rattle.flow_types.specs.declared.parts.Parts.{Parts}
 use Rattle.flow_types.specs.declared.place.CapKind.{CapKind}
-use Rattle.flow_types.specs.declared.place.CapKind.TheVariants as kind
 use Rattle.flow_types.specs.declared.plan.Stop.{Stop}
 use Rattle.flow_types.specs.Capacities.{capacity_of}
 use Rattle.flight_routes.specs.Inside.{IsTripIn}
-use Rattle.flight_routes.specs.Prices.{Block, IsKeyOf, PriceTable, price_at, price_in}
+use Rattle.flight_routes.specs.Prices.{IsKeyOf, PriceTable, block_of, price_at, price_in}
 use Rattle.time_windows.specs.Boxes.{Box}
 
 -- every price is one that may be set
@@ -21,16 +21,10 @@ pub record LacksTrip (parts : Parts) (box : Box) : Type 0 where
   pub within : number < length parts.flights
   pub none : (stops : List Stop) → IsTripIn parts box number stops → ⊥
 
--- the prices on what capacities of this kind are for
-abbrev pub block_of : CapKind → PriceTable → Block
-block_of kind.Dep table = table.departures
-block_of kind.Arr table = table.arrivals
-block_of kind.Sector table = table.inside
-
 -- what the capacity of a place in a period would pay, and those of all periods together
 abbrev pub cell_price : Parts → CapKind → PriceTable → ℕ → ℕ → ℕ
 cell_price parts kind table k t =
-    price_in (block_of kind table) k t * capacity_of parts.places kind k t
+    price_in (block_of (Capacity kind) table) k t * capacity_of parts.places kind k t
 
 abbrev pub row_price : Parts → CapKind → PriceTable → ℕ → ℕ
 row_price parts kind table k =

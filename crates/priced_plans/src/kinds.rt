@@ -1,56 +1,39 @@
 //! What prices are put on, by kinds.
-ghost use Rattle.std.specs.Prelude.{◌≡◌, ◌<◌, ◌^◌};
+ghost use Rattle.std.specs.Prelude.{◌≡◌};
 ghost use Rattle.flow_types.specs.Scenario.{parts_of};
-ghost use Rattle.flight_routes.specs.Prices.{IsKeyOf, price_at};
-ghost use Rattle.priced_plans.specs.Keys.{key_in, rows_of};
+ghost use Rattle.flight_routes.specs.Prices.{row_count};
+ghost use Rattle.priced_plans.specs.Keys.{has_limit, price_kinds};
 
-use flight_routes::Prices;
-use flow_types::{PriceKey, Scenario};
+use flow_types::{CapKind, PriceKey, PriceKind, Scenario, has_kind};
 
-/// What a price is put on.
-#[derive(Clone, Copy, Debug, PartialEq, Eq)]
-pub enum PriceKind {
-    Departure,
-    Arrival,
-    Stay,
-    Turn,
-}
-
-/// What the price of a row in a period is put on.
-pub fn key_in(kind: PriceKind, row: u32, period: u16) -> PriceKey
-    ensures { result ≡ key_in kind row period }
+/// The kinds of prices, in their order.
+pub fn price_kinds() -> [PriceKind; 4]
+    ensures { result ≡ price_kinds }
 {
-    match kind {
-        PriceKind::Departure => PriceKey::Dep { place: row, period },
-        PriceKind::Arrival => PriceKey::Arr { place: row, period },
-        PriceKind::Stay => PriceKey::Sector { place: row, period },
-        PriceKind::Turn => PriceKey::Connect {
-            connection: row,
-            period,
-        },
-    }
+    [
+        PriceKind::Capacity(CapKind::Dep),
+        PriceKind::Capacity(CapKind::Arr),
+        PriceKind::Capacity(CapKind::Sector),
+        PriceKind::Connection,
+    ]
 }
 
 /// How many rows of prices of a kind there are: places, or connections.
-pub fn rows_of(s: &Scenario, kind: PriceKind) -> usize
-    ensures { result ≡ rows_of (parts_of s.now) kind }
+pub fn row_count(s: &Scenario, kind: PriceKind) -> usize
+    ensures { result ≡ row_count (parts_of s.now) kind }
 {
     match kind {
-        PriceKind::Departure | PriceKind::Arrival | PriceKind::Stay => s.places().len(),
-        PriceKind::Turn => s.connections().len(),
+        PriceKind::Capacity(_) => s.places().len(),
+        PriceKind::Connection => s.connections().len(),
     }
 }
 
-/// The price that a key names.
-pub fn price_at(prices: &Prices, key: PriceKey) -> u64
-    requires { IsKeyOf prices.now key }
-    ensures price { result ≡ price_at prices.now key }
-    ensures small { result < 2 ^ 62 }
+/// Whether a price may be put on it: on a capacity that is there, or a connection.
+pub fn has_limit(s: &Scenario, key: PriceKey) -> bool
+    ensures { result ≡ has_limit (parts_of s.now) key }
 {
-    match key {
-        PriceKey::Dep { place, period } => prices.departure(place, period),
-        PriceKey::Arr { place, period } => prices.arrival(place, period),
-        PriceKey::Sector { place, period } => prices.stay(place, period),
-        PriceKey::Connect { connection, period } => prices.turn(connection, period),
+    match key.kind {
+        PriceKind::Capacity(kind) => has_kind(kind, s.places(), key.row),
+        PriceKind::Connection => true,
     }
 }

@@ -9,7 +9,8 @@
 //!
 //!     let mut prices = Prices::new(alloc, &s)?;
 //!     let mut work = Work::new(alloc, &s)?;
-//!     prices.set(PriceKey::Dep { place, period }, 1000);
+//!     let kind = PriceKind::Capacity(CapKind::Dep);
+//!     prices.set(PriceKey { kind, row, period }, 1000);
 //!     prices_are_small();
 //!     match priced_bound(&mut work, &s, &boxes, 64, &prices) {
 //!         Bound::NoPlan => println!("no plan is in the box"),
@@ -32,7 +33,9 @@
 //! no further from 0 than 2^123 (`within`). `priced_bound` gives that value divided by the weight
 //! and rounded up, and then no feasible plan in the box costs less (`priced_bounds_are_bounds`).
 //! Both ask that every price is below 2^62: prices of 0 are, and stay so where such a price is set
-//! (`prices_are_small`).
+//! (`prices_are_small`). What a price is put on, how often trips use it and how often they may, is
+//! told in one place for all kinds: `price_kinds`, `row_count`, `has_limit`, and `usage_of`, which
+//! tells exactly what loads count (`used`, `limit`).
 //!
 //! Memory: none. Time: a least trip for each flight, and a product for each place and period.
 #![tactic(auto)]
@@ -40,12 +43,14 @@
 mod bound;
 mod kinds;
 mod laws;
+mod usage;
 mod value;
 
 pub use bound::{priced_bound, rounded_up, told_by};
-pub use kinds::{PriceKind, key_in, price_at, rows_of};
+pub use kinds::{has_limit, price_kinds, row_count};
 pub use laws::{
     plans_pay_by_counts, plans_pay_no_more_than_capacities, priced_bounds_are_bounds,
     priced_values_are_bounds, prices_are_small,
 };
+pub use usage::{Usage, usage_of};
 pub use value::{limit_price, priced_value};

@@ -1,16 +1,17 @@
 //! The value of prices in a box.
 ghost use Rattle.std.specs.Prelude.{◌≡◌, ◌≤◌, ◌<◌, ◌^◌, IfSome, MatchOption, length};
 ghost use Rattle.flow_types.specs.Scenario.{parts_of};
-ghost use Rattle.flight_routes.specs.Prices.{ArePricesOf, price_in};
+ghost use Rattle.flow_types.specs.declared.bound.PriceKind.TheVariants.{Capacity};
+ghost use Rattle.flight_routes.specs.Prices.{ArePricesOf, block_of};
 ghost use Rattle.exact_sums.specs.Near.{IsNear};
 ghost use Rattle.flight_routes.specs.Work.{IsWorkFor};
 ghost use Rattle.time_windows.specs.Held.{IsMadeFor, box_of};
 ghost use Rattle.priced_plans.specs.Values.{IsPricedSum, IsPricedValue, capacity_price, limit_price};
-ghost use Rattle.priced_plans.specs.Valuing.{AreSmall, LacksTrip, block_of, cell_price, row_price};
+ghost use Rattle.priced_plans.specs.Valuing.{AreSmall, LacksTrip, cell_price, row_price};
 
 use exact_sums::plus;
 use flight_routes::{Prices, Work};
-use flow_types::{CapKind, Scenario, capacity_at};
+use flow_types::{CapKind, PriceKey, PriceKind, Scenario, capacity_at};
 use time_windows::Boxes;
 
 /// The value of the prices in the box, at this weight of the costs: the least of weight times cost
@@ -91,7 +92,7 @@ pub fn limit_price(s: &Scenario, prices: &Prices) -> u128
 fn capacity_price(kind: CapKind, s: &Scenario, prices: &Prices) -> u128
     requires { ArePricesOf (parts_of s.now) prices.now }
     ensures value { result
-        ≡ capacity_price (parts_of s.now) kind (block_of kind prices.now) }
+        ≡ capacity_price (parts_of s.now) kind (block_of (Capacity kind) prices.now) }
     ensures small { result ≤ 2 ^ 120 }
 {
     let mut sum = 0u128;
@@ -124,21 +125,10 @@ fn cell_price(kind: CapKind, s: &Scenario, prices: &Prices, place: u32, period: 
     ensures value { result ≡ cell_price (parts_of s.now) kind prices.now place period }
     ensures small { result ≤ 2 ^ 94 }
 {
-    let price = price_in(kind, s, prices, place, period);
+    let price = prices.get(PriceKey {
+        kind: PriceKind::Capacity(kind),
+        row: place,
+        period,
+    });
     u128::from(price) * u128::from(capacity_at(s.places(), kind, place, period))
-}
-
-// The price of what capacities of this kind are for.
-fn price_in(kind: CapKind, s: &Scenario, prices: &Prices, place: u32, period: u16) -> u64
-    requires prices { ArePricesOf (parts_of s.now) prices.now }
-    requires place { place < length (parts_of s.now).places }
-    requires period { period < (parts_of s.now).day.periods }
-    ensures price { result ≡ price_in (block_of kind prices.now) place period }
-    ensures small { result < 2 ^ 62 }
-{
-    match kind {
-        CapKind::Dep => prices.departure(place, period),
-        CapKind::Arr => prices.arrival(place, period),
-        CapKind::Sector => prices.stay(place, period),
-    }
 }

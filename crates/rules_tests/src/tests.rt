@@ -1,13 +1,15 @@
 //! Public calls that no answer of the program shows, once each, with ample memory.
 ghost use Rattle.std.specs.Prelude.{◌≡◌, ◌<◌, IfOk, length};
-ghost use Rattle.flight_routes.specs.Prices.{ArePricesOf};
+ghost use Rattle.flight_routes.specs.Prices.{ArePricesOf, key_in};
+ghost use Rattle.flow_types.specs.declared.bound.PriceKind.TheVariants.{Capacity};
+ghost use Rattle.flow_types.specs.declared.place.CapKind.TheVariants as cap;
 ghost use Rattle.flow_types.specs.Scenario.{parts_of};
 ghost use Rattle.plan_rules.specs.Loads.{IsMadeFor};
 ghost use Rattle.time_windows.specs.Held as held;
 ghost use Rattle.worked_days.specs.Days as days;
 
 use flight_routes::{Prices, Work};
-use flow_types::{Bound, CapKind, OutOfMemory, Plan, PriceKey, Scenario, Stop};
+use flow_types::{Bound, CapKind, OutOfMemory, Plan, PriceKey, PriceKind, Scenario, Stop};
 use greedy_plan::first_bound;
 use lagrange_bound::Rounds;
 use plan_improver::Improver;
@@ -98,17 +100,24 @@ fn a_box_is_tightened_and_copied(rt: HostRuntime) -> Result<(), Fail> {
     Ok(())
 }
 
+// Leaving the first airport in the first period.
+fn first_departure() -> PriceKey
+    ensures { result ≡ key_in (Capacity cap.Dep) 0 0 }
+{
+    PriceKey {
+        kind: PriceKind::Capacity(CapKind::Dep),
+        row: 0,
+        period: 0,
+    }
+}
+
 // The price 1 of leaving in the first period.
 fn price_of_leaving(alloc: Global, s: &Scenario) -> Result<Prices, OutOfMemory>
     requires { parts_of s.now ≡ days.two_flights 1 9 9 }
     ensures { IfOk result (ArePricesOf (parts_of s.now)) }
 {
     let mut prices = Prices::new(alloc, s)?;
-    let key = PriceKey::Dep {
-        place: 0,
-        period: 0,
-    };
-    prices.set(key, 1);
+    prices.set(first_departure(), 1);
     Ok(prices)
 }
 
@@ -196,11 +205,11 @@ fn rounds_of_prices_bound_a_day(rt: HostRuntime) -> Result<(), Fail> {
     let mut rounds = Rounds::new(alloc, &s)?;
     // By themselves the rounds from 0 to 5 tell 0, 0, 1, 0, 2 and 1.
     assert_eq!(rt; rounds.play(&s, &boxes, 1), Bound::AtLeast(0));
-    assert_eq!(rt; rounds.prices().departure(0, 0), 0);
+    assert_eq!(rt; rounds.prices().get(first_departure()), 0);
     assert_eq!(rt; rounds.play(&s, &boxes, 3), Bound::AtLeast(1));
-    assert_eq!(rt; rounds.prices().departure(0, 0), 512);
+    assert_eq!(rt; rounds.prices().get(first_departure()), 512);
     assert_eq!(rt; rounds.play(&s, &boxes, 5), Bound::AtLeast(2));
-    assert_eq!(rt; rounds.prices().departure(0, 0), 427);
+    assert_eq!(rt; rounds.prices().get(first_departure()), 427);
     Ok(())
 }
 

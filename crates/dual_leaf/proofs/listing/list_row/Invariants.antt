@@ -1,5 +1,5 @@
 use Rattle.flow_types.specs.Scenario.{parts_of}
-use Rattle.priced_plans.specs.Keys.{kind_number}
+use Rattle.flight_routes.specs.Prices.{kind_number}
 use Rattle.dual_leaf.specs.Listing.{IsListed}
 use Rattle.dual_leaf.proofs.listing.list_row.Given as goal
 

@@ -6,7 +6,7 @@ use Rattle.flight_routes.proofs.later.add_later.Goals as goal
 pub loop-time-preserved : goal.loop-time-preserved
 loop-time-preserved c =
     let last = c.loop-time.time - 1 in
-    let turns = c.turns-turns.ensures in
+    let turns = c.row-turns.ensures in
     let some = c.loop-time-test.true in
     let within = c.loop-time.invariant.within in
     let price = turns.prices last (omega (arith, some, within, c.requires.long)) in
@@ -19,4 +19,4 @@ loop-time-preserved c =
     (omega (arith, small, price))
     c.from-in-loop-time.result c.from-sum.result c.from-in-loop-time.ensures
     (c.from-sum.ensures
-    ∙ ap (λ n. slice_index c.turns-turns.result.now n) c.from.ensures ∙ price)
+    ∙ ap (λ n. slice_index c.row-turns.result.now n) c.from.ensures ∙ price)

@@ -1,55 +1,23 @@
+use Rattle.std.proofs.Common.{arith}
 use Rattle.flow_types.specs.Scenario.{parts_of}
-use Rattle.priced_plans.specs.declared.kinds.PriceKind.TheVariants.{Arrival, Stay, Turn}
-use Rattle.lagrange_bound.specs.Moves.{moved_price}
-use Rattle.lagrange_bound.proofs.MoveFacts.{all_kinds, first_kind, kinds_next, room_in_kinds}
+use Rattle.priced_plans.specs.Usage.{traffic_in}
+use Rattle.priced_plans.proofs.KeyFacts.{kind_in}
+use Rattle.lagrange_bound.specs.Rounds.{moved_price}
+use Rattle.lagrange_bound.proofs.MoveFacts.{kind_next, kind_room}
 use Rattle.lagrange_bound.proofs.moves.move_prices.Goals as goal
 
-pub move_rows-requires-2-clause-room : goal.move_rows-requires-2-clause-room
-move_rows-requires-2-clause-room c =
+pub move_rows-requires-clause-room : goal.move_rows-requires-clause-room
+move_rows-requires-clause-room c =
     let parts = parts_of c.args.s.now in
-    let move = moved_price parts c.args.loads.now c.args.step in
-    let old = c.args.prices.now in
-    let one = c.move_rows.new.prices in
-    room_in_kinds parts move Arrival old one c.requires.room
-    (first_kind parts move old one c.requires.prices c.move_rows.ensures)
+    kind_room parts (moved_price parts (traffic_in c.args.loads.now) c.args.step) c.loop-at.at _
+    c.args.prices.now c.loop-at.prices
+    (kind_in _ c.loop-at.at _ c.price_kinds-kinds.ensures (omega (arith, c.loop-at-test.true)))
+    c.requires.room c.loop-at.invariant
 
-pub move_rows-requires-3-clause-room : goal.move_rows-requires-3-clause-room
-move_rows-requires-3-clause-room c =
+pub loop-at-preserved : goal.loop-at-preserved
+loop-at-preserved c =
     let parts = parts_of c.args.s.now in
-    let move = moved_price parts c.args.loads.now c.args.step in
-    let old = c.args.prices.now in
-    let one = c.move_rows.new.prices in
-    let two = c.move_rows-2.new.prices in
-    room_in_kinds parts move Stay old two c.requires.room
-    (kinds_next parts move Arrival old one two
-    (first_kind parts move old one c.requires.prices c.move_rows.ensures) c.move_rows-2.ensures)
-
-pub move_rows-requires-4-clause-room : goal.move_rows-requires-4-clause-room
-move_rows-requires-4-clause-room c =
-    let parts = parts_of c.args.s.now in
-    let move = moved_price parts c.args.loads.now c.args.step in
-    let old = c.args.prices.now in
-    let one = c.move_rows.new.prices in
-    let two = c.move_rows-2.new.prices in
-    let three = c.move_rows-3.new.prices in
-    room_in_kinds parts move Turn old three c.requires.room
-    (kinds_next parts move Stay old two three
-    (kinds_next parts move Arrival old one two
-    (first_kind parts move old one c.requires.prices c.move_rows.ensures) c.move_rows-2.ensures)
-    c.move_rows-3.ensures)
-
-pub returns : goal.returns
-returns c =
-    let parts = parts_of c.args.s.now in
-    let move = moved_price parts c.args.loads.now c.args.step in
-    let old = c.args.prices.now in
-    let one = c.move_rows.new.prices in
-    let two = c.move_rows-2.new.prices in
-    let three = c.move_rows-3.new.prices in
-    let four = c.move_rows-4.new.prices in
-    all_kinds parts move old four
-    (kinds_next parts move Turn old three four
-    (kinds_next parts move Stay old two three
-    (kinds_next parts move Arrival old one two
-    (first_kind parts move old one c.requires.prices c.move_rows.ensures) c.move_rows-2.ensures)
-    c.move_rows-3.ensures) c.move_rows-4.ensures)
+    kind_next parts (moved_price parts (traffic_in c.args.loads.now) c.args.step) c.loop-at.at _
+    c.args.prices.now c.loop-at.prices c.move_rows.new.prices
+    (kind_in _ c.loop-at.at _ c.price_kinds-kinds.ensures (omega (arith, c.loop-at-test.true)))
+    c.loop-at.invariant c.move_rows.ensures
