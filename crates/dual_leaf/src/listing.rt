@@ -1,5 +1,5 @@
 //! Prices, listed by their rows.
-ghost use Rattle.std.specs.Prelude.{◌≡◌, ◌<◌, ◌+◌, ◌^◌, IfOk, OnOk};
+ghost use Rattle.std.specs.Prelude.{◌<◌, ◌+◌, ◌^◌, IfOk, OnOk};
 ghost use Rattle.flow_types.specs.Scenario.{parts_of};
 ghost use Rattle.flight_routes.specs.Prices.{ArePricesOf, kind_number, row_count};
 ghost use Rattle.priced_plans.specs.Keys.{ArePlaced, IsKeyFor};

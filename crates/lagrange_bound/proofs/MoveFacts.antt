@@ -1,14 +1,17 @@
 -- Prices that are moved one after another.
-use Rattle.std.proofs.Common.{◌≡◌, ◌≢◌, ◌⊎◌, inl, inr, ℕ, ◌+◌, ◌<◌, ◌≤◌, ◌^◌, Bool, true, false, ◌&&◌, ◌||◌, nat_eq, nat_lt, length, if◌then◌else◌, refl, sym, ap, subst, ◌∙◌, arith}
-use Rattle.std.proofs.lemmas.Bool.{cases_eq}
+use Rattle.std.proofs.Common.{◌≡◌, ◌≢◌, ◌⊎◌, inl, inr, ℕ, ◌+◌, ◌*◌, ◌<◌, ◌≤◌, ◌^◌, Bool, true, false, ◌&&◌, ◌||◌, nat_eq, nat_lt, if◌then◌else◌, refl, sym, ap, subst, ◌∙◌, arith}
+use Rattle.std.proofs.lemmas.Bool.{and_parts, cases_eq}
 use Rattle.std.proofs.lemmas.Bool.Decides.{nat_tests}
 use Rattle.flow_types.specs.declared.bound.PriceKey.{PriceKey}
 use Rattle.flow_types.specs.declared.bound.PriceKind.{PriceKind}
 use Rattle.flow_types.specs.declared.parts.Parts.{Parts}
 use Rattle.flight_routes.specs.Prices.{ArePricesOf, IsKeyOf, PriceTable, key_in, kind_number, price_at, row_count}
-use Rattle.priced_plans.specs.Keys.{IsKeyFor, is_at}
-use Rattle.priced_plans.proofs.KeyFacts.{itself, key_at, key_of, kind_below, row_within}
-use Rattle.lagrange_bound.specs.Moves.{AreMoved, HasRoomIn, HaveRoom, is_in_kinds, is_in_row, is_in_rows, most_rise}
+use Rattle.priced_plans.specs.Keys.{IsKeyFor, has_limit, is_at}
+use Rattle.flight_routes.proofs.PriceFacts.{same_key, same_kind}
+use Rattle.priced_plans.specs.Usage.{Traffic, limit, used}
+use Rattle.priced_plans.proofs.KeyFacts.{itself, key_at, key_of, kind_below, row_within, same_numbers}
+use Rattle.lagrange_bound.specs.Rounds.{moved, moved_price}
+use Rattle.lagrange_bound.specs.Moves.{AreMoved, HasRoomIn, HaveRoom, IsIdle, is_in_kinds, is_in_row, is_in_rows, most_rise}
 
 -- one price
 module _ (parts : Parts) (move : PriceKey → ℕ → ℕ) (k : PriceKey) (old new : PriceTable)
@@ -256,4 +259,42 @@ module _ (parts : Parts) (move : PriceKey → ℕ → ℕ) where
         ≡ (if b then move k (price_at old k) else price_at old k))
         (is_below (kind_number k.kind) 4 (kind_below k.kind)) (moved.each k within);
     rise = moved.rise;
+  }
+
+-- a row that no flight uses, with prices of 0
+module _ (parts : Parts) (traffic : Traffic) (step : ℕ) (kind : PriceKind) (row : ℕ)
+    (table : PriceTable) (idle : IsIdle parts traffic kind table row) where
+  zero_stays : (b : Bool) (used limit price : ℕ) → used ≡ 0 → price ≡ 0
+      → price ≡ (if b then moved step used limit price else price)
+  zero_stays true used limit price none free =
+      let some : step * used ≡ 0 = ap (λ n. step * n) none ∙ omega arith in
+      omega (arith, some, free)
+  zero_stays false used limit price none free = refl
+
+  idle_each : (k : PriceKey) (b : Bool)
+      → is_in_row (kind_number kind) row parts.day.periods k ≡ b
+      → price_at table k
+      ≡ (if b then moved_price parts traffic step k (price_at table k) else price_at table k)
+  idle_each k false is = refl
+  idle_each k true is =
+      let one = and_parts (nat_eq (kind_number k.kind) (kind_number kind)) _ is in
+      let two = and_parts (nat_eq k.row row) _ one.1 in
+      let same : k ≡ key_in kind row k.period =
+      same_key k (key_in kind row k.period)
+      (same_kind k.kind kind (same_numbers (kind_number k.kind) (kind_number kind) one.0))
+      (same_numbers k.row row two.0) refl in
+      let free = idle k.period (less k.period parts.day.periods two.1) in
+      zero_stays (has_limit parts k) (used parts traffic k) (limit parts traffic k)
+      (price_at table k) (ap (used parts traffic) same ∙ free.1) (ap (price_at table) same ∙ free.0)
+    where
+      less : (a b : ℕ) → nat_lt a b ≡ true → a < b
+      less a b is = grind (arith, nat_tests)
+
+  pub idle_row : ArePricesOf parts table
+      → AreMoved parts (moved_price parts traffic step)
+      (is_in_row (kind_number kind) row parts.day.periods) table table
+  idle_row are = record {
+    size = are;
+    each = λ k within. idle_each k (is_in_row (kind_number kind) row parts.day.periods k) refl;
+    rise = λ k within. omega arith;
   }

@@ -5,6 +5,7 @@ use Rattle.flow_types.specs.declared.bound.PriceKind.{PriceKind}
 use Rattle.flow_types.specs.declared.parts.Parts.{Parts}
 use Rattle.flight_routes.specs.Prices.{ArePricesOf, PriceTable, key_in, kind_number, price_at, row_count}
 use Rattle.priced_plans.specs.Keys.{IsKeyFor}
+use Rattle.priced_plans.specs.Usage.{Traffic, used_at}
 
 -- those of a row before a period; those of the first rows; those of first kinds
 abbrev pub is_in_row : ℕ → ℕ → ℕ → PriceKey → Bool
@@ -38,3 +39,10 @@ HasRoomIn parts kind table row =
 abbrev pub HaveRoom : Parts → PriceKind → PriceTable → Type 0
 HaveRoom parts kind table =
     (row : ℕ) → row < row_count parts kind → HasRoomIn parts kind table row
+
+-- no flight uses a row, and its prices are 0
+abbrev pub IsIdle : Parts → Traffic → PriceKind → PriceTable → ℕ → Type 0
+IsIdle parts traffic kind table row =
+    (period : ℕ) → period < parts.day.periods
+    → (price_at table (key_in kind row period) ≡ 0)
+    × (used_at parts traffic kind row period ≡ 0)

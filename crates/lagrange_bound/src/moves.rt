@@ -1,12 +1,12 @@
 //! Prices moved by what loads count.
-ghost use Rattle.std.specs.Prelude.{◌≡◌, ◌≤◌, ◌<◌, ◌+◌, ◌^◌, true};
+ghost use Rattle.std.specs.Prelude.{◌≡◌, ◌≤◌, ◌<◌, ◌+◌, ◌^◌, All, IsTrue, true};
 ghost use Rattle.flow_types.specs.declared.bound.PriceKey.{PriceKey};
 ghost use Rattle.flow_types.specs.Scenario.{parts_of};
 ghost use Rattle.flight_routes.specs.Prices.{ArePricesOf, kind_number, price_at, row_count};
 ghost use Rattle.plan_rules.specs.Loads.{IsMadeFor};
 ghost use Rattle.priced_plans.specs.Keys.{IsKeyFor, is_at};
 ghost use Rattle.priced_plans.specs.Usage.{traffic_in};
-ghost use Rattle.lagrange_bound.specs.Moves.{AreMoved, HasRoomIn, HaveRoom, is_in_row, is_in_rows, most_rise};
+ghost use Rattle.lagrange_bound.specs.Moves.{AreMoved, HasRoomIn, HaveRoom, IsIdle, is_in_row, is_in_rows, most_rise};
 ghost use Rattle.lagrange_bound.specs.Rounds.{moved, moved_price};
 
 use flight_routes::Prices;
@@ -56,7 +56,37 @@ fn move_price(s: &Scenario, loads: &Loads, step: u64, key: PriceKey, prices: &mu
     prices.set(key, moved_price(s, loads, step, key, price));
 }
 
-// Moves those of a row, in each period.
+// Whether all prices are 0.
+fn are_free(prices: &[u64]) -> bool
+    ensures { IsTrue result → All (λ price. price ≡ 0) prices.now }
+{
+    prices.iter().all(|price| *price == 0)
+}
+
+// Whether nothing is counted.
+fn are_none(counts: &[u32]) -> bool
+    ensures { IsTrue result → All (λ count. count ≡ 0) counts.now }
+{
+    counts.iter().all(|count| *count == 0)
+}
+
+// Whether no flight uses the row, and its prices are 0; of a connection that isn't asked.
+fn is_idle(s: &Scenario, loads: &Loads, kind: PriceKind, row: u32, prices: &Prices) -> bool
+    requires loads { IsMadeFor (parts_of s.now) loads.now }
+    requires prices { ArePricesOf (parts_of s.now) prices.now }
+    requires row { row < row_count (parts_of s.now) kind }
+    ensures { IsTrue result
+        → IsIdle (parts_of s.now) (traffic_in loads.now) kind prices.now row }
+{
+    match kind {
+        PriceKind::Capacity(cap) => are_free(prices.row(kind, row))
+            && are_none(loads.row(cap, row)),
+        PriceKind::Connection => false,
+    }
+}
+
+// Moves those of a row, in each period. Where no flight uses it, prices of 0 stay what they are.
+#[tactic(auto, using(crate::proofs::MoveFacts::idle_row))]
 fn move_row(s: &Scenario, loads: &Loads, step: u64, kind: PriceKind, row: u32, prices: &mut Prices)
     requires loads { IsMadeFor (parts_of s.now) loads.now }
     requires prices { ArePricesOf (parts_of s.now) prices.old }
@@ -66,6 +96,9 @@ fn move_row(s: &Scenario, loads: &Loads, step: u64, kind: PriceKind, row: u32, p
     ensures { AreMoved (parts_of s.now) (moved_price (parts_of s.now) (traffic_in loads.now) step)
         (is_in_row (kind_number kind) row (parts_of s.now).day.periods) prices.old prices.new }
 {
+    if is_idle(s, loads, kind, row, prices) {
+        return;
+    }
     for period in 0..s.day().periods {
         move_price(s, loads, step, PriceKey { kind, row, period }, prices);
     }

@@ -28,7 +28,7 @@ impl Model for Grid {
 }
 
 impl Grid {
-    ghost use Rattle.std.specs.Prelude.{◌==◌, ◌&&◌, ◌<◌, ◌^◌, ℕ, nat_le, nat_lt, IfOk};
+    ghost use Rattle.std.specs.Prelude.{◌≡◌, ◌==◌, ◌&&◌, ◌*◌, ◌<◌, ◌^◌, ℕ, nat_le, nat_lt, IfOk, length, slice_index};
     ghost use Rattle.flow_types.specs.Counts.{one_if};
     ghost use Rattle.plan_rules.specs.Grid.{Adds, IsEmpty, SameSize, Takes, count_at};
 
@@ -63,6 +63,17 @@ impl Grid {
         } else {
             0
         }
+    }
+
+    /// The counts of the place, by period.
+    pub fn row(&self, place: u32) -> &[u32]
+        requires { place < self.now.places }
+        ensures length { length result.now ≡ self.now.periods }
+        ensures counts { (t : ℕ) → t < self.now.periods
+            → slice_index result.now t ≡ count_at self.now place t }
+    {
+        let start = place as usize * usize::from(self.periods);
+        &self.counts[start..start + usize::from(self.periods)]
     }
 
     /// Counts one more at the place in the period, nothing outside the grid.

@@ -57,7 +57,7 @@ impl Model for Loads {
 }
 
 impl Loads {
-    ghost use Rattle.std.specs.Prelude.{◌≡◌, ◌<◌, List, [], Some, length, slice_get, slice_set, IfOk};
+    ghost use Rattle.std.specs.Prelude.{◌≡◌, ◌<◌, ℕ, List, [], Some, length, slice_get, slice_index, slice_set, IfOk};
     ghost use Rattle.flow_types.specs.declared.parts.Parts.{Parts};
     ghost use Rattle.flow_types.specs.declared.plan.Stop.{Stop};
     ghost use Rattle.flow_types.specs.Scenario.{parts_of};
@@ -162,6 +162,20 @@ impl Loads {
             CapKind::Dep => self.departures.get(place, period),
             CapKind::Arr => self.arrivals.get(place, period),
             CapKind::Sector => self.inside.get(place, period),
+        }
+    }
+
+    /// How many flights depart from, arrive at or are inside the place, by period.
+    pub fn row(&self, kind: CapKind, place: u32) -> &[u32]
+        requires { place < (cells_of self.now kind).places }
+        ensures length { length result.now ≡ (cells_of self.now kind).periods }
+        ensures loads { (t : ℕ) → t < (cells_of self.now kind).periods
+            → slice_index result.now t ≡ load_at self.now kind place t }
+    {
+        match kind {
+            CapKind::Dep => self.departures.row(place),
+            CapKind::Arr => self.arrivals.row(place),
+            CapKind::Sector => self.inside.row(place),
         }
     }
 

@@ -1,5 +1,6 @@
 //! The value of prices in a box.
-ghost use Rattle.std.specs.Prelude.{◌≡◌, ◌≤◌, ◌<◌, ◌^◌, IfSome, MatchOption, length};
+ghost use Rattle.std.specs.Prelude.{◌≡◌, ◌*◌, ◌≤◌, ◌<◌, ◌^◌, IfSome, MatchOption, length};
+ghost use Rattle.flow_types.specs.Capacities.{capacity_of};
 ghost use Rattle.flow_types.specs.Scenario.{parts_of};
 ghost use Rattle.flow_types.specs.declared.bound.PriceKind.TheVariants.{Capacity};
 ghost use Rattle.flight_routes.specs.Prices.{ArePricesOf, block_of};
@@ -7,11 +8,11 @@ ghost use Rattle.exact_sums.specs.Near.{IsNear};
 ghost use Rattle.flight_routes.specs.Work.{IsWorkFor};
 ghost use Rattle.time_windows.specs.Held.{IsMadeFor, box_of};
 ghost use Rattle.priced_plans.specs.Values.{IsPricedSum, IsPricedValue, capacity_price, limit_price};
-ghost use Rattle.priced_plans.specs.Valuing.{AreSmall, LacksTrip, cell_price, row_price};
+ghost use Rattle.priced_plans.specs.Valuing.{AreSmall, LacksTrip, row_price};
 
 use exact_sums::plus;
 use flight_routes::{Prices, Work};
-use flow_types::{CapKind, PriceKey, PriceKind, Scenario, capacity_at};
+use flow_types::{CapKind, PriceKind, Scenario, capacity_at};
 use time_windows::Boxes;
 
 /// The value of the prices in the box, at this weight of the costs: the least of weight times cost
@@ -110,25 +111,22 @@ fn row_price(kind: CapKind, s: &Scenario, prices: &Prices, place: u32) -> u128
     ensures value { result ≡ row_price (parts_of s.now) kind prices.now place }
     ensures small { result ≤ 2 ^ 110 }
 {
+    let row = prices.row(PriceKind::Capacity(kind), place);
     let mut sum = 0u128;
     for period in 0..s.day().periods {
-        sum += cell_price(kind, s, prices, place, period);
+        sum += cell_price(kind, s, place, period, row[usize::from(period)]);
     }
     sum
 }
 
-// What the place's capacity of this kind in a period would pay.
-fn cell_price(kind: CapKind, s: &Scenario, prices: &Prices, place: u32, period: u16) -> u128
-    requires prices { ArePricesOf (parts_of s.now) prices.now }
-    requires place { place < length (parts_of s.now).places }
-    requires period { period < (parts_of s.now).day.periods }
-    ensures value { result ≡ cell_price (parts_of s.now) kind prices.now place period }
+// What the place's capacity of this kind in a period would pay at this price, which mostly is 0.
+fn cell_price(kind: CapKind, s: &Scenario, place: u32, period: u16, price: u64) -> u128
+    requires price { price < 2 ^ 62 }
+    ensures value { result ≡ price * capacity_of (parts_of s.now).places kind place period }
     ensures small { result ≤ 2 ^ 94 }
 {
-    let price = prices.get(PriceKey {
-        kind: PriceKind::Capacity(kind),
-        row: place,
-        period,
-    });
+    if price == 0 {
+        return 0;
+    }
     u128::from(price) * u128::from(capacity_at(s.places(), kind, place, period))
 }
