@@ -5,7 +5,7 @@ ghost use Rattle.flight_routes.specs.Later.{shift_of};
 ghost use Rattle.flight_routes.specs.Prices.{price_in, summed};
 
 use crate::prices::Prices;
-use flow_types::{MOST_PERIODS, PriceKind};
+use flow_types::PriceKind;
 use time_windows::{End, Turn};
 
 /// Sets the sum of each period to what the connections cost from then on: with a departure from the

@@ -12,7 +12,7 @@ ghost use Rattle.price_ascent.specs.Slopes.{AreSlopesFor, IsGood};
 ghost use Rattle.price_ascent.specs.Work.{climb_weight, is_positive};
 
 use crate::pace::{Pace, weighted};
-use crate::slopes::{Slope, all_slopes, move_prices, paid_by_limits, turn_slopes};
+use crate::slopes::{Slope, all_slopes, excess_by_slopes, move_prices, paid_by_limits};
 use crate::spread::Spread;
 use flight_routes::{Prices, Work};
 use flow_types::{Bound, MOST_NODES, OutOfMemory, Plan, Scenario, Stop, Trip};
@@ -240,22 +240,22 @@ impl Ascent {
             return false;
         }
         let fifths = pace.fifths_kept();
-        let turned = turn_slopes(
+        let excess = excess_by_slopes(
             &mut self.slopes,
             s,
             &self.trips.loads,
             &self.tables.present,
             fifths,
         );
-        let cost = turned.plan_cost(value);
+        let cost = excess.plan_cost(value);
         let is_cheaper = is_below(cost, self.plan_cost);
         keep_if(is_cheaper, &mut self.tables.planned, &self.tables.present);
         if is_cheaper {
             self.plan_cost = cost;
         }
-        let stride = pace.stride(value, turned.squares);
+        let stride = pace.stride(value, excess.squares);
         move_prices(&self.slopes, s, stride, &mut self.tables.present);
-        turned.squares > 0
+        excess.squares > 0
     }
 }
 
@@ -422,7 +422,8 @@ fn bound_of(work: &mut Work, s: &Scenario, boxes: &Boxes, prices: &Prices) -> Bo
     requires work { IsWorkFor (parts_of s.now) work.old }
     requires boxes { IsMadeFor (parts_of s.now) boxes.now }
     requires prices { IsGood (parts_of s.now) prices.now }
-    ensures told { IsPricedBound (parts_of s.now) (box_of boxes.now) climb_weight prices.now result }
+    ensures told { IsPricedBound (parts_of s.now) (box_of boxes.now) climb_weight prices.now
+        result }
     ensures near { IsNearBound result }
     ensures work { IsWorkFor (parts_of s.now) work.new }
 {

@@ -31,7 +31,7 @@ const MOST_LEAD: i128 = 1 << 62;
 // A step goes half the way, in 1,024ths.
 const STEP: i128 = 512;
 
-// How many fifths of the way before are kept.
+// How many fifths of the direction before are kept.
 const FIFTHS_KEPT: i64 = 4;
 
 /// The best value that a climb has found, and the pace that follows from it.
@@ -136,8 +136,8 @@ impl Pace {
         self.best.is_some_and(|best| best > self.enough) || self.is_spent()
     }
 
-    /// How many fifths of the way before are kept in the next step: four, but none in the first
-    /// one.
+    /// How many fifths of the direction before are kept in the next step: four, but none in the
+    /// first one.
     pub fn fifths_kept(&mut self) -> i64 {
         let fifths = if self.moved { FIFTHS_KEPT } else { 0 };
         self.moved = true;

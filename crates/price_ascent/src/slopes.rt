@@ -1,4 +1,5 @@
-//! Prices that may rise, and which way they move.
+//! Prices that may rise, and the direction in which each one moves: a subgradient, with a share of
+//! the direction before.
 ghost use Rattle.std.specs.Prelude.{◌<◌, ◌^◌, IfOk, OnOk, length};
 ghost use Rattle.flow_types.specs.Scenario.{parts_of};
 ghost use Rattle.plan_rules.specs.Loads.{IsMadeFor};
@@ -18,13 +19,13 @@ use std::alloc::Global;
 pub struct Slope {
     pub key: PriceKey,
     /// How it moved last, for each unit of the stride, in 1,024ths.
-    pub way: i64,
+    pub direction: i64,
 }
 
-// How finely ways are counted.
-const WAY_UNIT: i64 = 1024;
+// How finely directions are counted.
+const DIRECTION_UNIT: i64 = 1024;
 
-const WAY_UNIT_SQUARED: i128 = 1 << 20;
+const DIRECTION_UNIT_SQUARED: i128 = 1 << 20;
 
 /// The highest that a price gets.
 pub const MOST_PRICE: i64 = 1 << 60;
@@ -87,7 +88,7 @@ fn add(
     ensures { OnOk result (AreSlopesFor (parts_of s.now) slopes.new.items) }
 {
     if has_limit(s, key) && may_pass(s, users, key) {
-        slopes.push(Slope { key, way: 0 })?;
+        slopes.push(Slope { key, direction: 0 })?;
     }
     Ok(())
 }
@@ -124,9 +125,9 @@ fn may_leave(s: &Scenario, connection: u32, period: u16) -> bool
     }
 }
 
-/// What slopes are turned by.
+/// How far the least trips are above the limits.
 #[derive(Clone, Copy, Debug, PartialEq, Eq)]
-pub struct Turned {
+pub struct Excess {
     /// The sum of the squares of how far limits are exceeded, over the prices that may follow.
     pub squares: i64,
     /// What is paid for that.
@@ -135,7 +136,7 @@ pub struct Turned {
     pub exceeds: bool,
 }
 
-impl Turned {
+impl Excess {
     /// What the least trips cost, weighted, where they pass no limit and the prices have this
     /// value.
     pub fn plan_cost(&self, value: i128) -> Option<i128> {
@@ -168,58 +169,58 @@ fn limit_of(s: &Scenario, key: PriceKey) -> u32 {
     }
 }
 
-/// Turns each slope by how far the loads exceed the limit, where so many fifths of the way before
-/// are kept.
-pub fn turn_slopes(
+/// Gives each slope its next direction: how far the loads exceed the limit, and so many fifths of
+/// the direction before. Answers the excess of all.
+pub fn excess_by_slopes(
     slopes: &mut [Slope],
     s: &Scenario,
     loads: &Loads,
     prices: &Prices,
     fifths: i64,
-) -> Turned
+) -> Excess
     requires slopes { AreSlopesFor (parts_of s.now) slopes.old }
     requires loads { IsMadeFor (parts_of s.now) loads.now }
     requires prices { IsGood (parts_of s.now) prices.now }
     ensures { AreSlopesFor (parts_of s.now) slopes.new }
 {
-    let mut turned = Turned {
+    let mut sum = Excess {
         squares: 0,
         paid: 0,
         exceeds: false,
     };
     for at in 0..slopes.len() {
-        let Slope { key, way } = slopes[at];
+        let Slope { key, direction } = slopes[at];
         let excess = excess_of(s, loads, key);
         slopes[at] = Slope {
             key,
-            way: turned_way(way, fifths, excess),
+            direction: next_direction(direction, fifths, excess),
         };
-        turned = counted(turned, excess, prices.get(key));
+        sum = with_one(sum, excess, prices.get(key));
     }
-    turned
+    sum
 }
 
-// What is known of the slopes with one price more, whose limit is exceeded so far.
-fn counted(turned: Turned, excess: i64, price: u64) -> Turned
+// The excess with that of one price more, whose limit is exceeded so far.
+fn with_one(sum: Excess, excess: i64, price: u64) -> Excess
     requires { price < 2 ^ 62 }
 {
     if excess <= 0 && price == 0 {
-        return turned;
+        return sum;
     }
     let paid = i128::from(price).saturating_mul(i128::from(excess));
-    Turned {
-        squares: turned.squares.saturating_add(excess.saturating_mul(excess)),
-        paid: turned.paid.saturating_add(paid),
-        exceeds: turned.exceeds || excess > 0,
+    Excess {
+        squares: sum.squares.saturating_add(excess.saturating_mul(excess)),
+        paid: sum.paid.saturating_add(paid),
+        exceeds: sum.exceeds || excess > 0,
     }
 }
 
-// The way that a price moves now: as far as the limit is exceeded, and so many fifths of the way
-// before.
-fn turned_way(way: i64, fifths: i64, excess: i64) -> i64 {
+// The direction in which a price moves now: as far as the limit is exceeded, and so many fifths of
+// that before.
+fn next_direction(direction: i64, fifths: i64, excess: i64) -> i64 {
     excess
-        .saturating_mul(WAY_UNIT)
-        .saturating_add((way / 5).saturating_mul(fifths))
+        .saturating_mul(DIRECTION_UNIT)
+        .saturating_add((direction / 5).saturating_mul(fifths))
 }
 
 // By how much the loads exceed the limit.
@@ -239,15 +240,15 @@ pub fn move_prices(slopes: &[Slope], s: &Scenario, stride: i64, prices: &mut Pri
 {
     for slope in slopes {
         let price = prices.get(slope.key);
-        set_price(s, slope.key, moved(price, slope.way, stride), prices);
+        set_price(s, slope.key, moved(price, slope.direction, stride), prices);
     }
 }
 
-// The price, so many 1,024ths along the way, as far as prices go.
-fn moved(price: u64, way: i64, stride: i64) -> i64
+// The price, so many 1,024ths in the direction, as far as prices go.
+fn moved(price: u64, direction: i64, stride: i64) -> i64
     requires { price < 2 ^ 62 }
 {
-    let far = i128::from(way).saturating_mul(i128::from(stride)) / WAY_UNIT_SQUARED;
+    let far = i128::from(direction).saturating_mul(i128::from(stride)) / DIRECTION_UNIT_SQUARED;
     let most = i128::from(MOST_PRICE);
     (price as i64).saturating_add(far.clamp(-most, most) as i64)
 }

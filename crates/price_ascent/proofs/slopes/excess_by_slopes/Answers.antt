@@ -3,7 +3,7 @@ use Rattle.std.proofs.lemmas.List.Elements.{All-set}
 use Rattle.flow_types.specs.Scenario.{parts_of}
 use Rattle.price_ascent.specs.declared.slopes.Slope.{Slope}
 use Rattle.price_ascent.specs.Slopes.{IsSlopeKey}
-use Rattle.price_ascent.proofs.slopes.turn_slopes.Goals as goal
+use Rattle.price_ascent.proofs.slopes.excess_by_slopes.Goals as goal
 
 pub loop-at-preserved : goal.loop-at-preserved
 loop-at-preserved c =
