@@ -1,10 +1,11 @@
 //! The names of the rows, and their order.
 ghost use Rattle.std.specs.Prelude.{◌≡◌, false};
 ghost use Rattle.bytime_model.specs.declared.names.RowName.{RowName};
-ghost use Rattle.bytime_model.specs.Order.{IsBefore, is_before, is_less, is_less_or, key_of};
+ghost use Rattle.bytime_model.specs.Kinds.{key_of};
+ghost use Rattle.bytime_model.specs.Order.{IsBefore, is_before, is_less, is_less_or};
 
-use crate::kinds::{NodeKind, RowKind, rank, row_kinds};
-use flow_types::{CapKind, Sequence};
+use crate::kinds::row_kinds;
+use flow_types::Sequence;
 
 /// A row of the by-time program, by what it is for. Each says that its left side is at most its
 /// limit.
@@ -48,42 +49,24 @@ impl RowName {
     }
 }
 
-// The position of the kind, after which cuts come.
-fn kind_number(name: RowName) -> u8
-    ensures { result ≡ (key_of name).0 }
-{
-    match name {
-        RowName::Mono { .. } => rank(RowKind::Nodes(NodeKind::Mono)),
-        RowName::Top { .. } => rank(RowKind::Nodes(NodeKind::Top)),
-        RowName::Dep { .. } => rank(RowKind::Places(CapKind::Dep)),
-        RowName::Arr { .. } => rank(RowKind::Places(CapKind::Arr)),
-        RowName::Sector { .. } => rank(RowKind::Places(CapKind::Sector)),
-        RowName::Occupy { .. } => rank(RowKind::Nodes(NodeKind::Occupy)),
-        RowName::Enter { .. } => rank(RowKind::Nodes(NodeKind::Enter)),
-        RowName::Leave { .. } => rank(RowKind::Nodes(NodeKind::Leave)),
-        RowName::Connect { .. } => rank(RowKind::Connections),
-        RowName::Cut { .. } => row_kinds().len() as u8,
-    }
-}
-
-// That position and the numbers, 0 for one that the name hasn't.
+// The position of the kind in `row_kinds`, cuts last, and the numbers, 0 for one that the name
+// hasn't.
 type Key = (u8, u32, u32, u32);
 
 fn key_of(name: RowName) -> Key
     ensures { result ≡ key_of name }
 {
-    let first = kind_number(name);
     match name {
-        RowName::Mono { flight, node, time } => (first, flight, u32::from(node), u32::from(time)),
-        RowName::Top { flight, node } => (first, flight, u32::from(node), 0),
-        RowName::Dep { place, period } => (first, place, u32::from(period), 0),
-        RowName::Arr { place, period } => (first, place, u32::from(period), 0),
-        RowName::Sector { place, period } => (first, place, u32::from(period), 0),
-        RowName::Occupy { flight, node, time } => (first, flight, u32::from(node), u32::from(time)),
-        RowName::Enter { flight, node, time } => (first, flight, u32::from(node), u32::from(time)),
-        RowName::Leave { flight, node } => (first, flight, u32::from(node), 0),
-        RowName::Connect { connection, period } => (first, connection, u32::from(period), 0),
-        RowName::Cut { index } => (first, index, 0, 0),
+        RowName::Mono { flight, node, time } => (0, flight, u32::from(node), u32::from(time)),
+        RowName::Top { flight, node } => (1, flight, u32::from(node), 0),
+        RowName::Dep { place, period } => (2, place, u32::from(period), 0),
+        RowName::Arr { place, period } => (3, place, u32::from(period), 0),
+        RowName::Sector { place, period } => (4, place, u32::from(period), 0),
+        RowName::Occupy { flight, node, time } => (5, flight, u32::from(node), u32::from(time)),
+        RowName::Enter { flight, node, time } => (6, flight, u32::from(node), u32::from(time)),
+        RowName::Leave { flight, node } => (7, flight, u32::from(node), 0),
+        RowName::Connect { connection, period } => (8, connection, u32::from(period), 0),
+        RowName::Cut { index } => (row_kinds().len() as u8, index, 0, 0),
     }
 }
 
