@@ -9,7 +9,7 @@ use Rattle.flow_types.specs.declared.parts.Parts.{Parts}
 use Rattle.flow_types.specs.Limits.{most_nodes}
 use Rattle.flow_types.specs.Valid.{IsScenario}
 use Rattle.time_windows.proofs.RootFacts.{flight_in}
-use Rattle.bytime_model.specs.declared.kinds.RowKind.{RowKind}
+use Rattle.bytime_model.specs.declared.names.RowKind.{RowKind}
 use Rattle.bytime_model.specs.declared.names.RowName.{RowName}
 use Rattle.bytime_model.specs.AllRows.{kind_rows, part_rows, third_rows}
 use Rattle.bytime_model.specs.Kinds.{name_at, part_count, second_count, thirds}

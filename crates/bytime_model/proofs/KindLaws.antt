@@ -11,10 +11,10 @@ use Rattle.flow_types.specs.Capacities.{has_kind}
 use Rattle.flow_types.specs.Limits.{most_connections, most_flights, most_nodes, most_periods, most_places}
 use Rattle.flow_types.specs.Valid.{IsScenario}
 use Rattle.flow_types.proofs.PlaceFacts.{has_kind-within}
-use Rattle.bytime_model.specs.declared.kinds.NodeKind.{NodeKind}
-use Rattle.bytime_model.specs.declared.kinds.NodeKind.TheVariants as node
-use Rattle.bytime_model.specs.declared.kinds.RowKind.{RowKind}
-use Rattle.bytime_model.specs.declared.kinds.RowKind.TheVariants as of
+use Rattle.bytime_model.specs.declared.names.NodeKind.{NodeKind}
+use Rattle.bytime_model.specs.declared.names.NodeKind.TheVariants as node
+use Rattle.bytime_model.specs.declared.names.RowKind.{RowKind}
+use Rattle.bytime_model.specs.declared.names.RowKind.TheVariants as of
 use Rattle.bytime_model.specs.declared.names.RowName.{RowName}
 use Rattle.bytime_model.specs.declared.names.RowName.TheVariants.{Arr, Connect, Cut, Dep, Enter, Leave, Mono, Occupy, Sector, Top}
 use Rattle.bytime_model.specs.AllRows.{kind_rows, kinds_rows, rows_of}

@@ -2,7 +2,7 @@
 use Rattle.std.proofs.Common.{◌≡◌, ℕ, ◌+◌, ◌-◌, ◌<◌, ◌≤◌, ◌==◌, Bool, true, false, ◌&&◌, ◌||◌, nat_lt, List, ◌++◌, refl, sym, ap, ◌⊎◌, inl, inr, ◌∙◌, arith}
 use Rattle.std.proofs.lemmas.Bool.{eq-eqb, eqb-true, le-ltb, lt-ltb, ltb-true}
 use Rattle.flow_types.specs.declared.parts.Parts.{Parts}
-use Rattle.bytime_model.specs.declared.kinds.RowKind.{RowKind}
+use Rattle.bytime_model.specs.declared.names.RowKind.{RowKind}
 use Rattle.bytime_model.specs.declared.names.RowName.{RowName}
 use Rattle.bytime_model.specs.AllRows.{kind_rows, part_rows, third_rows}
 use Rattle.bytime_model.specs.Kinds.{Key, key_of, name_at, part_count, second_count, thirds}

@@ -2,8 +2,8 @@
 use Rattle.std.specs.Prelude.{ℕ, ◌-◌, List, map}
 use Rattle.std.specs.List.{flat_map, range_with_len}
 use Rattle.flow_types.specs.declared.parts.Parts.{Parts}
-use Rattle.bytime_model.specs.declared.kinds.RowKind.{RowKind}
-use Rattle.bytime_model.specs.declared.kinds.Span.{Span}
+use Rattle.bytime_model.specs.declared.names.RowKind.{RowKind}
+use Rattle.bytime_model.specs.declared.names.Span.{Span}
 use Rattle.bytime_model.specs.declared.names.RowName.{RowName}
 use Rattle.bytime_model.specs.Kinds.{name_at, part_count, row_kinds, second_count, thirds}
 

@@ -5,11 +5,11 @@ use Rattle.flow_types.specs.declared.parts.Parts.{Parts}
 use Rattle.flow_types.specs.declared.place.CapKind.{CapKind}
 use Rattle.flow_types.specs.declared.place.CapKind.TheVariants as cap
 use Rattle.flow_types.specs.Capacities.{has_kind}
-use Rattle.bytime_model.specs.declared.kinds.NodeKind.{NodeKind}
-use Rattle.bytime_model.specs.declared.kinds.NodeKind.TheVariants as node
-use Rattle.bytime_model.specs.declared.kinds.RowKind.{RowKind}
-use Rattle.bytime_model.specs.declared.kinds.RowKind.TheVariants as of
-use Rattle.bytime_model.specs.declared.kinds.Span.{Span}
+use Rattle.bytime_model.specs.declared.names.NodeKind.{NodeKind}
+use Rattle.bytime_model.specs.declared.names.NodeKind.TheVariants as node
+use Rattle.bytime_model.specs.declared.names.RowKind.{RowKind}
+use Rattle.bytime_model.specs.declared.names.RowKind.TheVariants as of
+use Rattle.bytime_model.specs.declared.names.Span.{Span}
 use Rattle.bytime_model.specs.declared.names.RowName.{RowName}
 use Rattle.bytime_model.specs.declared.names.RowName.TheVariants.{Arr, Connect, Cut, Dep, Enter, Leave, Mono, Occupy, Sector, Top}
 use Rattle.bytime_model.specs.Rows.{goes_on, node_count}

@@ -7,8 +7,7 @@ ghost use Rattle.bytime_model.specs.AllRows.{kind_rows, kinds_rows, part_rows, r
 ghost use Rattle.bytime_model.specs.Order.{IsBefore};
 ghost use Rattle.bytime_model.specs.Rows.{is_row};
 
-use crate::kinds::{RowKind, name_at, part_count, row_kinds, second_count, thirds};
-use crate::names::RowNames;
+use crate::names::{RowKind, RowNames, name_at, part_count, row_kinds, second_count, thirds};
 use flow_types::{OutOfMemory, Scenario};
 use std::alloc::Global;
 
