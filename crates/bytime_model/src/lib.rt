@@ -64,7 +64,9 @@
 //! how many there are and for the constant give what the definition has for them, and so does
 //! `has_inside`. `left_of` tells what the box leaves of a variable (`left`), and it is so at every
 //! plan in the box (`agrees`). `Columns::new` gives each variable that a tight box leaves free a
-//! position of its own, and `landing_of` tells where a variable counts (`landing`).
+//! position of its own (`numbered`), and no position that isn't one of the tight root box's
+//! (`taken`), so there are as many as that leaves free; `landing_of` tells where a variable counts
+//! (`landing`).
 //!
 //! Memory: `RowBuffer` takes 0.2 MB once, `Visits` 8 bytes for each node of a flight and for each
 //! place, `linear_cost` 24 bytes for each period that a flight may be late or wait, `row_of` 24 for
