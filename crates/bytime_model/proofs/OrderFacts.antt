@@ -148,7 +148,8 @@ pub record AreOf (k : ℕ) (names : List RowName) : Type 0 where
 
 -- they are so where its names have the numbers that they are made of
 module _ (parts : Parts) (kind : RowKind) (k : ℕ)
-    (keys : (a b c : ℕ) → c < (thirds parts kind a b).to → key_of (name_at kind a b c) ≡ (k, a, b, c))
+    (keys : (a b c : ℕ) → c < (thirds parts kind a b).to
+    → key_of (name_at kind a b c) ≡ (k, a, b, c))
   where
     thirds_each : (a b : ℕ) → Each (HasSecond k a b) (third_rows parts kind a b)
     thirds_each a b =

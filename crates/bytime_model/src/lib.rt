@@ -48,8 +48,8 @@
 //! which names there are rows, and how many; they stand on the other files of proofs too.
 //!
 //! A new kind of rows has its name, its place in the list and its numbers in `src/names.rt` and
-//! `specs/Kinds.antt`, its row in `src/rows.rt` and `specs/Rows.antt`, and a clause in each lemma of
-//! `proofs/KindLaws.antt` (its names) and `proofs/RowLaws.antt` (its row). Nothing else names kinds.
+//! `specs/Kinds.antt`, its row in `src/rows.rt` and `specs/Rows.antt`, and a clause in each lemma
+//! on all kinds, in `proofs/KindLaws.antt` (its names) and `proofs/RowLaws.antt` (its row).
 //!
 //! Proved: `fill` and `fill_with` tell whether there is a row of that name (`told`) and hold
 //! exactly it (`row`), which no plan that keeps every rule breaks (`valid`), or no terms (`none`);

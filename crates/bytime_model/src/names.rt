@@ -123,8 +123,8 @@ fn capacity_name(kind: CapKind, place: u32, period: u16) -> RowName
     }
 }
 
-/// The name of the kind that has these numbers: of a flight, a place or a connection, then of a node
-/// or a period, then of a period, or 0 where it has two alone.
+/// The name of the kind that has these numbers: of a flight, a place or a connection, then of a
+/// node or a period, then of a period, or 0 where it has two alone.
 pub fn name_at(kind: RowKind, first: u32, second: u16, third: u16) -> RowName
     ensures { result ≡ name_at kind first second third }
 {
