@@ -1,44 +1,230 @@
--- What holds of each kind of rows, kind by kind: a new kind has its clause in each of these.
-use Rattle.std.proofs.Common.{◌≡◌, ◌↔◌, ℕ, zero, suc, ◌+◌, ◌==◌, Bool, true, ◌&&◌, List, [], ◌∷◌, AllPairs, Some, slice_get, refl, sym, subst}
-use Rattle.std.proofs.lemmas.Bool.{and_parts, eqb-true}
+-- What holds of the names of each kind of rows: a new kind has its clause in each of the first
+-- ones. The rest, the list and the order of all names, names no kind.
+use Rattle.std.proofs.Common.{◌≡◌, ◌↔◌, ℕ, zero, suc, ◌+◌, ◌*◌, ◌^◌, ◌==◌, ◌<◌, ◌≤◌, Bool, true, ◌&&◌, nat_lt, List, [], ◌∷◌, length, AllPairs, Some, slice_get, refl, sym, ap, ◌∙◌, subst, arith}
+use Rattle.std.proofs.lemmas.Bool.{and_from, and_parts, eqb-true, lt-ltb, ltb-true}
+use Rattle.std.proofs.lemmas.List.{length-append}
 use Rattle.std.specs.List.{Any}
 use Rattle.flow_types.specs.declared.parts.Parts.{Parts}
-use Rattle.flow_types.specs.declared.place.CapKind.TheVariants as kind
-use Rattle.bytime_model.specs.declared.kinds.NodeKind.TheVariants as node
-use Rattle.bytime_model.specs.declared.kinds.RowKind.{RowKind}
-use Rattle.bytime_model.specs.declared.kinds.RowKind.TheVariants as kinds
+use Rattle.flow_types.specs.declared.place.CapKind.{CapKind}
+use Rattle.flow_types.specs.declared.place.CapKind.TheVariants as cap
+use Rattle.flow_types.specs.Capacities.{has_kind}
+use Rattle.flow_types.specs.Limits.{most_connections, most_flights, most_nodes, most_periods, most_places}
+use Rattle.flow_types.specs.Valid.{IsScenario}
+use Rattle.flow_types.proofs.PlaceFacts.{has_kind-within}
+use Rattle.bytime_model.specs.declared.names.NodeKind.{NodeKind}
+use Rattle.bytime_model.specs.declared.names.NodeKind.TheVariants as node
+use Rattle.bytime_model.specs.declared.names.RowKind.{RowKind}
+use Rattle.bytime_model.specs.declared.names.RowKind.TheVariants as of
 use Rattle.bytime_model.specs.declared.names.RowName.{RowName}
 use Rattle.bytime_model.specs.declared.names.RowName.TheVariants.{Arr, Connect, Cut, Dep, Enter, Leave, Mono, Occupy, Sector, Top}
 use Rattle.bytime_model.specs.AllRows.{kind_rows, kinds_rows, rows_of}
-use Rattle.bytime_model.specs.Kinds.{rank, row_kinds}
+use Rattle.bytime_model.specs.Kinds.{Key, capacity_name, key_of, name_at, node_thirds, part_count, rank, row_kinds, second_count, thirds}
 use Rattle.bytime_model.specs.Order.{IsBefore}
-use Rattle.bytime_model.specs.Rows.{is_row}
-use Rattle.bytime_model.proofs.AllRowsFacts.{Has, Is, capacity_there, connect_there, connects_are, enter_there, enters_are, leave_there, leaves_are, mono_there, monos_are, occupies_are, occupy_there, places_are, top_there, tops_are}
+use Rattle.bytime_model.specs.Rows.{goes_on, is_capacity, is_node, is_row, node_count}
+use Rattle.bytime_model.specs.Values.{has_inside}
+use Rattle.bytime_model.proofs.AllRowsFacts.{IsWithin, flight_within, goes_within, if_few, if_within, inside_within, is_node_within, kind_all, kind_has, most_rows, node_within, nodes_few, within_if}
 use Rattle.bytime_model.proofs.NameLists.{Each, any_first, any_second, ascending_pairs, each_any, each_append}
-use Rattle.bytime_model.proofs.OrderFacts.{AreFrom, AreOf, connects, enters, kind_then, leaves, monos, occupies, places_ascend, tops}
+use Rattle.bytime_model.proofs.OrderFacts.{AreFrom, AreOf, kind_ascends, kind_then}
 
--- each kind stands in the list
+-- each kind stands in the list, at the position that the keys of its names have
 listed : (kind : RowKind) → slice_get row_kinds (rank kind) ≡ Some kind
-listed (kinds.Nodes node.Mono) = refl
-listed (kinds.Nodes node.Top) = refl
-listed (kinds.Places kind.Dep) = refl
-listed (kinds.Places kind.Arr) = refl
-listed (kinds.Places kind.Sector) = refl
-listed (kinds.Nodes node.Occupy) = refl
-listed (kinds.Nodes node.Enter) = refl
-listed (kinds.Nodes node.Leave) = refl
-listed kinds.Connections = refl
+listed (of.Nodes node.Mono) = refl
+listed (of.Nodes node.Top) = refl
+listed (of.Places cap.Dep) = refl
+listed (of.Places cap.Arr) = refl
+listed (of.Places cap.Sector) = refl
+listed (of.Nodes node.Occupy) = refl
+listed (of.Nodes node.Enter) = refl
+listed (of.Nodes node.Leave) = refl
+listed of.Connections = refl
 
 module _ (parts : Parts) where
-  -- those of a kind, and of several
+  abbrev pub Is : RowName → Type 0
+  Is name = is_row parts name ≡ true
+
+  -- a name has the numbers that it is made of
+  abbrev key : ℕ → ℕ → ℕ → ℕ → Key
+  key k a b c = (k, a, b, c)
+
+  no_third : (k a b c : ℕ) → c < 1 → key k a b 0 ≡ key k a b c
+  no_third k a b c none = ap (key k a b) (omega (arith, none))
+
+  keys : (kind : RowKind) (a b c : ℕ) → c < (thirds parts kind a b).to
+      → key_of (name_at kind a b c) ≡ key (rank kind) a b c
+  keys (of.Nodes node.Mono) a b c to = refl
+  keys (of.Nodes node.Top) a b c to = no_third 1 a b c to
+  keys (of.Nodes node.Occupy) a b c to = refl
+  keys (of.Nodes node.Enter) a b c to = refl
+  keys (of.Nodes node.Leave) a b c to =
+      no_third 7 a b c (within_if (goes_on (slice_get parts.flights a) b) 1 c to).1
+  keys (of.Places cap.Dep) a b c to = no_third 2 a b c to
+  keys (of.Places cap.Arr) a b c to = no_third 3 a b c to
+  keys (of.Places cap.Sector) a b c to = no_third 4 a b c to
+  keys of.Connections a b c to = no_third 8 a b c to
+
+  -- where they are within those of its kind, there is a row
+  capacity_is : (kind : CapKind) (p t : ℕ)
+      → is_row parts (capacity_name kind p t) ≡ is_capacity parts kind p t
+  capacity_is cap.Dep p t = refl
+  capacity_is cap.Arr p t = refl
+  capacity_is cap.Sector p t = refl
+
+  row_is : (kind : RowKind) (a b c : ℕ) → IsWithin parts kind a b c → Is (name_at kind a b c)
+  row_is (of.Nodes node.Mono) a b c within =
+      and_from (is_node (slice_get parts.flights a) b) (nat_lt 0 c && nat_lt c parts.day.periods)
+      (is_node_within (slice_get parts.flights a) b within.second)
+      (and_from (nat_lt 0 c) (nat_lt c parts.day.periods)
+      (lt-ltb 0 c (let from = within.from in omega (arith, from)))
+      (lt-ltb c parts.day.periods within.to))
+  row_is (of.Nodes node.Top) a b c within =
+      is_node_within (slice_get parts.flights a) b within.second
+  row_is (of.Nodes node.Occupy) a b c within =
+      let has = within_if (has_inside (slice_get parts.flights a) b) parts.day.periods c within.to
+      in
+      and_from (has_inside (slice_get parts.flights a) b) (nat_lt c parts.day.periods) has.0
+      (lt-ltb c parts.day.periods has.1)
+  row_is (of.Nodes node.Enter) a b c within =
+      let has = within_if (nat_lt 0 b) parts.day.periods c within.to in
+      and_from (is_node (slice_get parts.flights a) b) (nat_lt 0 b && nat_lt c parts.day.periods)
+      (is_node_within (slice_get parts.flights a) b within.second)
+      (and_from (nat_lt 0 b) (nat_lt c parts.day.periods) has.0
+      (lt-ltb c parts.day.periods has.1))
+  row_is (of.Nodes node.Leave) a b c within =
+      (within_if (goes_on (slice_get parts.flights a) b) 1 c within.to).0
+  row_is (of.Places kind) a b c within =
+      let has = within_if (has_kind kind (slice_get parts.places a)) parts.day.periods b
+      within.second in
+      capacity_is kind a b
+      ∙ and_from (has_kind kind (slice_get parts.places a)) (nat_lt b parts.day.periods) has.0
+      (lt-ltb b parts.day.periods has.1)
+  row_is of.Connections a b c within =
+      and_from (nat_lt a (length parts.connections)) (nat_lt b parts.day.periods)
+      (lt-ltb a (length parts.connections) within.first)
+      (lt-ltb b parts.day.periods within.second)
+
+  -- each name of a row is so made
+  abbrev Has : RowName → List RowName → Type 0
+  Has name names = Any (λ other. other ≡ name) names
+
+  of_node : (kind : NodeKind) (f n t : ℕ) → n < node_count (slice_get parts.flights f)
+      → (node_thirds parts kind f n).from ≤ t → t < (node_thirds parts kind f n).to
+      → IsWithin parts (of.Nodes kind) f n t
+  of_node kind f n t is from to = record {
+    first = flight_within parts.flights f n is;
+    second = is;
+    from = from;
+    to = to;
+  }
+
+  of_place : (kind : CapKind) (p t : ℕ) → is_capacity parts kind p t ≡ true
+      → IsWithin parts (of.Places kind) p t 0
+  of_place kind p t is =
+      let both = and_parts (has_kind kind (slice_get parts.places p)) (nat_lt t parts.day.periods)
+      is in
+      record {
+        first = has_kind-within kind parts.places p both.0;
+        second = if_within (has_kind kind (slice_get parts.places p)) parts.day.periods t both.0
+            (ltb-true t parts.day.periods both.1);
+        from = omega arith;
+        to = omega arith;
+      }
+
+  module _ (there : (kind : RowKind) (a b c : ℕ) → IsWithin parts kind a b c
+      → Has (name_at kind a b c) (rows_of parts)) where
+    named : (name : RowName) → Is name → Has name (rows_of parts)
+    named (Mono f n t) is =
+        let found = and_parts (is_node (slice_get parts.flights f) n)
+        (nat_lt 0 t && nat_lt t parts.day.periods) is in
+        let time = and_parts (nat_lt 0 t) (nat_lt t parts.day.periods) found.1 in
+        let past = ltb-true 0 t time.0 in
+        there (of.Nodes node.Mono) f n t
+        (of_node node.Mono f n t (node_within (slice_get parts.flights f) n found.0)
+        (omega (arith, past)) (ltb-true t parts.day.periods time.1))
+    named (Top f n) is =
+        there (of.Nodes node.Top) f n 0
+        (of_node node.Top f n 0 (node_within (slice_get parts.flights f) n is) (omega arith)
+        (omega arith))
+    named (Dep p t) is = there (of.Places cap.Dep) p t 0 (of_place cap.Dep p t is)
+    named (Arr p t) is = there (of.Places cap.Arr) p t 0 (of_place cap.Arr p t is)
+    named (Sector p t) is = there (of.Places cap.Sector) p t 0 (of_place cap.Sector p t is)
+    named (Occupy f n t) is =
+        let both = and_parts (has_inside (slice_get parts.flights f) n)
+        (nat_lt t parts.day.periods) is in
+        there (of.Nodes node.Occupy) f n t
+        (of_node node.Occupy f n t (inside_within (slice_get parts.flights f) n both.0)
+        (omega arith)
+        (if_within (has_inside (slice_get parts.flights f) n) parts.day.periods t both.0
+        (ltb-true t parts.day.periods both.1)))
+    named (Enter f n t) is =
+        let found = and_parts (is_node (slice_get parts.flights f) n)
+        (nat_lt 0 n && nat_lt t parts.day.periods) is in
+        let both = and_parts (nat_lt 0 n) (nat_lt t parts.day.periods) found.1 in
+        there (of.Nodes node.Enter) f n t
+        (of_node node.Enter f n t (node_within (slice_get parts.flights f) n found.0) (omega arith)
+        (if_within (nat_lt 0 n) parts.day.periods t both.0
+        (ltb-true t parts.day.periods both.1)))
+    named (Leave f n) is =
+        there (of.Nodes node.Leave) f n 0
+        (of_node node.Leave f n 0 (goes_within (slice_get parts.flights f) n is) (omega arith)
+        (if_within (goes_on (slice_get parts.flights f) n) 1 0 is (omega arith)))
+    named (Connect c t) is =
+        let both = and_parts (nat_lt c (length parts.connections)) (nat_lt t parts.day.periods) is
+        in
+        there of.Connections c t 0 (record {
+          first = ltb-true c (length parts.connections) both.0;
+          second = ltb-true t parts.day.periods both.1;
+          from = omega arith;
+          to = omega arith;
+        })
+    named (Cut i) is = absurd cc
+
+-- how many numbers a kind has at most
+abbrev most_firsts : RowKind → ℕ
+most_firsts (of.Nodes kind) = most_flights
+most_firsts (of.Places kind) = most_places
+most_firsts of.Connections = most_connections
+
+abbrev most_seconds : RowKind → ℕ
+most_seconds (of.Nodes kind) = most_nodes
+most_seconds (of.Places kind) = most_periods
+most_seconds of.Connections = most_periods
+
+abbrev most_thirds : RowKind → ℕ
+most_thirds (of.Nodes kind) = most_periods
+most_thirds (of.Places kind) = 1
+most_thirds of.Connections = 1
+
+module _ (parts : Parts) (scenario : IsScenario parts) where
+  periods_few : parts.day.periods ≤ most_periods
+  periods_few = scenario.day.periods_to
+
+  firsts_few : (kind : RowKind) → part_count parts kind ≤ most_firsts kind
+  firsts_few (of.Nodes kind) = scenario.flights.few
+  firsts_few (of.Places kind) = scenario.places.few
+  firsts_few of.Connections = scenario.connections.few
+
+  seconds_few : (kind : RowKind) (a : ℕ) → second_count parts kind a ≤ most_seconds kind
+  seconds_few (of.Nodes kind) a = nodes_few parts a scenario
+  seconds_few (of.Places kind) a =
+      if_few (has_kind kind (slice_get parts.places a)) parts.day.periods most_periods periods_few
+  seconds_few of.Connections a = periods_few
+
+  thirds_few : (kind : RowKind) (a b : ℕ) → (thirds parts kind a b).to ≤ most_thirds kind
+  thirds_few (of.Nodes node.Mono) a b = periods_few
+  thirds_few (of.Nodes node.Top) a b = omega arith
+  thirds_few (of.Nodes node.Occupy) a b =
+      if_few (has_inside (slice_get parts.flights a) b) parts.day.periods most_periods periods_few
+  thirds_few (of.Nodes node.Enter) a b =
+      if_few (nat_lt 0 b) parts.day.periods most_periods periods_few
+  thirds_few (of.Nodes node.Leave) a b =
+      if_few (goes_on (slice_get parts.flights a) b) 1 most_periods (omega arith)
+  thirds_few (of.Places kind) a b = omega arith
+  thirds_few of.Connections a b = omega arith
+
+-- what follows of all kinds
+module _ (parts : Parts) where
   pub kind_each : (kind : RowKind) → Each (Is parts) (kind_rows parts kind)
-  kind_each (kinds.Nodes node.Mono) = monos_are parts
-  kind_each (kinds.Nodes node.Top) = tops_are parts
-  kind_each (kinds.Nodes node.Occupy) = occupies_are parts
-  kind_each (kinds.Nodes node.Enter) = enters_are parts
-  kind_each (kinds.Nodes node.Leave) = leaves_are parts
-  kind_each (kinds.Places kind) = places_are parts kind
-  kind_each kinds.Connections = connects_are parts
+  kind_each kind = kind_all parts kind (Is parts) (row_is parts kind)
 
   kinds_each : (list : List RowKind) → Each (Is parts) (kinds_rows parts list)
   kinds_each [] = tt
@@ -59,29 +245,17 @@ module _ (parts : Parts) where
       any_second (λ other. other ≡ name) (kind_rows parts first) (kinds_rows parts list)
       (in_kinds name kind list k at has)
 
-  in_all : (name : RowName) (kind : RowKind) → Has parts name (kind_rows parts kind)
-      → Has parts name (rows_of parts)
-  in_all name kind has = in_kinds name kind row_kinds (rank kind) (listed kind) has
-
-  there : (name : RowName) → Is parts name → Has parts name (rows_of parts)
-  there (Mono f n t) is = in_all (Mono f n t) (kinds.Nodes node.Mono) (mono_there parts f n t is)
-  there (Top f n) is = in_all (Top f n) (kinds.Nodes node.Top) (top_there parts f n is)
-  there (Dep p t) is = in_all (Dep p t) (kinds.Places kind.Dep) (capacity_there parts kind.Dep p t is)
-  there (Arr p t) is = in_all (Arr p t) (kinds.Places kind.Arr) (capacity_there parts kind.Arr p t is)
-  there (Sector p t) is =
-      in_all (Sector p t) (kinds.Places kind.Sector) (capacity_there parts kind.Sector p t is)
-  there (Occupy f n t) is =
-      in_all (Occupy f n t) (kinds.Nodes node.Occupy) (occupy_there parts f n t is)
-  there (Enter f n t) is = in_all (Enter f n t) (kinds.Nodes node.Enter) (enter_there parts f n t is)
-  there (Leave f n) is = in_all (Leave f n) (kinds.Nodes node.Leave) (leave_there parts f n is)
-  there (Connect c t) is = in_all (Connect c t) kinds.Connections (connect_there parts c t is)
-  there (Cut i) is = absurd cc
+  in_all : (kind : RowKind) (a b c : ℕ) → IsWithin parts kind a b c
+      → Has parts (name_at kind a b c) (rows_of parts)
+  in_all kind a b c within =
+      in_kinds (name_at kind a b c) kind row_kinds (rank kind) (listed kind)
+      (kind_has parts kind a b c within)
 
 pub rows_each : (parts : Parts) (name : RowName)
     → Any (λ other. other ≡ name) (rows_of parts) ↔ is_row parts name ≡ true
 rows_each parts name = (
   each_any (λ other. is_row parts other ≡ true) name (rows_of parts) (kinds_each parts row_kinds),
-  there parts name,
+  named parts (in_all parts) name,
 )
 
 pub told_each : (parts : Parts) (names : List RowName) (name : RowName) → names ≡ rows_of parts
@@ -89,16 +263,6 @@ pub told_each : (parts : Parts) (names : List RowName) (name : RowName) → name
 told_each parts names name are =
     subst (λ list. Any (λ other. other ≡ name) list ↔ is_row parts name ≡ true) (sym are)
     (rows_each parts name)
-
--- those of a kind are in order
-kind_ascends : (parts : Parts) (kind : RowKind) → AreOf (rank kind) (kind_rows parts kind)
-kind_ascends parts (kinds.Nodes node.Mono) = monos parts
-kind_ascends parts (kinds.Nodes node.Top) = tops parts
-kind_ascends parts (kinds.Nodes node.Occupy) = occupies parts
-kind_ascends parts (kinds.Nodes node.Enter) = enters parts
-kind_ascends parts (kinds.Nodes node.Leave) = leaves parts
-kind_ascends parts (kinds.Places kind) = places_ascend parts kind
-kind_ascends parts kinds.Connections = connects parts
 
 -- kinds whose ranks are one after the other, from one on
 abbrev are_ranked : ℕ → List RowKind → Bool
@@ -112,7 +276,7 @@ kinds_ascend parts from (kind ∷ list) ranked =
     let both = and_parts (rank kind == from) (are_ranked (from + 1) list) ranked in
     kind_then from (kind_rows parts kind) (kinds_rows parts list)
     (subst (λ k. AreOf k (kind_rows parts kind)) (eqb-true (rank kind) from both.0)
-    (kind_ascends parts kind))
+    (kind_ascends parts kind (rank kind) (keys parts kind)))
     (kinds_ascend parts (from + 1) list both.1)
 
 pub rows_ascend : (parts : Parts) → AllPairs IsBefore (rows_of parts)
@@ -122,3 +286,29 @@ rows_ascend parts =
 pub told_order : (parts : Parts) (names : List RowName) → names ≡ rows_of parts
     → AllPairs IsBefore names
 told_order parts names are = subst (AllPairs IsBefore) (sym are) (rows_ascend parts)
+
+-- how many there are at most
+abbrev most_of : RowKind → ℕ
+most_of kind = most_firsts kind * (most_seconds kind * most_thirds kind)
+
+abbrev most_in : List RowKind → ℕ
+most_in [] = 0
+most_in (kind ∷ list) = most_of kind + most_in list
+
+module _ (parts : Parts) (scenario : IsScenario parts) where
+  kind_few : (kind : RowKind) → length (kind_rows parts kind) ≤ most_of kind
+  kind_few kind =
+      most_rows parts kind (most_firsts kind) (most_seconds kind) (most_thirds kind)
+      (firsts_few parts scenario kind) (seconds_few parts scenario kind)
+      (thirds_few parts scenario kind)
+
+  kinds_few : (list : List RowKind) → length (kinds_rows parts list) ≤ most_in list
+  kinds_few [] = omega arith
+  kinds_few (kind ∷ list) =
+      let both = length-append (kind_rows parts kind) (kinds_rows parts list) in
+      let here = kind_few kind in
+      let more = kinds_few list in
+      omega (arith, both, here, more)
+
+  pub rows_few : length (rows_of parts) ≤ 2 ^ 28
+  rows_few = let all = kinds_few row_kinds in omega (arith, all)

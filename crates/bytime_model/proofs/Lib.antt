@@ -1,6 +1,7 @@
 pub mod AllRowsFacts
 pub mod ColumnFacts
 pub mod CostFacts
+pub mod DenseFacts
 pub mod EntryFacts
 pub mod FillFacts
 pub mod FormFacts

@@ -1,5 +1,6 @@
 -- Lists by parts: what holds of each item, of each two, and of one.
-use Rattle.std.proofs.Common.{◌≡◌, ℕ, zero, suc, ◌+◌, ◌<◌, ◌≤◌, Bool, true, false, List, [], ◌∷◌, ◌++◌, map, if◌then◌else◌, All, AllPairs, inl, inr, refl, subst, arith, ◌⊎◌}
+use Rattle.std.proofs.Common.{◌≡◌, ℕ, zero, suc, ◌+◌, ◌*◌, ◌<◌, ◌≤◌, Bool, true, false, List, [], ◌∷◌, ◌++◌, length, map, if◌then◌else◌, All, AllPairs, inl, inr, refl, subst, arith, ◌⊎◌}
+use Rattle.std.proofs.lemmas.List.{length-append}
 use Rattle.std.proofs.lemmas.List.Elements.{All-cons, All-nil}
 use Rattle.std.proofs.lemmas.List.Kept.{AllPairs-cons}
 use Rattle.std.specs.List.{Any, flat_map, range_with_len}
@@ -58,6 +59,16 @@ module _ {X : Type 0} where
       (each_flat P part (from + 1) count
       (λ k past before. each k (omega (arith, past)) (omega (arith, before))))
 
+  -- no more than so many of each part
+  pub flat_few : (part : ℕ → List X) (most from count : ℕ) → ((k : ℕ) → length (part k) ≤ most)
+      → length (flat_map part (range_with_len from count)) ≤ count * most
+  flat_few part most from zero few = omega arith
+  flat_few part most from (suc count) few =
+      let both = length-append (part from) (flat_map part (range_with_len (from + 1) count)) in
+      let more = flat_few part most (from + 1) count few in
+      let here = few from in
+      omega (arith, both, more, here)
+
   pub each_all : (P : X → Type 0) (xs : List X) → Each P xs → All P xs
   each_all P [] each = All-nil P
   each_all P (x ∷ xs) each = All-cons P x xs each.0 (each_all P xs each.1)
@@ -95,13 +106,14 @@ module _ {X : Type 0} where
   ascending_if R false xs asc = tt
 
   pub ascending_map : (R : X → X → Type 0) (name : ℕ → X) (from count : ℕ)
-      → ((k m : ℕ) → k < m → R (name k) (name m))
+      → ((k m : ℕ) → from ≤ k → k < m → m < from + count → R (name k) (name m))
       → Ascending R (map name (range_with_len from count))
   ascending_map R name from zero less = tt
   ascending_map R name from (suc count) less = (
-    each_map (R (name from)) name (from + 1) count
-        (λ m past before. less from m (omega (arith, past))),
-    ascending_map R name (from + 1) count less,
+    each_map (R (name from)) name (from + 1) count (λ m past before.
+        less from m (omega arith) (omega (arith, past)) (omega (arith, before))),
+    ascending_map R name (from + 1) count (λ k m past onward before.
+        less k m (omega (arith, past)) onward (omega (arith, before))),
   )
 
   -- parts of which each is of its number

@@ -1,21 +1,13 @@
 -- The names of the rows are in ascending order.
-use Rattle.std.proofs.Common.{◌≡◌, ℕ, ◌+◌, ◌-◌, ◌<◌, ◌≤◌, ◌==◌, Bool, true, false, ◌&&◌, ◌||◌, nat_lt, List, [], ◌∷◌, ◌++◌, length, map, slice_get, if◌then◌else◌, refl, sym, ◌⊎◌, inl, inr, ◌∙◌, arith}
+use Rattle.std.proofs.Common.{◌≡◌, ℕ, ◌+◌, ◌-◌, ◌<◌, ◌≤◌, ◌==◌, Bool, true, false, ◌&&◌, ◌||◌, nat_lt, List, ◌++◌, refl, sym, ap, ◌⊎◌, inl, inr, ◌∙◌, arith}
 use Rattle.std.proofs.lemmas.Bool.{eq-eqb, eqb-true, le-ltb, lt-ltb, ltb-true}
-use Rattle.std.specs.List.{flat_map, range_with_len}
 use Rattle.flow_types.specs.declared.parts.Parts.{Parts}
-use Rattle.flow_types.specs.declared.place.CapKind.{CapKind}
-use Rattle.flow_types.specs.declared.place.CapKind.TheVariants as kind
-use Rattle.flow_types.specs.Capacities.{has_kind}
+use Rattle.bytime_model.specs.declared.names.RowKind.{RowKind}
 use Rattle.bytime_model.specs.declared.names.RowName.{RowName}
-use Rattle.bytime_model.specs.declared.names.RowName.TheVariants.{Connect, Enter, Leave, Mono, Occupy, Top}
-use Rattle.bytime_model.specs.declared.kinds.RowKind.TheVariants as kinds
-use Rattle.bytime_model.specs.AllRows.{capacity_name, capacity_names, connect_names, enter_names, leave_names, mono_names, node_count, occupy_names, over_nodes, top_names}
-use Rattle.bytime_model.specs.Kinds.{rank}
-use Rattle.bytime_model.proofs.AllRowsFacts.{over_all_nodes, over_connections, over_places}
-use Rattle.bytime_model.specs.Order.{IsBefore, is_before, is_less_or, key_of}
-use Rattle.bytime_model.specs.Rows.{goes_on}
-use Rattle.bytime_model.specs.Values.{has_inside}
-use Rattle.bytime_model.proofs.NameLists.{Ascending, Each, ascending_append, ascending_flat, ascending_if, ascending_map, each_append, each_flat, each_if, each_map, each_weaker}
+use Rattle.bytime_model.specs.AllRows.{kind_rows, part_rows, third_rows}
+use Rattle.bytime_model.specs.Kinds.{Key, key_of, name_at, part_count, second_count, thirds}
+use Rattle.bytime_model.specs.Order.{IsBefore, is_before, is_less_or}
+use Rattle.bytime_model.proofs.NameLists.{Ascending, Each, ascending_append, ascending_flat, ascending_map, each_append, each_flat, each_map, each_weaker}
 
 less_now : (a b : ℕ) (rest : Bool) → a < b → is_less_or a b rest ≡ true
 less_now a b rest less = rw (lt-ltb a b less) refl
@@ -154,130 +146,55 @@ pub record AreOf (k : ℕ) (names : List RowName) : Type 0 where
   pub each : Each (HasKind k) names
   pub ascending : Ascending IsBefore names
 
--- those of all nodes, where those of each are
-record AreOfNode (k f n : ℕ) (names : List RowName) : Type 0 where
-  each : Each (HasSecond k f n) names
-  ascending : Ascending IsBefore names
-
-nodes_ascend : (parts : Parts) (k : ℕ) (names : ℕ → ℕ → List RowName)
-    → ((f n : ℕ) → AreOfNode k f n (names f n)) → AreOf k (over_all_nodes parts names)
-nodes_ascend parts k names of = record {
-  each = each_flat (HasKind k) (over_nodes parts names) 0 (length parts.flights) (λ f _ _.
-      each_weaker (HasFirst k f) (HasKind k) (over_nodes parts names f)
-      (λ _ has. record { kind = has.kind }) (firsts f));
-  ascending = ascending_flat IsBefore (HasFirst k) (over_nodes parts names) 0
-      (length parts.flights) (before_first k) firsts (λ f.
-      ascending_flat IsBefore (HasSecond k f) (names f) 0
-      (node_count (slice_get parts.flights f)) (before_second k f) (λ n. (of f n).each)
-      (λ n. (of f n).ascending));
-}
+-- they are so where its names have the numbers that they are made of
+module _ (parts : Parts) (kind : RowKind) (k : ℕ)
+    (keys : (a b c : ℕ) → c < (thirds parts kind a b).to
+    → key_of (name_at kind a b c) ≡ (k, a, b, c))
   where
-    firsts : (f : ℕ) → Each (HasFirst k f) (over_nodes parts names f)
-    firsts f = each_flat (HasFirst k f) (names f) 0 (node_count (slice_get parts.flights f))
-        (λ n _ _. each_weaker (HasSecond k f n) (HasFirst k f) (names f n)
-        (λ _ has. record { kind = has.kind; first = has.first }) (of f n).each)
+    thirds_each : (a b : ℕ) → Each (HasSecond k a b) (third_rows parts kind a b)
+    thirds_each a b =
+        each_map (HasSecond k a b) (name_at kind a b) (thirds parts kind a b).from
+        ((thirds parts kind a b).to - (thirds parts kind a b).from) (λ c past before.
+        let key = keys a b c (omega (arith, past, before)) in
+        record {
+          kind = ap (λ (key : Key). key.0) key;
+          first = ap (λ (key : Key). key.1) key;
+          second = ap (λ (key : Key). key.2) key;
+        })
 
--- those of each period, which is the third number, or the second one
-thirds_ascend : (k f n : ℕ) (name : ℕ → RowName) (from count : ℕ)
-    → ((t : ℕ) → HasSecond k f n (name t)) → ((t : ℕ) → (key_of (name t)).3 ≡ t)
-    → AreOfNode k f n (map name (range_with_len from count))
-thirds_ascend k f n name from count has third = record {
-  each = each_map (HasSecond k f n) name from count (λ t _ _. has t);
-  ascending = ascending_map IsBefore name from count (λ t u less.
-      before_third (name t) (name u) ((has t).kind ∙ sym (has u).kind)
-      ((has t).first ∙ sym (has u).first) ((has t).second ∙ sym (has u).second)
-      (omega (arith, third t, third u, less)));
-}
+    thirds_ascend : (a b : ℕ) → Ascending IsBefore (third_rows parts kind a b)
+    thirds_ascend a b =
+        ascending_map IsBefore (name_at kind a b) (thirds parts kind a b).from
+        ((thirds parts kind a b).to - (thirds parts kind a b).from) (λ c d past onward before.
+        let one = keys a b c (omega (arith, past, onward, before)) in
+        let two = keys a b d (omega (arith, past, onward, before)) in
+        let third = ap (λ (key : Key). key.3) one in
+        let fourth = ap (λ (key : Key). key.3) two in
+        before_third (name_at kind a b c) (name_at kind a b d)
+        (ap (λ (key : Key). key.0) one ∙ sym (ap (λ (key : Key). key.0) two))
+        (ap (λ (key : Key). key.1) one ∙ sym (ap (λ (key : Key). key.1) two))
+        (ap (λ (key : Key). key.2) one ∙ sym (ap (λ (key : Key). key.2) two))
+        (omega (arith, onward, third, fourth)))
 
-seconds_ascend : (k f : ℕ) (name : ℕ → RowName) (from count : ℕ)
-    → ((t : ℕ) → HasSecond k f t (name t))
-    → Ascending IsBefore (map name (range_with_len from count))
-seconds_ascend k f name from count has =
-    ascending_map IsBefore name from count (λ t u less.
-    before_second k f t u (name t) (name u) less (has t) (has u))
+    part_each : (a : ℕ) → Each (HasFirst k a) (part_rows parts kind a)
+    part_each a =
+        each_flat (HasFirst k a) (third_rows parts kind a) 0 (second_count parts kind a) (λ b _ _.
+        each_weaker (HasSecond k a b) (HasFirst k a) (third_rows parts kind a b)
+        (λ _ has. record { kind = has.kind; first = has.first }) (thirds_each a b))
 
-seconds_first : (k f : ℕ) (name : ℕ → RowName) (from count : ℕ)
-    → ((t : ℕ) → HasSecond k f t (name t))
-    → Each (HasFirst k f) (map name (range_with_len from count))
-seconds_first k f name from count has =
-    each_map (HasFirst k f) name from count (λ t _ _.
-    record { kind = (has t).kind; first = (has t).first })
+    part_ascends : (a : ℕ) → Ascending IsBefore (part_rows parts kind a)
+    part_ascends a =
+        ascending_flat IsBefore (HasSecond k a) (third_rows parts kind a) 0
+        (second_count parts kind a) (before_second k a) (thirds_each a) (thirds_ascend a)
 
--- those that are there
-node_if : (k f n : ℕ) (b : Bool) (names : List RowName) → AreOfNode k f n names
-    → AreOfNode k f n (if b then names else [])
-node_if k f n b names of = record {
-  each = each_if (HasSecond k f n) b names (λ _. of.each);
-  ascending = ascending_if IsBefore b names of.ascending;
-}
-
-node_one : (k f n : ℕ) (name : RowName) → HasSecond k f n name → AreOfNode k f n (name ∷ [])
-node_one k f n name has = record { each = (has, tt); ascending = (tt, tt) }
-
--- kind by kind
-pub monos : (parts : Parts) → AreOf 0 (over_all_nodes parts (mono_names parts))
-monos parts = nodes_ascend parts 0 (mono_names parts) (λ f n.
-    thirds_ascend 0 f n (Mono f n) 1 (parts.day.periods - 1)
-    (λ t. record { kind = refl; first = refl; second = refl }) (λ t. refl))
-
-pub tops : (parts : Parts) → AreOf 1 (over_all_nodes parts top_names)
-tops parts = nodes_ascend parts 1 top_names (λ f n.
-    node_one 1 f n (Top f n) (record { kind = refl; first = refl; second = refl }))
-
-pub occupies : (parts : Parts) → AreOf 5 (over_all_nodes parts (occupy_names parts))
-occupies parts = nodes_ascend parts 5 (occupy_names parts) (λ f n.
-    node_if 5 f n (has_inside (slice_get parts.flights f) n)
-    (map (Occupy f n) (range_with_len 0 parts.day.periods))
-    (thirds_ascend 5 f n (Occupy f n) 0 parts.day.periods
-    (λ t. record { kind = refl; first = refl; second = refl }) (λ t. refl)))
-
-pub enters : (parts : Parts) → AreOf 6 (over_all_nodes parts (enter_names parts))
-enters parts = nodes_ascend parts 6 (enter_names parts) (λ f n.
-    node_if 6 f n (nat_lt 0 n) (map (Enter f n) (range_with_len 0 parts.day.periods))
-    (thirds_ascend 6 f n (Enter f n) 0 parts.day.periods
-    (λ t. record { kind = refl; first = refl; second = refl }) (λ t. refl)))
-
-pub leaves : (parts : Parts) → AreOf 7 (over_all_nodes parts (leave_names parts))
-leaves parts = nodes_ascend parts 7 (leave_names parts) (λ f n.
-    node_if 7 f n (goes_on (slice_get parts.flights f) n) (Leave f n ∷ [])
-    (node_one 7 f n (Leave f n) (record { kind = refl; first = refl; second = refl })))
-
-capacity_key : (kind : CapKind) (p t : ℕ)
-    → HasSecond (rank (kinds.Places kind)) p t (capacity_name kind p t)
-capacity_key kind.Dep p t = record { kind = refl; first = refl; second = refl }
-capacity_key kind.Arr p t = record { kind = refl; first = refl; second = refl }
-capacity_key kind.Sector p t = record { kind = refl; first = refl; second = refl }
-
--- a kind of which each number has its periods
-numbers_ascend : (k : ℕ) (names : ℕ → List RowName) (count : ℕ)
-    → ((p : ℕ) → Each (HasFirst k p) (names p)) → ((p : ℕ) → Ascending IsBefore (names p))
-    → AreOf k (flat_map names (range_with_len 0 count))
-numbers_ascend k names count each ascending = record {
-  each = each_flat (HasKind k) names 0 count (λ p _ _.
-      each_weaker (HasFirst k p) (HasKind k) (names p) (λ _ has. record { kind = has.kind })
-      (each p));
-  ascending = ascending_flat IsBefore (HasFirst k) names 0 count (before_first k) each ascending;
-}
-
-pub places_ascend : (parts : Parts) (kind : CapKind)
-    → AreOf (rank (kinds.Places kind)) (over_places parts kind)
-places_ascend parts kind =
-    let k = rank (kinds.Places kind) in
-    numbers_ascend k (capacity_names parts kind) (length parts.places)
-    (λ p. each_if (HasFirst k p) (has_kind kind (slice_get parts.places p))
-    (map (capacity_name kind p) (range_with_len 0 parts.day.periods))
-    (λ _. seconds_first k p (capacity_name kind p) 0 parts.day.periods (capacity_key kind p)))
-    (λ p. ascending_if IsBefore (has_kind kind (slice_get parts.places p))
-    (map (capacity_name kind p) (range_with_len 0 parts.day.periods))
-    (seconds_ascend k p (capacity_name kind p) 0 parts.day.periods (capacity_key kind p)))
-
-pub connects : (parts : Parts) → AreOf 8 (over_connections parts)
-connects parts =
-    numbers_ascend 8 (connect_names parts) (length parts.connections)
-    (λ c. seconds_first 8 c (Connect c) 0 parts.day.periods
-    (λ t. record { kind = refl; first = refl; second = refl }))
-    (λ c. seconds_ascend 8 c (Connect c) 0 parts.day.periods
-    (λ t. record { kind = refl; first = refl; second = refl }))
+    pub kind_ascends : AreOf k (kind_rows parts kind)
+    kind_ascends = record {
+      each = each_flat (HasKind k) (part_rows parts kind) 0 (part_count parts kind) (λ a _ _.
+          each_weaker (HasFirst k a) (HasKind k) (part_rows parts kind a)
+          (λ _ has. record { kind = has.kind }) (part_each a));
+      ascending = ascending_flat IsBefore (HasFirst k) (part_rows parts kind) 0
+          (part_count parts kind) (before_first k) part_each part_ascends;
+    }
 
 -- all kinds from one on
 pub record AreFrom (k : ℕ) (names : List RowName) : Type 0 where

@@ -7,9 +7,9 @@ use Rattle.flow_types.specs.declared.parts.Parts.{Parts}
 use Rattle.flow_types.specs.Limits.{most_nodes}
 use Rattle.time_windows.specs.declared.access.Access.{Access}
 use Rattle.time_windows.specs.declared.access.Window.{Window}
-use Rattle.time_windows.specs.Boxes.{Box, IsBoxOf}
+use Rattle.time_windows.specs.Boxes.{Box, IsBoxOf, root_box}
 use Rattle.time_windows.specs.Steps.{legs_of}
-use Rattle.time_windows.specs.Tight.{IsTight}
+use Rattle.time_windows.specs.Tight.{IsTight, IsTightened}
 use Rattle.bytime_model.specs.declared.left.Left.TheVariants.{Free, Same}
 use Rattle.bytime_model.specs.declared.variables.Var.{Var}
 use Rattle.bytime_model.specs.declared.variables.Var.TheVariants.{By, Inside}
@@ -85,6 +85,19 @@ pub record IsWhole (flights : List Flight) (box : Box) : Type 0 where
 abbrev pub AreColumnsOf : Parts → Numbering → Type 0
 AreColumnsOf parts numbering = (box : Box) → IsBoxOf parts box → IsTight parts box
     → IsNumbered parts numbering box
+
+-- a variable that the box leaves free has the position
+pub record IsTaken (flights : List Flight) (numbering : Numbering) (box : Box) (position : ℕ)
+    : Type 0 where
+  pub variable : Var
+  pub there : IsThere flights variable
+  pub free : left_of flights box variable ≡ Free
+  pub here : position_of numbering.columns variable ≡ position
+
+-- in the tight root box each position has one, so that they are as many as its free variables
+abbrev pub AreTaken : Parts → Numbering → Type 0
+AreTaken parts numbering = (root : Box) → IsTightened parts (root_box parts) root
+    → (position : ℕ) → position < numbering.count → IsTaken parts.flights numbering root position
 
 -- the latest end of the windows that legs lead to
 abbrev pub end_of : Option Window → ℕ

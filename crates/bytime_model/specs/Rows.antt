@@ -98,6 +98,11 @@ abbrev pub is_node : Option Flight → ℕ → Bool
 is_node None node = false
 is_node (Some flight) node = nat_lt node (length flight.nodes)
 
+-- so many nodes
+abbrev pub node_count : Option Flight → ℕ
+node_count None = 0
+node_count (Some flight) = length flight.nodes
+
 -- it goes on from the node
 abbrev pub goes_on : Option Flight → ℕ → Bool
 goes_on None node = false

@@ -2,12 +2,13 @@
 use Rattle.std.specs.Prelude.{◌≡◌}
 use Rattle.flow_types.specs.declared.parts.Parts.{Parts}
 use Rattle.bytime_model.specs.declared.table.Table.{Table}
-use Rattle.bytime_model.specs.Columns.{AreColumnsOf}
+use Rattle.bytime_model.specs.Columns.{AreColumnsOf, AreTaken}
 use Rattle.bytime_model.specs.CostRow.{cost_row}
 use Rattle.bytime_model.specs.Visits.{AreVisitsOf}
 
 -- a position for each variable, the visits to each place, and the cost row
 pub record IsTableFor (parts : Parts) (table : Table) : Type 0 where
   pub columns : AreColumnsOf parts table.columns
+  pub taken : AreTaken parts table.columns
   pub visits : AreVisitsOf parts table.visits
   pub cost : table.cost ≡ cost_row parts

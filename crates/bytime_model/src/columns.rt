@@ -72,13 +72,14 @@ impl Columns {
     ghost use Rattle.flow_types.specs.Limits.{most_nodes};
     ghost use Rattle.flow_types.specs.Scenario.{parts_of};
     ghost use Rattle.time_windows.specs.Held.{IsMadeFor, box_of};
-    ghost use Rattle.bytime_model.specs.Columns.{AreColumnsOf, AreColumnsTo, no_column, position_of};
+    ghost use Rattle.bytime_model.specs.Columns.{AreColumnsOf, AreColumnsTo, AreTaken, no_column, position_of};
 
     /// Those of the scenario's flights: a position for what the tight root box leaves free. While
     /// it runs it takes the memory of a root box.
-    #[tactic(auto, using(crate::proofs::NumberFacts::numbered))]
+    #[tactic(auto, using(crate::proofs::NumberFacts::numbered, crate::proofs::DenseFacts::all_taken))]
     pub fn new(alloc: Global, s: &Scenario) -> Result<Columns, OutOfMemory>
-        ensures { IfOk result (AreColumnsOf (parts_of s.now)) }
+        ensures numbered { IfOk result (AreColumnsOf (parts_of s.now)) }
+        ensures taken { IfOk result (AreTaken (parts_of s.now)) }
     {
         let mut root = Boxes::root(alloc, s)?;
         root.tighten(s);

@@ -37,15 +37,19 @@
 //! box, node by node, so they are found with no search and serve every tight box within.
 //!
 //! The definitions stand in `specs/`: `Values` (the values of the variables at a plan), `Rows` (the
-//! rows, by their names), `Kinds` (the one list of their kinds), `AllRows` (the names of all rows,
-//! and its parts), `Order` (their order), `Visits` (who has a node at a place), `CostRow` (what a
-//! plan costs, as a sum of terms), `Left` (what a box leaves of a variable), `Columns` (a position
-//! for each variable that a tight box may leave free), `Landing` (where a variable counts) and
-//! `Table` (positions, visits and the cost row, made once). `Filling` serves the proofs alone;
-//! `Multipliers` says how large the numbers of rows that are counted may be. `proofs/RowLaws.antt`,
-//! `proofs/SmallFacts.antt` and `proofs/AllRowsFacts.antt` are for the proofs of crates above: how
-//! large factors, limits and steps are, how long a row is, and of which names there are rows; they
-//! stand on the other files of proofs too.
+//! rows, by their names), `Kinds` (the one list of their kinds, and what names each has), `AllRows`
+//! (the names of all rows, and its parts) and `Order` (their order), which go by it, `Visits` (who
+//! has a node at a place), `CostRow` (what a plan costs, as a sum of terms), `Left` (what a box
+//! leaves of a variable), `Columns` (a position for each variable that a tight box may leave free),
+//! `Landing` (where a variable counts) and `Table` (positions, visits and the cost row, made once).
+//! `Filling` serves the proofs alone; `Multipliers` says how large the numbers of rows that are
+//! counted may be. `proofs/RowLaws.antt`, `proofs/KindLaws.antt` and `proofs/SmallFacts.antt` are
+//! for the proofs of crates above: how large factors, limits and steps are, how long a row is, of
+//! which names there are rows, and how many; they stand on the other files of proofs too.
+//!
+//! A new kind of rows has its name, its place in the list and its numbers in `src/names.rt` and
+//! `specs/Kinds.antt`, its row in `src/rows.rt` and `specs/Rows.antt`, and a clause in each lemma
+//! on all kinds, in `proofs/KindLaws.antt` (its names) and `proofs/RowLaws.antt` (its row).
 //!
 //! Proved: `fill` and `fill_with` tell whether there is a row of that name (`told`) and hold
 //! exactly it (`row`), which no plan that keeps every rule breaks (`valid`), or no terms (`none`);
@@ -60,7 +64,9 @@
 //! how many there are and for the constant give what the definition has for them, and so does
 //! `has_inside`. `left_of` tells what the box leaves of a variable (`left`), and it is so at every
 //! plan in the box (`agrees`). `Columns::new` gives each variable that a tight box leaves free a
-//! position of its own, and `landing_of` tells where a variable counts (`landing`).
+//! position of its own (`numbered`), and no position that isn't one of the tight root box's
+//! (`taken`), so there are as many as that leaves free; `landing_of` tells where a variable counts
+//! (`landing`).
 //!
 //! Memory: `RowBuffer` takes 0.2 MB once, `Visits` 8 bytes for each node of a flight and for each
 //! place, `linear_cost` 24 bytes for each period that a flight may be late or wait, `row_of` 24 for
@@ -80,7 +86,6 @@ mod buffer;
 mod columns;
 mod cost_row;
 mod fill;
-mod kinds;
 mod landing;
 mod left;
 mod multiplier;
@@ -99,11 +104,12 @@ pub use cost_row::{
     CostRow, constant_of, late_step, late_term, linear_cost, most_late, most_wait, wait_step,
     wait_term,
 };
-pub use kinds::{NodeKind, RowKind, part_count, row_kinds};
 pub use landing::{Landing, landing_of};
 pub use left::{Left, left_of};
 pub use multiplier::{Multiplier, Multipliers};
-pub use names::{RowName, RowNames, rows_are_in_one_order};
+pub use names::{
+    NodeKind, RowKind, RowName, RowNames, part_count, row_kinds, rows_are_in_one_order,
+};
 pub use row::{Row, row_of};
 pub use rows::{has_inside, is_row};
 pub use table::{Table, table_for};

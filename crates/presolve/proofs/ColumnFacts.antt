@@ -18,12 +18,12 @@ use Rattle.bytime_model.specs.declared.left.Left.{Left}
 use Rattle.bytime_model.specs.declared.left.Left.TheVariants.{Free}
 use Rattle.bytime_model.specs.declared.variables.Var.{Var}
 use Rattle.bytime_model.specs.declared.variables.Var.TheVariants.{By, Inside}
-use Rattle.bytime_model.specs.AllRows.{node_count, periods_of}
 use Rattle.bytime_model.specs.Left.{is_before_end, left_of, may_stay}
+use Rattle.bytime_model.specs.Rows.{node_count}
 use Rattle.bytime_model.specs.Values.{has_inside}
 use Rattle.bytime_model.specs.Columns.{IsThere}
 use Rattle.bytime_model.proofs.NumberFacts.{by_free, inside_free}
-use Rattle.presolve.specs.Variables.{by_columns, columns_of, flight_columns, if_free, inside_columns, is_free, is_same, node_columns}
+use Rattle.presolve.specs.Variables.{by_columns, columns_of, flight_columns, if_free, inside_columns, is_free, is_same, node_columns, periods_of}
 use Rattle.presolve.proofs.SumLaws.{range_one, total_flat, total_one, total_zero}
 
 free_is : (left : Left) → left ≡ Free → is_free left ≡ true

@@ -24,12 +24,12 @@ use Rattle.exact_sums.specs.Near.{IsNear}
 use Rattle.bytime_model.specs.Rows.{over_flights, term_of}
 use Rattle.bytime_model.proofs.SmallFacts.{constant_small, cost_terms_near}
 use Rattle.bytime_model.specs.Columns.{IsThere}
+use Rattle.bytime_model.proofs.NameLists.{flat_few}
 use Rattle.presolve.specs.Gathering.{Gathered, IsLanded, most_factor, most_gathered, size_of}
 use Rattle.presolve.specs.Landed.{coefficient_of, entries_from, fixed_of}
 use Rattle.presolve.specs.Listing.{HaveCosts}
 use Rattle.presolve.specs.Relaxed.{cost_in}
 use Rattle.presolve.specs.Variables.{columns_of}
-use Rattle.presolve.proofs.FreeFacts.{flat_few}
 use Rattle.presolve.proofs.GatherFacts.{none_later}
 use Rattle.presolve.proofs.PointFacts.{cost_there}
 use Rattle.presolve.proofs.RowFacts.{from_le, row_made}

@@ -1,51 +1,29 @@
 -- The columns: how many there are at most, that the box leaves them free, and where each stands.
-use Rattle.std.proofs.Common.{◌≡◌, ℕ, zero, suc, ◌+◌, ◌*◌, ◌≤◌, ◌==◌, Bool, true, false, ◌&&◌, List, [], ◌∷◌, length, Option, None, Some, slice_get, if◌then◌else◌, All, ℤ, pos, ◌+ℤ◌, ◌≤ℤ◌, refl, sym, ap, ◌∙◌, arith}
+use Rattle.std.proofs.Common.{◌≡◌, ℕ, zero, suc, ◌+◌, ◌*◌, ◌≤◌, ◌==◌, Bool, true, false, ◌&&◌, List, [], ◌∷◌, length, Some, slice_get, if◌then◌else◌, All, ℤ, pos, ◌+ℤ◌, ◌≤ℤ◌, refl, sym, ap, ◌∙◌, arith}
 use Rattle.std.proofs.lemmas.Bool.{and_parts}
 use Rattle.std.proofs.lemmas.Bool.Decides.{Decides-eqb}
 use Rattle.std.proofs.Math.Nat.{mul-le-mul_right}
 use Rattle.std.proofs.lemmas.List.{length-append}
-use Rattle.std.specs.List.{flat_map, range_with_len}
+use Rattle.std.specs.List.{flat_map}
 use Rattle.exact_sums.specs.Sums.{total}
 use Rattle.flow_types.specs.declared.flight.Flight.{Flight}
 use Rattle.flow_types.specs.declared.parts.Parts.{Parts}
-use Rattle.flow_types.specs.Limits.{most_nodes}
 use Rattle.flow_types.specs.Valid.{IsScenario}
 use Rattle.scaled_simplex.proofs.Products.{linear}
 use Rattle.time_windows.specs.Boxes.{Box, IsBoxOf}
-use Rattle.time_windows.proofs.RootFacts.{flight_in}
 use Rattle.bytime_model.specs.declared.left.Left.{Left}
 use Rattle.bytime_model.specs.declared.left.Left.TheVariants.{Free, One, Same, Zero}
 use Rattle.bytime_model.specs.declared.variables.Var.{Var}
 use Rattle.bytime_model.specs.declared.variables.Var.TheVariants.{By, Inside}
-use Rattle.bytime_model.specs.AllRows.{node_count, periods_of}
 use Rattle.bytime_model.specs.Left.{left_of}
+use Rattle.bytime_model.specs.Rows.{node_count}
 use Rattle.bytime_model.specs.Values.{has_inside}
-use Rattle.bytime_model.proofs.NameLists.{Each, each_all, each_append, each_flat, each_if}
+use Rattle.bytime_model.proofs.AllRowsFacts.{nodes_few}
+use Rattle.bytime_model.proofs.NameLists.{Each, each_all, each_append, each_flat, each_if, flat_few}
 use Rattle.bytime_model.specs.Columns.{IsThere}
 use Rattle.presolve.specs.Listing.{most_columns}
-use Rattle.presolve.specs.Variables.{by_columns, columns_of, flight_columns, if_free, inside_columns, is_free, is_same, node_columns}
+use Rattle.presolve.specs.Variables.{by_columns, columns_of, flight_columns, if_free, inside_columns, is_free, is_same, node_columns, periods_of}
 use Rattle.presolve.proofs.ColumnFacts.{once}
-
--- a list by parts of no more than so many
-pub flat_few : {X : Type 0} (part : ℕ → List X) (most from count : ℕ)
-    → ((k : ℕ) → length (part k) ≤ most)
-    → length (flat_map part (range_with_len from count)) ≤ count * most
-flat_few part most from zero few = omega arith
-flat_few part most from (suc count) few =
-    let both = length-append (part from) (flat_map part (range_with_len (from + 1) count)) in
-    let more = flat_few part most (from + 1) count few in
-    let here = few from in
-    omega (arith, both, more, here)
-
--- no flight has more nodes
-pub nodes_few : (parts : Parts) (f : ℕ) → IsScenario parts
-    → node_count (slice_get parts.flights f) ≤ most_nodes
-nodes_few parts f scenario = by (slice_get parts.flights f) refl
-  where
-    by : (found : Option Flight) → slice_get parts.flights f ≡ found
-        → node_count found ≤ most_nodes
-    by None none = omega arith
-    by (Some flight) there = (flight_in parts f flight scenario there).route.nodes_to
 
 times_le : (a b m : ℕ) → a ≤ b → a * m ≤ b * m
 times_le a b m le = mul-le-mul_right m le

@@ -13,7 +13,7 @@ use Rattle.bytime_model.specs.Rows.{is_row}
 use Rattle.bytime_model.proofs.KindLaws.{kind_each}
 use Rattle.bytime_model.proofs.ListingFacts.{range_more}
 use Rattle.bytime_model.proofs.NameLists.{any_flat, each_any}
-use Rattle.bytime_model.specs.declared.kinds.RowKind.{RowKind}
+use Rattle.bytime_model.specs.declared.names.RowKind.{RowKind}
 use Rattle.presolve.specs.declared.rows.Draft.{Draft}
 use Rattle.presolve.specs.declared.tally.Refused.{Refused}
 use Rattle.presolve.specs.Counting.{IfWide, IsPast, row_entries}

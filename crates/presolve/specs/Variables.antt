@@ -7,8 +7,8 @@ use Rattle.bytime_model.specs.declared.left.Left.{Left}
 use Rattle.bytime_model.specs.declared.left.Left.TheVariants.{Free, One, Same, Zero}
 use Rattle.bytime_model.specs.declared.variables.Var.{Var}
 use Rattle.bytime_model.specs.declared.variables.Var.TheVariants.{By, Inside}
-use Rattle.bytime_model.specs.AllRows.{node_count, periods_of}
 use Rattle.bytime_model.specs.Left.{left_of}
+use Rattle.bytime_model.specs.Rows.{node_count}
 use Rattle.bytime_model.specs.Values.{has_inside}
 
 -- it is one and the same variable
@@ -28,6 +28,10 @@ is_free Free = true
 abbrev pub if_free : Parts → Box → Var → List Var
 if_free parts box variable =
     if is_free (left_of parts.flights box variable) then variable ∷ [] else []
+
+-- the periods of the day
+abbrev pub periods_of : Parts → List ℕ
+periods_of parts = range_with_len 0 parts.day.periods
 
 -- of a node those of entering it, then those of being inside, each by period
 abbrev pub by_columns : Parts → Box → ℕ → ℕ → List Var

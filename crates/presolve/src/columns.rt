@@ -1,11 +1,11 @@
 //! The columns of a box.
 ghost use Rattle.std.specs.Prelude.{◌≡◌, ◌+◌, ◌++◌, IfErr, IfOk, OnOk, true};
 ghost use Rattle.std.specs.List.{flat_map, range_with_len};
-ghost use Rattle.bytime_model.specs.AllRows.{node_count, periods_of};
+ghost use Rattle.bytime_model.specs.Rows.{node_count};
 ghost use Rattle.bytime_model.specs.declared.variables.Var.TheVariants.{By, Inside};
 ghost use Rattle.flow_types.specs.Scenario.{flight_at, parts_of};
 ghost use Rattle.presolve.specs.Counting.{IfWide, IsCounted, IsPast, column_entries, flight_entries};
-ghost use Rattle.presolve.specs.Variables.{by_columns, columns_of, flight_columns, if_free, inside_columns, is_free, node_columns};
+ghost use Rattle.presolve.specs.Variables.{by_columns, columns_of, flight_columns, if_free, inside_columns, is_free, node_columns, periods_of};
 ghost use Rattle.time_windows.specs.Held.{IsMadeFor, box_of};
 
 use crate::tally::{Refused, Tally};
