@@ -5,6 +5,7 @@ use Rattle.std.proofs.lemmas.Bool.{cases_eq}
 use Rattle.std.proofs.lemmas.List.Elements.{All-head, All-replicate, All-tail}
 use Rattle.std.proofs.lemmas.Nat.Bits.{bit_at-lt, bit_at-zero}
 use Rattle.number_set.specs.Few.{IsIn, IsTaken, bit_in, count_in}
+use Rattle.number_set.specs.Numbers.{IsFirstWord}
 
 module _ (words : List ℕ) (number word : ℕ) (within : number / 64 < length words) where
   pub bit_here : bit_in (set words (number / 64) word) number ≡ bit_at word (number % 64)
@@ -23,18 +24,26 @@ module _ (words : List ℕ) (number word : ℕ) (within : number / 64 < length w
             (get_or-set_other words (number / 64) (f / 64) word 0 other)
       ]
 
--- a bit of a word is taken
-pub bit_taken : (words : List ℕ) (at bit now : ℕ) → at < length words → bit < 64
-    → bit_at (get_or words at 0) bit ≡ 1 → bit_at now bit ≡ 0
+-- the lowest bit of the first word that has one is taken
+pub bit_taken : (words : List ℕ) (at bit now : ℕ) → IsFirstWord words at → bit < 64
+    → bit_at (get_or words at 0) bit ≡ 1
+    → ((i : ℕ) → i < bit → bit_at (get_or words at 0) i ≡ 0)
+    → bit_at now bit ≡ 0
     → ((i : ℕ) → i < 64 → i ≢ bit → bit_at now i ≡ bit_at (get_or words at 0) i)
     → IsTaken (at * 64 + bit) words (set words at now)
-bit_taken words at bit now within few was here others =
+bit_taken words at bit now first few was lower here others =
     let number = at * 64 + bit in
     let is_at : number / 64 ≡ at = omega (arith, few) in
     let is_bit : number % 64 ≡ bit = omega (arith, few) in
-    let there : number / 64 < length words = omega (arith, is_at, within) in
+    let there : number / 64 < length words = omega (arith, is_at, first.within) in
     record {
       was = rw (is_at, is_bit) was;
+      none_before = λ k before. elim (cases_eq (k / 64) at) as (λ _. bit_in words k ≡ 0) [
+        | inl same ↦ rw same (lower (k % 64) (omega (arith, same, before, few)))
+        | inr other ↦ ap (λ n. bit_at n (k % 64))
+            (first.none_before (k / 64) (omega (arith, other, before, few)))
+            ∙ bit_at-zero (k % 64)
+      ];
       here = ap (λ n. bit_in (set words n now) number) (sym is_at)
           ∙ bit_here words number now there ∙ ap (bit_at now) is_bit ∙ here;
       others = λ f apart. ap (λ n. bit_in (set words n now) f) (sym is_at)

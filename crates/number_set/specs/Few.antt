@@ -1,5 +1,5 @@
 -- Sets of few numbers, a bit each.
-use Rattle.std.specs.Prelude.{◌≡◌, ◌≢◌, ℕ, ◌+◌, ◌/◌, ◌%◌, suc, zero, List, slice_index}
+use Rattle.std.specs.Prelude.{◌≡◌, ◌≢◌, ℕ, ◌+◌, ◌/◌, ◌%◌, ◌<◌, suc, zero, List, slice_index}
 use Rattle.std.specs.Int.{bit_at}
 
 -- 1 for a number of the set, and else 0
@@ -15,9 +15,10 @@ pub record IsAdded (number : ℕ) (old new : List ℕ) : Type 0 where
   pub here : IsIn new number
   pub others : (k : ℕ) → k ≢ number → bit_in new k ≡ bit_in old k
 
--- the number was in the set, and is no more
+-- the number was in the set and none before it, and it is no more
 pub record IsTaken (number : ℕ) (old new : List ℕ) : Type 0 where
   pub was : IsIn old number
+  pub none_before : (k : ℕ) → k < number → bit_in old k ≡ 0
   pub here : bit_in new number ≡ 0
   pub others : (k : ℕ) → k ≢ number → bit_in new k ≡ bit_in old k
 

@@ -41,8 +41,8 @@ pub fn first_bit(words: &[u64]) -> Option<usize>
     Some(at * 64 + lowest_bit(words[at]) as usize)
 }
 
-// Where the first word with a bit is.
-fn first_some(words: &[u64]) -> Option<usize>
+/// Where the first word with a bit is, nothing where there is none.
+pub fn first_some(words: &[u64]) -> Option<usize>
     ensures { MatchOption result (All (λ word. word ≡ 0) words.now) (IsFirstWord words.now) }
 {
     words.iter().position(|word| *word != 0)

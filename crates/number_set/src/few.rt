@@ -1,7 +1,5 @@
 //! Sets of few numbers, which take no memory.
-ghost use Rattle.std.specs.Prelude.{◌≡◌, ◌<◌, All, MatchOption, length, slice_index};
-
-use crate::bits::{lowest_bit, with_bit, without_bit};
+use crate::bits::{first_some, lowest_bit, with_bit, without_bit};
 use std::marker::Model;
 
 /// A set of numbers below 2,048. Contracts see it as its words, with a bit for each number.
@@ -49,17 +47,9 @@ impl FewNumbers {
         ensures { MatchOption result ((k : ℕ) → bit_in self.old k ≡ 0)
             (λ number. IsTaken number self.old self.new) }
     {
-        let at = first_set(&self.words)?;
+        let at = first_some(&self.words)?;
         let bit = lowest_bit(self.words[at]);
         self.words[at] = without_bit(self.words[at], bit);
         Some(at as u32 * 64 + bit)
     }
-}
-
-// Where the first word with a bit is.
-fn first_set(words: &[u64]) -> Option<usize>
-    ensures { MatchOption result (All (λ word. word ≡ 0) words.now)
-        (λ at. (at < length words.now) × (0 < slice_index words.now at)) }
-{
-    words.iter().position(|word| *word != 0)
 }

@@ -49,7 +49,7 @@ unreached_is least limit isnt = less_is least limit (by (int_lt least limit) isn
     by true isnt = refl
     by false isnt = absurd (let e : true ≡ false = isnt in cc)
 
-positive_is : (z : ℤ) → pos 0 <ℤ z → pos (unsigned_abs z) ≡ z
+pub positive_is : (z : ℤ) → pos 0 <ℤ z → pos (unsigned_abs z) ≡ z
 positive_is (pos n) above = refl
 positive_is (negsuc n) above = absurd (omega (arith, ints, above))
 

@@ -1,8 +1,9 @@
 -- The Dual leaf whose weight and multipliers a run of the box's program tells.
-use Rattle.std.specs.Prelude.{◌≡◌, ℕ, List, Option, ℤ, pos, ◌≤ℤ◌, unsigned_abs}
+use Rattle.std.specs.Prelude.{◌≡◌, ℕ, false, true, List, Option, ℤ, pos, neg_ℤ, ◌≤ℤ◌, unsigned_abs}
 use Rattle.flow_types.specs.declared.parts.Parts.{Parts}
 use Rattle.scaled_simplex.specs.Multipliers.{multipliers_of}
-use Rattle.scaled_simplex.specs.Run.{Outcome, simplex_run, weight_in}
+use Rattle.scaled_simplex.specs.Program.{Problem}
+use Rattle.scaled_simplex.specs.Run.{Outcome, is_infeasible, simplex_run, value_in, weight_in}
 use Rattle.time_windows.specs.Boxes.{Box}
 use Rattle.bytime_model.specs.declared.names.RowName.{RowName}
 use Rattle.branch_tree.specs.declared.leaf.Leaf.{Leaf}
@@ -46,3 +47,11 @@ HasBound parts box Empty = ⊥
 HasBound parts box UnitLeaf = ⊥
 HasBound parts box (Dual weight rows) = SaysSome parts box weight rows
 HasBound parts box (Lag weight rows) = ⊥
+
+-- A leaf has the run's weight, and comes to no less than the value of the run's multipliers. Those
+-- of a run that ended Infeasible have no weight, and their value is above 0.
+pub record TellsNoLess (problem : Problem) (outcome : Outcome) (weight : ℕ) (value : ℤ)
+    : Type 0 where
+  pub weight_is : pos weight ≡ weight_in problem outcome
+  pub bound : is_infeasible outcome.end ≡ false → value_in problem outcome ≤ℤ value
+  pub refutation : is_infeasible outcome.end ≡ true → neg_ℤ (value_in problem outcome) ≤ℤ value

@@ -1,12 +1,17 @@
-//! What the rows of a run's leaf are.
+//! What the rows of a run's leaf are, and what it comes to.
 ghost use Rattle.std.specs.Prelude.{ℕ, ℤ, ◌≡◌, List, Option};
 ghost use Rattle.branch_tree.specs.declared.leaf.Leaf.TheVariants.{Dual};
 ghost use Rattle.bytime_model.specs.declared.multiplier.Multiplier.{Multiplier};
 ghost use Rattle.bytime_model.specs.Multipliers.{AreAscending, ArePositive};
+ghost use Rattle.flow_types.specs.Valid.{IsScenario};
 ghost use Rattle.flow_types.specs.declared.parts.Parts.{Parts};
+ghost use Rattle.presolve.specs.Relaxed.{program_of};
 ghost use Rattle.relaxed_bound.specs.declared.limits.Limits.{Limits};
-ghost use Rattle.relaxed_bound.specs.Relaxed.{relaxed_leaf};
-ghost use Rattle.time_windows.specs.Boxes.{Box};
+ghost use Rattle.relaxed_bound.specs.Relaxed.{TellsNoLess, relaxed_leaf, run_of};
+ghost use Rattle.scaled_simplex.specs.Program.{IsProblem};
+ghost use Rattle.time_windows.specs.Boxes.{Box, IsBoxOf};
+ghost use Rattle.time_windows.specs.Tight.{IsTight};
+ghost use Rattle.valid_cuts.specs.Dual.{IsDualValue};
 
 /// The leaf of a run names each row once, in the order of rows, and none of its multipliers is 0.
 pub fn run_leaves_are_in_order()
@@ -16,4 +21,17 @@ pub fn run_leaves_are_in_order()
     ensures positive { (parts : Parts) (box : Box) (limits : Limits) (cutoff : Option ℤ)
         (weight : ℕ) (rows : List Multiplier)
         → Dual weight rows ≡ relaxed_leaf parts box limits cutoff → ArePositive rows }
+{}
+
+/// In a tight box whose program has numbers that are near enough, as those of every `Program` are,
+/// the leaf of a run comes to no less than what the run's multipliers tell, by the same weight:
+/// where it didn't end Infeasible, the value of its last tableau; and else, without a weight, what
+/// the row comes to that no column can repair.
+pub fn run_leaves_tell_no_less()
+    ensures { (parts : Parts) (box : Box) (limits : Limits) (cutoff : Option ℤ) (weight : ℕ)
+        (rows : List Multiplier) (value : ℤ) → IsScenario parts → IsBoxOf parts box
+        → IsTight parts box → IsProblem (program_of parts box)
+        → Dual weight rows ≡ relaxed_leaf parts box limits cutoff
+        → IsDualValue parts box weight rows value
+        → TellsNoLess (program_of parts box) (run_of parts box limits cutoff) weight value }
 {}
