@@ -1,2 +1,4 @@
 pub mod ForestFacts
+pub mod LawfulFacts
 pub mod TreeFacts
+pub mod WorkedTrees

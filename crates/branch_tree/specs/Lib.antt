@@ -1,3 +1,4 @@
 pub mod Forests
+pub mod Lawful
 pub mod Leaves
 pub mod Trees

@@ -14,7 +14,7 @@ use Rattle.branch_tree.specs.Forests.{AreSides, IsTreeOn, Leads}
 use Rattle.tree_search.specs.declared.found.Budget.{Budget}
 use Rattle.tree_search.specs.declared.draft.Draft.{Draft}
 use Rattle.tree_search.specs.Drafts.{Completes, IsNoted, IsSameTree}
-use Rattle.tree_search.specs.Nodes.{IsNodeAt, IsNodeWith, cost_of, cutoff_after}
+use Rattle.tree_search.specs.Nodes.{IsLawfulWith, IsNodeAt, cost_of, cutoff_after}
 
 abbrev Plan : Type 0
 Plan = List (List Stop)
@@ -68,7 +68,7 @@ module _ (parts : Parts) (budget : Budget) (top : Box) where
     node_completes : (plans : List Plan) (nodes : List TreeNode) (counts : List ℕ)
         (bounds : List Bound) (bound : Bound) → length counts ≡ length nodes
         → length bounds ≡ length nodes
-        → IsNodeWith parts budget (cutoff_after parts plans (length plans)) bound box node
+        → IsLawfulWith parts budget (cutoff_after parts plans (length plans)) bound box node
         → CompletesFrom plans nodes counts bounds before
         → CompletesFrom plans (nodes ++ node ∷ []) (counts ++ length plans ∷ [])
         (bounds ++ bound ∷ []) after
@@ -115,9 +115,9 @@ module _ (parts : Parts) (budget : Budget) (top : Box) where
 
         here : IsAtIn (plans ++ more_plans) all_counts all_bounds (length nodes) box node
         here =
-            subst (λ c. IsNodeWith parts budget c
+            subst (λ c. IsLawfulWith parts budget c
             (slice_index_or all_bounds (length nodes) NoPlan) box node) (sym cutoff_here)
-            (subst (λ b. IsNodeWith parts budget (cutoff_after parts plans (length plans)) b box
+            (subst (λ b. IsLawfulWith parts budget (cutoff_after parts plans (length plans)) b box
             node) (sym bound_here) is)
 
   -- no node so far
@@ -165,7 +165,7 @@ module _ (parts : Parts) (budget : Budget) (top : Box) where
       → Leads parts IsAt number before (node ∷ more) [])
       → (old new : Draft) (bound : Bound) → length old.counts ≡ length old.nodes
       → length old.bounds ≡ length old.nodes
-      → IsNodeWith parts budget (cutoff_after parts old.plans (length old.plans)) bound box node
+      → IsLawfulWith parts budget (cutoff_after parts old.plans (length old.plans)) bound box node
       → IsNoted node bound old new → Completes parts budget top old before
       → Completes parts budget top new after
   noted_complete box node before after join old new bound counted bounded is noted completes =
@@ -182,7 +182,7 @@ module _ (parts : Parts) (budget : Budget) (top : Box) where
   pub leaf_complete : (box : Box) (leaf : LeafKind) (boxes : List Box) (old new : Draft)
       (bound : Bound) → length old.counts ≡ length old.nodes
       → length old.bounds ≡ length old.nodes
-      → IsNodeWith parts budget (cutoff_after parts old.plans (length old.plans)) bound box
+      → IsLawfulWith parts budget (cutoff_after parts old.plans (length old.plans)) bound box
       (Leaf leaf)
       → IsNoted (Leaf leaf) bound old new → Completes parts budget top old (box ∷ boxes)
       → Completes parts budget top new boxes
@@ -195,7 +195,7 @@ module _ (parts : Parts) (budget : Budget) (top : Box) where
       (boxes : List Box) (old new : Draft) (bound : Bound)
       → AreSides parts flight node time box early late → length old.counts ≡ length old.nodes
       → length old.bounds ≡ length old.nodes
-      → IsNodeWith parts budget (cutoff_after parts old.plans (length old.plans)) bound box
+      → IsLawfulWith parts budget (cutoff_after parts old.plans (length old.plans)) bound box
       (Split flight node time named)
       → IsNoted (Split flight node time named) bound old new
       → Completes parts budget top old (box ∷ boxes)

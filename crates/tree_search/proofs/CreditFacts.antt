@@ -94,15 +94,15 @@ module _ (parts : Parts) (valid : IsScenario parts) (nodes : ℕ) (most : most_n
 
   -- the sides of a split share out the credit
   split_credit : (flight node time : ℕ) (box early late : Box) → IsBoxOf parts box
-      → IsTight parts box → IsLive box → AreSides parts flight node time box early late
+      → IsTight parts box → AreSides parts flight node time box early late
       → credit early + credit late ≤ credit box
-  split_credit flight node time box early late made tight live sides =
+  split_credit flight node time box early late made tight sides =
       let flights = length parts.flights in
       let there =
       node_there parts valid flight node
       (branching_there parts box made flight node time sides.branching) in
       let node_in : node < nodes = omega (arith, there.1, most) in
-      let some = each_some parts box made tight live in
+      let some = each_some parts box made tight sides.live in
       let shared =
       options_shared flights nodes flight node time box sides.there node_in sides.branching in
       let one =
@@ -147,7 +147,7 @@ module _ (parts : Parts) (valid : IsScenario parts) (nodes : ℕ) (most : most_n
         few_nodes (number + 1) (early ∷ late ∷ boxes) tree
         (sides.early_is.tight, (sides.late_is.tight, tight.1)) leads in
         let shared =
-        split_credit flight node time box early late here.inside tight.0 here.live sides in
+        split_credit flight node time box early late here.1.inside tight.0 sides in
         omega (arith, rest, shared)
 
     -- each bound reaches its cutoff, or there are fewer nodes
@@ -160,7 +160,7 @@ module _ (parts : Parts) (valid : IsScenario parts) (nodes : ℕ) (most : most_n
     reached_or_few number [] (node ∷ tree) tight leads = absurd leads
     reached_or_few number (box ∷ boxes) (Leaf leaf ∷ tree) tight leads =
         by (settled parts budget (cutoffs number)
-        (get_or bounds number NoPlan) box leaf leads.0)
+        (get_or bounds number NoPlan) box leaf leads.0.1)
         (reached_or_few (number + 1) boxes tree tight.1 leads.1)
       where
         by : IsReachedAt cutoffs bounds number ⊎ IsUnsettled box
@@ -169,7 +169,7 @@ module _ (parts : Parts) (valid : IsScenario parts) (nodes : ℕ) (most : most_n
             → AreReached cutoffs bounds number (suc (length tree))
             ⊎ (suc (length tree) + suc (length boxes) + 2 ≤ 2 * (credit box + credits boxes))
         by (inr unsettled) rest =
-            let two = unsettled_credit box leads.0.inside tight.0 unsettled in
+            let two = unsettled_credit box leads.0.1.inside tight.0 unsettled in
             let few = few_nodes (number + 1) boxes tree tight.1 leads.1 in
             inr (omega (arith, two, few))
         by (inl here) (inl rest) = inl (reached_from cutoffs bounds number (length tree) here rest)
@@ -187,8 +187,8 @@ module _ (parts : Parts) (valid : IsScenario parts) (nodes : ℕ) (most : most_n
         by (inl rest) =
             inl (reached_from cutoffs bounds number (length tree)
             (reached_none (cutoffs number)
-            (get_or bounds number NoPlan) here.bound_is) rest)
+            (get_or bounds number NoPlan) here.0) rest)
         by (inr rest) =
             let shared =
-            split_credit flight node time box early late here.inside tight.0 here.live sides in
+            split_credit flight node time box early late here.1.inside tight.0 sides in
             inr (omega (arith, rest, shared))

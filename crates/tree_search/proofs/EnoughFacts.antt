@@ -35,7 +35,7 @@ module _ (parts : Parts) (root : Box) (budget : Budget) (found : Found) (valid :
     each_reached : (k : ℕ) → k < length found.bounds
         → Reaches (cutoff_after parts found.plans last) (get_or found.bounds k NoPlan)
     each_reached k below =
-        let within : k < length found.tree = omega (arith, below, searched.bounded) in
+        let within : k < length found.tree = omega (arith, below, searched.tree.bounded) in
         let few : slice_index found.counts k ≤ last =
         searched.counts_to k 0 (omega (arith, within, searched.counted)) in
         reaches_later (cutoffs k) (cutoff_after parts found.plans last)
@@ -71,7 +71,7 @@ module _ (parts : Parts) (root : Box) (budget : Budget) (found : Found) (valid :
           spent_closed spent
           (reached_or_few parts valid most_nodes (omega arith) budget found.plans
           found.counts found.bounds 0 (searched.tight ∷ []) found.tree
-          (searched.tight_is.tight, tt) searched.tree)
+          (searched.tight_is.tight, tt) searched.tree.nodes_are)
 
   -- any tight box of the root has as many options as the record's
   pub enough_closed : (tight : Box) → IsTightened parts root tight

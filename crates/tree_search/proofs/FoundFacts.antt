@@ -11,6 +11,7 @@ use Rattle.time_windows.specs.Boxes.{Box}
 use Rattle.time_windows.specs.Tight.{IsTightened}
 use Rattle.branch_tree.specs.declared.tree.TreeNode.{TreeNode}
 use Rattle.branch_tree.proofs.ForestFacts.{tree_on}
+use Rattle.branch_tree.specs.Lawful.{IsLawfulTree}
 use Rattle.branch_tree.specs.Trees.{is_tree}
 use Rattle.time_windows.specs.Plans.{IsBoundIn, IsPlanIn}
 use Rattle.valid_cuts.specs.declared.names.CutName.{CutName}
@@ -19,13 +20,13 @@ use Rattle.tree_search.specs.declared.found.Budget.{Budget}
 use Rattle.tree_search.specs.declared.found.Found.{Found}
 use Rattle.flow_types.specs.Bounds.{least_of, bound_of}
 use Rattle.tree_search.specs.Drafts.{AreReached}
-use Rattle.tree_search.specs.Nodes.{IsNodeAt, cutoff_after}
+use Rattle.tree_search.specs.Nodes.{IsNodeAt, IsNodeOf, cutoff_after}
 use Rattle.tree_search.specs.Records.{IsClosed, IsSearchRecord}
 use Rattle.tree_search.specs.Searching.{IsSearched}
 use Rattle.tree_search.proofs.BoundFacts.{near_least}
 use Rattle.tree_search.proofs.PartFacts.{in_within}
 use Rattle.tree_search.proofs.ReachFacts.{Reaches, bound_closed, last_allowed, reaches_from, reaches_least}
-use Rattle.tree_search.proofs.SoundFacts.{tree_bounds}
+use Rattle.tree_search.proofs.SoundFacts.{searched_bounds}
 
 -- the nodes are a tree's
 pub searched_tree : (parts : Parts) (budget : Budget) (top : Box) (draft : Draft)
@@ -56,10 +57,18 @@ module _ (parts : Parts) (root top : Box) (budget : Budget) (draft : Draft)
         inside = in_within top root plan tight.within is.inside;
       }) draft.plans searched.draft_is.plans
 
+  is_lawful : IsLawfulTree parts (IsNodeOf parts budget draft.plans draft.counts) top draft.nodes
+      draft.bounds
+  is_lawful = record {
+    tight = tight.tight;
+    bounded = searched.draft_is.bounded;
+    nodes_are = searched.tree;
+  }
+
   sound : IsBoundIn parts root (least_of draft.bounds)
   sound =
-      tree_bounds parts root top budget draft.plans draft.counts draft.bounds draft.nodes
-      valid tight searched.tree
+      searched_bounds parts root top budget draft.plans draft.counts draft.bounds draft.nodes
+      valid tight is_lawful
 
   closed : AreReached draft
       → least_of draft.bounds ≡ bound_of (cutoff_after parts draft.plans (length draft.plans))
@@ -115,8 +124,7 @@ module _ (parts : Parts) (root top : Box) (budget : Budget) (draft : Draft)
           counted = searched.draft_is.counted;
           counts_to = searched.draft_is.counts_to;
           rising = searched.draft_is.rising;
-          tree = searched.tree;
-          bounded = searched.draft_is.bounded;
+          tree = is_lawful;
           bound_is = refl;
           near = near_least draft.bounds searched.draft_is.near;
           pool = refl;

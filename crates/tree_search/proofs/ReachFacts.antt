@@ -16,10 +16,9 @@ use Rattle.scaled_simplex.proofs.Products.{less_isnt}
 use Rattle.flow_types.specs.Bounds.{is_reached, least_of, lesser, bound_of}
 use Rattle.time_windows.specs.Boxes.{Box}
 use Rattle.time_windows.specs.Plans.{IsBoundIn, IsPlanIn}
+use Rattle.branch_tree.proofs.LawfulFacts.{Allows, bound_allows}
 use Rattle.tree_search.specs.Nodes.{cost_of, cutoff_after}
 use Rattle.tree_search.specs.Records.{IsCheaper}
-use Rattle.tree_search.proofs.BoundFacts.{Allows}
-use Rattle.tree_search.proofs.SoundFacts.{bound_allows}
 
 -- there is no plan, or none that costs less than the cutoff
 abbrev pub Reaches : Option ℤ → Bound → Type 0

@@ -18,7 +18,7 @@ use Rattle.tree_search.specs.declared.walk.Branch.{Branch}
 use Rattle.tree_search.specs.declared.walk.Step.{Step}
 use Rattle.tree_search.specs.declared.walk.Step.TheVariants.{Early}
 use Rattle.tree_search.specs.Drafts.{Completes, IsDraft, IsNoted}
-use Rattle.tree_search.specs.Nodes.{IsNodeWith}
+use Rattle.tree_search.specs.Nodes.{IsLawfulWith}
 use Rattle.tree_search.specs.Searching.{IsArrived, IsAtNext, IsGoneOn, IsLeft, IsSearched, IsSearching, planned_in}
 use Rattle.tree_search.specs.Seen.{IsLeafSeen, IsSplitSeen}
 use Rattle.tree_search.specs.Visits.{IsVisited}
@@ -41,15 +41,15 @@ module _ (parts : Parts) (budget : Budget) (way : Way) (old new : Draft)
     module _ (leaf : LeafKind) (bound : Bound)
         (seen : IsLeafSeen parts budget old.best more (box_of way.present) leaf bound)
         (noted : IsNoted (Leaf leaf) bound old new) where
-      is_node : IsNodeWith parts budget old.best bound (box_of way.present) (Leaf leaf)
-      is_node = seen.node
+      is_node : IsLawfulWith parts budget old.best bound (box_of way.present) (Leaf leaf)
+      is_node = (tt, seen.node)
 
       leaf_whole : (boxes : List Box) → ArePending parts way.above way.steps boxes
           → Completes parts budget (top_box way) new boxes
       leaf_whole boxes pending =
           leaf_complete parts budget (top_box way) (box_of way.present) leaf boxes old new
           bound arrived.draft_is.counted arrived.draft_is.bounded
-          (subst (λ cutoff. IsNodeWith parts budget cutoff bound (box_of way.present)
+          (subst (λ cutoff. IsLawfulWith parts budget cutoff bound (box_of way.present)
           (Leaf leaf)) arrived.best is_node) noted (arrived.whole boxes pending)
 
       pub leaf_next : (next : Way) → IsNext parts way next
@@ -126,15 +126,16 @@ module _ (parts : Parts) (budget : Budget) (way : Way) (old new : Draft)
         split_complete parts budget (top_box way) (box_of way.present) (box_of after) late
         branch.flight branch.node branch.time old.best boxes old new NoPlan
         (record {
+          live = seen.live;
           there = seen.branch_is.there;
           branching = seen.branch_is.branching;
           early_is = tight;
           late_is = late_is;
         })
         arrived.draft_is.counted arrived.draft_is.bounded
-        (subst (λ cutoff. IsNodeWith parts budget cutoff NoPlan (box_of way.present)
-        (Split branch.flight branch.node branch.time old.best)) arrived.best seen.node) noted
-        (arrived.whole boxes pending)
+        (subst (λ cutoff. IsLawfulWith parts budget cutoff NoPlan (box_of way.present)
+        (Split branch.flight branch.node branch.time old.best)) arrived.best (refl, seen.node))
+        noted (arrived.whole boxes pending)
 
     split_next : IsAtNext parts budget old (top_box way) down new
     split_next = record {

@@ -137,16 +137,15 @@ module _ (parts : Parts) (budget : Budget) (cutoff : Option ℤ) (more : Bool) (
   split_seen leaf may bound_is has licence other other_is =
       let below = split_open more (is_reached cutoff run) (is_reached cutoff priced) may in
       record {
+        live = live;
         node = record {
           inside = made;
-          live = live;
           choice = branch_choice parts box branch branch_is;
           cutoff_is = refl;
           told = rounds.told;
           rounds = λ round told few is.
               reached_down cutoff told priced (rounds.no_more round told few is) below.2;
           licence = licence (leaf_below parts box cutoff leaf run has bound_is below.1);
-          bound_is = refl;
         };
         branch_is = other_is;
         room = below.0;

@@ -311,16 +311,22 @@ whole budget some = record {
   counted = refl;
   counts_to = all_one (λ count. count ≤ 1) 1 (omega arith);
   rising = pairs_one (λ before after. before ≤ after) 1;
-  tree = (
-    record {
-      inside = it_is_inside;
-      range = tt;
-      bound_is = (it_is_unit, (soon, record { feasible = keeps; inside = plan_in }, refl));
-      kind = refl;
-    },
-    refl,
-  );
-  bounded = refl;
+  tree = record {
+    tight = it_is_tight;
+    bounded = refl;
+    nodes_are = (
+      (
+        tt,
+        record {
+          inside = it_is_inside;
+          range = tt;
+          bound_is = (it_is_unit, (soon, record { feasible = keeps; inside = plan_in }, refl));
+          kind = refl;
+        },
+      ),
+      refl,
+    );
+  };
   bound_is = refl;
   near = omega arith;
   pool = refl;

@@ -105,5 +105,5 @@ six_options = refl
 
 -- a split names what the last plan before it costs, and nothing else
 other_cutoff_isnt : (budget : Budget) (box : Box)
-    → IsSplitNode two budget (cutoff_after two (late ∷ []) 1) NoPlan box (Some (pos 1)) → ⊥
+    → IsSplitNode two budget (cutoff_after two (late ∷ []) 1) box (Some (pos 1)) → ⊥
 other_cutoff_isnt budget box split = let same = split.cutoff_is in let e : ⊥ = cc in e

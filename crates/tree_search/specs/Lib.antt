@@ -5,5 +5,6 @@ pub mod Records
 pub mod Rooms
 pub mod Searching
 pub mod Seen
+pub mod Trees
 pub mod Visits
 pub mod Ways

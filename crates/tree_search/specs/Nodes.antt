@@ -1,8 +1,7 @@
 -- What is known of each node of a search's tree. Each node has a count, of the plans that were
 -- found before it, and a bound; its cutoff is what the last of these plans costs.
-use Rattle.std.specs.Prelude.{◌≡◌, ℕ, zero, suc, ◌<◌, ◌≤◌, false, true, List, slice_get, slice_index, slice_index_or, Option, None, Some, Ok, ℤ}
+use Rattle.std.specs.Prelude.{◌≡◌, ℕ, zero, suc, ◌<◌, ◌≤◌, false, true, List, slice_get, slice_index, Option, None, Some, Ok, ℤ}
 use Rattle.flow_types.specs.declared.bound.Bound.{Bound}
-use Rattle.flow_types.specs.declared.bound.Bound.TheVariants.{NoPlan}
 use Rattle.flow_types.specs.declared.parts.Parts.{Parts}
 use Rattle.flow_types.specs.declared.plan.Stop.{Stop}
 use Rattle.flow_types.specs.Costs.{plan_cost}
@@ -15,6 +14,7 @@ use Rattle.branch_tree.specs.declared.leaf.Leaf.TheVariants.{Dual, Empty, Lag, U
 use Rattle.bytime_model.specs.declared.multiplier.Multiplier.{Multiplier}
 use Rattle.branch_tree.specs.declared.tree.TreeNode.{TreeNode}
 use Rattle.branch_tree.specs.declared.tree.TreeNode.TheVariants.{Leaf, Split}
+use Rattle.branch_tree.specs.Lawful.{IsLawfulAt, IsOwnBound}
 use Rattle.branch_tree.specs.Leaves.{IsInRange}
 use Rattle.dual_leaf.specs.Leaf.{IsLeafBound, IsLive}
 use Rattle.bytime_model.specs.Multipliers.{AreAscending, ArePositive}
@@ -78,30 +78,35 @@ pub record IsLeafNode (parts : Parts) (budget : Budget) (cutoff : Option ℤ) (b
   pub bound_is : IsLeafBound parts box leaf (Ok bound)
   pub kind : IsLeafKind parts budget cutoff bound box leaf
 
--- A split names its cutoff, and is licensed; it has no bound of its own. Each round of prices tells
--- a bound, and none one that reaches the cutoff.
-pub record IsSplitNode (parts : Parts) (budget : Budget) (cutoff : Option ℤ) (bound : Bound)
-    (box : Box) (named : Option ℤ) : Type 0 where
+-- A split names its cutoff, and is licensed. Each round of prices tells a bound, and none one that
+-- reaches the cutoff.
+pub record IsSplitNode (parts : Parts) (budget : Budget) (cutoff : Option ℤ) (box : Box)
+    (named : Option ℤ) : Type 0 where
   pub inside : IsBoxOf parts box
-  pub live : IsLive box
   pub choice : HasChoice box
   pub cutoff_is : named ≡ cutoff
   pub told : HaveBounds parts box budget.rounds
   pub rounds : (round : ℕ) (told : Bound) → round ≤ budget.rounds
       → IsRoundBound parts box round told → is_reached cutoff told ≡ false
   pub licence : IsLicensed parts box budget.limits cutoff
-  pub bound_is : bound ≡ NoPlan
 
 abbrev pub IsNodeWith : Parts → Budget → Option ℤ → Bound → Box → TreeNode → Type 0
 IsNodeWith parts budget cutoff bound box (Leaf leaf) =
     IsLeafNode parts budget cutoff bound box leaf
 IsNodeWith parts budget cutoff bound box (Split flight node time named) =
-    IsSplitNode parts budget cutoff bound box named
+    IsSplitNode parts budget cutoff box named
+
+-- and a split has no bound of its own
+abbrev pub IsLawfulWith : Parts → Budget → Option ℤ → Bound → Box → TreeNode → Type 0
+IsLawfulWith parts budget cutoff bound box node =
+    IsOwnBound node bound × IsNodeWith parts budget cutoff bound box node
 
 -- the node of this number
-module _ (parts : Parts) (budget : Budget) (plans : List (List (List Stop))) (counts : List ℕ)
-    (bounds : List Bound) where
-  abbrev pub IsNodeAt : ℕ → Box → TreeNode → Type 0
-  IsNodeAt number box node =
-      IsNodeWith parts budget (cutoff_after parts plans (slice_index counts number))
-      (slice_index_or bounds number NoPlan) box node
+module _ (parts : Parts) (budget : Budget) (plans : List (List (List Stop)))
+    (counts : List ℕ) where
+  abbrev pub IsNodeOf : ℕ → Bound → Box → TreeNode → Type 0
+  IsNodeOf number bound box node =
+      IsNodeWith parts budget (cutoff_after parts plans (slice_index counts number)) bound box node
+
+  abbrev pub IsNodeAt : List Bound → ℕ → Box → TreeNode → Type 0
+  IsNodeAt bounds number box node = IsLawfulAt parts IsNodeOf bounds number box node

@@ -1,6 +1,6 @@
 -- What a search hands back: plans, each cheaper than the one before, a tree that proves a bound,
 -- and that it ended since the last plan is a least one, or there is none, or its budget was spent.
-use Rattle.std.specs.Prelude.{◌≡◌, ◌⊎◌, ℕ, ◌+◌, ◌<◌, ◌≤◌, List, [], length, slice_get, All, AllPairs, Some, ℤ, ◌<ℤ◌}
+use Rattle.std.specs.Prelude.{◌≡◌, ◌⊎◌, ℕ, ◌+◌, ◌<◌, ◌≤◌, List, [], length, slice_get, All, AllPairs, Some, ◌<ℤ◌}
 use Rattle.flow_types.specs.declared.parts.Parts.{Parts}
 use Rattle.flow_types.specs.declared.plan.Stop.{Stop}
 use Rattle.flow_types.specs.Costs.{plan_cost}
@@ -8,11 +8,11 @@ use Rattle.time_windows.specs.Boxes.{Box}
 use Rattle.time_windows.specs.Plans.{IsPlanIn}
 use Rattle.time_windows.specs.Tight.{IsTightened}
 use Rattle.greedy_plan.specs.Greedy.{IsGreedy}
-use Rattle.branch_tree.specs.Forests.{IsTreeOn}
+use Rattle.branch_tree.specs.Lawful.{IsLawfulTree}
 use Rattle.flow_types.specs.Bounds.{IsNearBound, bound_of, least_of}
 use Rattle.tree_search.specs.declared.found.Budget.{Budget}
 use Rattle.tree_search.specs.declared.found.Found.{Found}
-use Rattle.tree_search.specs.Nodes.{IsNodeAt, cutoff_after}
+use Rattle.tree_search.specs.Nodes.{IsNodeOf, cutoff_after}
 
 abbrev pub IsCheaper : Parts → List (List Stop) → List (List Stop) → Type 0
 IsCheaper parts before after =
@@ -40,9 +40,8 @@ pub record IsSearchRecord (parts : Parts) (root : Box) (budget : Budget) (found 
   pub counted : length found.counts ≡ length found.tree
   pub counts_to : All (λ count. count ≤ length found.plans) found.counts
   pub rising : AllPairs (λ before after. before ≤ after) found.counts
-  pub tree : IsTreeOn parts
-      (IsNodeAt parts budget found.plans found.counts found.bounds) tight found.tree
-  pub bounded : length found.bounds ≡ length found.tree
+  pub tree : IsLawfulTree parts (IsNodeOf parts budget found.plans found.counts) tight found.tree
+      found.bounds
   pub bound_is : found.bound ≡ least_of found.bounds
   pub near : IsNearBound found.bound
   pub pool : found.pool ≡ []

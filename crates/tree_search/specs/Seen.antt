@@ -1,11 +1,11 @@
 -- What is seen of a box: a leaf, or where it is split. No public clause cites these.
 use Rattle.std.specs.Prelude.{◌≡◌, ℕ, ◌<◌, ◌≤◌, Bool, true, not, ◌&&◌, length, Option, None, Some, ℤ}
 use Rattle.flow_types.specs.declared.bound.Bound.{Bound}
-use Rattle.flow_types.specs.declared.bound.Bound.TheVariants.{NoPlan}
 use Rattle.flow_types.specs.declared.parts.Parts.{Parts}
 use Rattle.time_windows.specs.Boxes.{Box, options_of}
 use Rattle.time_windows.specs.Splits.{IsBranching}
 use Rattle.branch_tree.specs.declared.leaf.Leaf.{Leaf as LeafKind}
+use Rattle.dual_leaf.specs.Leaf.{IsLive}
 use Rattle.flow_types.specs.Bounds.{IsNearBound, is_reached}
 use Rattle.tree_search.specs.declared.found.Budget.{Budget}
 use Rattle.tree_search.specs.declared.seeing.Seen.{Seen}
@@ -38,7 +38,8 @@ pub record IsLeafSeen (parts : Parts) (budget : Budget) (cutoff : Option ℤ) (m
 -- a split, for which there is room
 pub record IsSplitSeen (parts : Parts) (budget : Budget) (cutoff : Option ℤ) (more : Bool)
     (box : Box) (branch : Branch) : Type 0 where
-  pub node : IsSplitNode parts budget cutoff NoPlan box cutoff
+  pub live : IsLive box
+  pub node : IsSplitNode parts budget cutoff box cutoff
   pub branch_is : IsBranchOf parts box branch
   pub room : more ≡ true
 

@@ -5,9 +5,11 @@ ghost use Rattle.flow_types.specs.Valid.{IsScenario};
 ghost use Rattle.flow_types.specs.declared.parts.Parts.{Parts};
 ghost use Rattle.time_windows.specs.Boxes.{Box};
 ghost use Rattle.time_windows.specs.Tight.{IsTightened};
+ghost use Rattle.branch_tree.specs.Lawful.{IsTreeBound};
 ghost use Rattle.tree_search.specs.Budgets.{options_in};
 ghost use Rattle.tree_search.specs.Records.{IsClosed, IsSearchRecord};
 ghost use Rattle.tree_search.specs.declared.found.Budget.{Budget};
+ghost use Rattle.tree_search.specs.Trees.{IsLeafBoundAt};
 ghost use Rattle.tree_search.specs.declared.found.Found.{Found};
 
 /// The record of a search proves its bound, whatever the search was let to spend and whoever wrote
@@ -16,6 +18,14 @@ ghost use Rattle.tree_search.specs.declared.found.Found.{Found};
 pub fn search_records_are_bounds()
     ensures { (parts : Parts) (root : Box) (budget : Budget) (found : Found) → IsScenario parts
         → IsSearchRecord parts root budget found → IsBoundIn parts root found.bound }
+{}
+
+/// The tree of a search's record is a lawful one on the tight root box, in which each leaf has its
+/// bound, and the record's bound is the tree's.
+pub fn search_trees_have_the_bound()
+    ensures { (parts : Parts) (root : Box) (budget : Budget) (found : Found)
+        → (searched : IsSearchRecord parts root budget found)
+        → IsTreeBound parts (IsLeafBoundAt parts) searched.tight found.tree found.bound }
 {}
 
 /// Some budget of nodes is enough for a search to close its gap: its last plan costs no more than

@@ -22,12 +22,14 @@
 //! tells more; and else it is split.
 //!
 //! The definitions stand in `specs/`: `Records` (what is handed back), `Nodes` (what is known of
-//! each node) and `Budgets` (a number of nodes that is enough).
+//! each node), `Trees` (what a reader of its tree needs) and `Budgets` (a number of nodes that is
+//! enough).
 //! `Ways`, `Drafts`, `Visits`, `Seen`, `Rooms` and `Searching` serve the proofs.
 //!
 //! Proved: `search` hands back a record (`record`), and no plan in the box that keeps every rule
 //! costs less than its bound (`sound`). Whoever made it, the bound of a record is one
-//! (`search_records_are_bounds`), and one with enough nodes is closed (`enough_nodes_close`).
+//! (`search_records_are_bounds`) and that of a lawful tree (`search_trees_have_the_bound`), and a
+//! record with enough nodes is closed (`enough_nodes_close`).
 //!
 //! Memory: one box and the log of what changed on the way, some 110 bytes for each node of the tree
 //! and 24 for each row of a Dual leaf and each price of a Lag leaf, the plans, and what one run
@@ -47,5 +49,5 @@ mod seeing;
 mod walk;
 
 pub use found::{Bounds, Budget, Counts, Found, Plans};
-pub use laws::{enough_nodes_close, search_records_are_bounds};
+pub use laws::{enough_nodes_close, search_records_are_bounds, search_trees_have_the_bound};
 pub use searching::search;
