@@ -14,7 +14,7 @@
 //!     }
 //!
 //! A [`Claim`] is a plan, if there is one, what it costs, a bound and the number of nodes of the
-//! tree that proves it. Its cost is counted once, by [`Claim::of`], which says what it is.
+//! tree that proves it. Only [`Claim::of`] makes one: it counts the cost once, and says what it is.
 //! `plan_report` gives the claim's four lines and a line for each trip of its plan, `claim_report`
 //! the four lines alone, and `broken_line` and `keeps_line` what is printed of a plan that was
 //! judged: each byte by byte as in `specs/Texts.antt` and `specs/Verdicts.antt`. A report is read

@@ -2,7 +2,6 @@
 ghost use Rattle.std.specs.Prelude.{◌≡◌, ◌++◌, IfOk, OnOk, codes};
 ghost use Rattle.flow_types.specs.Scenario.{parts_of};
 ghost use Rattle.text_records.specs.Lines.{line_text};
-ghost use Rattle.delay_report.specs.Claims.{plan_in};
 ghost use Rattle.delay_report.specs.Texts.{bound_word, claim_text, cost_word, outcome_word, plan_text, trips_text};
 
 use crate::claim::{Claim, Outcome};
@@ -19,12 +18,12 @@ pub fn claim_report(alloc: Global, claim: &Claim<'_>) -> Result<Vec<u8>, OutOfMe
 {
     let mut out = Vec::new(alloc);
     put_line(&mut out, b"status,", outcome_word(claim.outcome()))?;
-    put_cost(alloc, &mut out, claim.cost)?;
-    put_bound(alloc, &mut out, claim.bound)?;
+    put_cost(alloc, &mut out, claim.cost())?;
+    put_bound(alloc, &mut out, claim.bound())?;
     put_line(
         &mut out,
         b"nodes,",
-        claim.nodes.to_string(alloc)?.as_bytes(),
+        claim.nodes().to_string(alloc)?.as_bytes(),
     )?;
     Ok(out)
 }
@@ -35,10 +34,10 @@ pub fn claim_report(alloc: Global, claim: &Claim<'_>) -> Result<Vec<u8>, OutOfMe
 pub fn plan_report(alloc: Global, s: &Scenario, claim: &Claim<'_>) -> Result<Vec<u8>, OutOfMemory>
     ensures { IfOk result
         (λ text. text.items ≡ claim_text claim.now.cost claim.now.bound claim.now.nodes
-        ++ plan_text (parts_of s.now) (plan_in claim.now)) }
+        ++ plan_text (parts_of s.now) claim.now.plan) }
 {
     let mut out = claim_report(alloc, claim)?;
-    if let Some(plan) = claim.plan {
+    if let Some(plan) = claim.plan() {
         put_trips(alloc, &mut out, s, plan.items())?;
     }
     Ok(out)
