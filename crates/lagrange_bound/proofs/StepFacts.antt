@@ -1,20 +1,13 @@
 -- What the loads move prices by is what the trips do that they count.
-use Rattle.std.proofs.Common.{◌≡◌, ◌⊎◌, ℕ, ◌<◌, ◌≤◌, true, if◌then◌else◌, List, [], length, Option, None, Some, slice_get, slice_index_or, inl, inr, refl, sym, ap, ap₂, subst, ◌∙◌, arith}
-use Rattle.std.proofs.lemmas.Bool.{cases_lt}
-use Rattle.std.proofs.lemmas.List.{get_or_past}
-use Rattle.flow_types.specs.declared.bound.PriceKind.{PriceKind}
-use Rattle.flow_types.specs.declared.bound.PriceKind.TheVariants.{Capacity, Connection as Connected}
-use Rattle.flow_types.specs.declared.flight.Connection.{Connection}
+use Rattle.std.proofs.Common.{◌≡◌, ℕ, true, if◌then◌else◌, List, length, inl, ap₂, subst, ◌∙◌}
 use Rattle.flow_types.specs.declared.parts.Parts.{Parts}
-use Rattle.flow_types.specs.declared.place.CapKind.TheVariants as cap
 use Rattle.flow_types.specs.declared.plan.Stop.{Stop}
-use Rattle.flow_types.specs.Trips.{arrival_of, departure_of}
-use Rattle.flight_routes.specs.Prices.{PriceTable, price_at, row_count}
+use Rattle.flight_routes.specs.Prices.{PriceTable, price_at}
 use Rattle.plan_rules.specs.Cells.{Tally}
-use Rattle.plan_rules.specs.Loads.{AreLoads, arrival_at, departure_at}
-use Rattle.plan_rules.proofs.CountFacts.{AreTripsOrNone-length}
+use Rattle.plan_rules.specs.Loads.{AreLoads}
 use Rattle.priced_plans.specs.Keys.{has_limit}
-use Rattle.priced_plans.specs.Usage.{is_by, left_by, limit_at, ready_by, traffic_in, traffic_of, used_at}
+use Rattle.priced_plans.specs.Usage.{traffic_in}
+use Rattle.priced_plans.proofs.UsageFacts.{limit_same, used_same}
 use Rattle.time_windows.specs.Boxes.{Box}
 use Rattle.lagrange_bound.specs.Moves.{AreMoved}
 use Rattle.lagrange_bound.specs.Rounds.{IsMovedBy, IsRoundStep, moved, moved_price, step_of}
@@ -23,59 +16,6 @@ use Rattle.lagrange_bound.proofs.TakeFacts.{all_taken}
 
 module _ (parts : Parts) (trips : List (List Stop)) (loads : Tally)
     (are : AreLoads parts trips loads) where
-  left_is : (f : ℕ) → departure_at loads f ≡ departure_of (slice_index_or trips f [])
-  left_is f = by (cases_lt f (length parts.flights))
-    where
-      by : (f < length parts.flights) ⊎ (length parts.flights ≤ f)
-          → departure_at loads f ≡ departure_of (slice_index_or trips f [])
-      by (inl within) = are.leaves f within
-      by (inr past) =
-          let same : length trips ≡ length parts.flights =
-          AreTripsOrNone-length parts.day.periods parts.flights trips are.each in
-          get_or_past loads.leaves f None (omega (arith, past, are.made.leaves))
-          ∙ sym (ap departure_of (get_or_past trips f [] (omega (arith, past, same))))
-
-  arrived_is : (f : ℕ) → arrival_at loads f ≡ arrival_of (slice_index_or trips f [])
-  arrived_is f = by (cases_lt f (length parts.flights))
-    where
-      by : (f < length parts.flights) ⊎ (length parts.flights ≤ f)
-          → arrival_at loads f ≡ arrival_of (slice_index_or trips f [])
-      by (inl within) = are.arrives f within
-      by (inr past) =
-          let same : length trips ≡ length parts.flights =
-          AreTripsOrNone-length parts.day.periods parts.flights trips are.each in
-          get_or_past loads.arrives f None (omega (arith, past, are.made.arrives))
-          ∙ sym (ap arrival_of (get_or_past trips f [] (omega (arith, past, same))))
-
-  left_same : (connection : Option Connection) (period : ℕ)
-      → left_by (traffic_in loads) connection period
-      ≡ left_by (traffic_of parts trips) connection period
-  left_same None period = refl
-  left_same (Some connection) period =
-      ap (λ time. is_by time 0 period) (left_is connection.second)
-
-  ready_same : (connection : Option Connection) (period : ℕ)
-      → ready_by (traffic_in loads) connection period
-      ≡ ready_by (traffic_of parts trips) connection period
-  ready_same None period = refl
-  ready_same (Some connection) period =
-      ap (λ time. is_by time connection.turnaround period) (arrived_is connection.first)
-
-  used_same : (kind : PriceKind) (row period : ℕ) → row < row_count parts kind
-      → period < parts.day.periods → used_at parts (traffic_in loads) kind row period
-      ≡ used_at parts (traffic_of parts trips) kind row period
-  used_same (Capacity cap.Dep) row period within in_day = are.departures row period within in_day
-  used_same (Capacity cap.Arr) row period within in_day = are.arrivals row period within in_day
-  used_same (Capacity cap.Sector) row period within in_day = are.sectors row period within in_day
-  used_same Connected row period within in_day =
-      left_same (slice_get parts.connections row) period
-
-  limit_same : (kind : PriceKind) (row period : ℕ)
-      → limit_at parts (traffic_in loads) kind row period
-      ≡ limit_at parts (traffic_of parts trips) kind row period
-  limit_same (Capacity kind) row period = refl
-  limit_same Connected row period = ready_same (slice_get parts.connections row) period
-
   pub moved_by_trips : (step : ℕ) (old new : PriceTable)
       → AreMoved parts (moved_price parts (traffic_in loads) step) (λ k. true) old new
       → IsMovedBy parts trips step old new
@@ -84,7 +24,8 @@ module _ (parts : Parts) (trips : List (List Stop)) (loads : Tally)
     each = λ k within. made.each k within
         ∙ ap₂ (λ used limit. if has_limit parts k then moved step used limit (price_at old k)
         else price_at old k)
-        (used_same k.kind k.row k.period within.0 within.1) (limit_same k.kind k.row k.period);
+        (used_same parts trips loads are k.kind k.row k.period within.0 within.1)
+        (limit_same parts trips loads are k.kind k.row k.period);
   }
 
 -- a round, once the trips are taken

@@ -33,7 +33,7 @@
 //! Memory: prices twice and loads, 60 bytes a place and period, sixteen a connection and period and
 //! eight a flight, and the room for least trips, 0.9 MB, once. `play` takes none. Time: each round
 //! finds a least trip for each flight, reads each price and each load, copies the prices where they
-//! are kept, and works on the rows alone that a flight uses or that have a price.
+//! are kept, and moves those of connections and of places that a flight uses or that have a price.
 #![tactic(auto)]
 
 mod laws;

@@ -70,7 +70,7 @@ fn are_none(counts: &[u32]) -> bool
     counts.iter().all(|count| *count == 0)
 }
 
-// Whether no flight uses the row, and its prices are 0; of a connection that isn't asked.
+// Whether no flight uses the row of a place, and its prices are 0; of a connection it isn't asked.
 fn is_idle(s: &Scenario, loads: &Loads, kind: PriceKind, row: u32, prices: &Prices) -> bool
     requires loads { IsMadeFor (parts_of s.now) loads.now }
     requires prices { ArePricesOf (parts_of s.now) prices.now }

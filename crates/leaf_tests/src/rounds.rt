@@ -4,7 +4,7 @@ ghost use Rattle.flow_types.specs.Scenario.{parts_of};
 
 use crate::leaves::{day_of, tight_root};
 use flight_routes::Prices;
-use flow_types::{Bound, Scenario};
+use flow_types::{Bound, CapKind, PriceKind, Scenario};
 use lagrange_bound::Rounds;
 use std::test::Fail;
 
@@ -33,7 +33,7 @@ fn stay_prices(s: &Scenario, prices: &Prices, place: u32) -> Option<[u64; 3]>
     requires { ArePricesOf (parts_of s.now) prices.now }
 {
     if (place as usize) < s.places().len() && s.day().periods > 2 {
-        let stays = prices.stays(place);
+        let stays = prices.row(PriceKind::Capacity(CapKind::Sector), place);
         Some([stays[0], stays[1], stays[2]])
     } else {
         None

@@ -14,7 +14,7 @@ use Rattle.bytime_model.proofs.KindLaws.{kind_each}
 use Rattle.bytime_model.proofs.ListingFacts.{range_more}
 use Rattle.bytime_model.proofs.NameLists.{any_flat, each_any}
 use Rattle.bytime_model.specs.declared.names.RowKind.{RowKind}
-use Rattle.presolve.specs.declared.rows.Draft.{Draft}
+use Rattle.presolve.specs.declared.rows.ProgramDraft.{ProgramDraft}
 use Rattle.presolve.specs.declared.tally.Refused.{Refused}
 use Rattle.presolve.specs.Counting.{IfWide, IsPast, row_entries}
 use Rattle.bytime_model.specs.AllRows.{kind_rows, part_rows}
@@ -65,7 +65,7 @@ next_ranged part n more are =
 
 -- names after others
 module _ (parts : Parts) (box : Box) where
-  pub adds_none : (draft : Draft) → AddsNames parts box [] draft draft
+  pub adds_none : (draft : ProgramDraft) → AddsNames parts box [] draft draft
   adds_none draft = record {
     rows = rows_none parts box draft.program draft.kept;
     counted = none_counted draft.tally;
@@ -75,7 +75,7 @@ module _ (parts : Parts) (box : Box) where
       → kept_among parts box (few ++ more) ≡ kept_among parts box few ++ kept_among parts box more
   kept_both few more = filter-append (λ name. may_exceed (row_in parts box name)) few more
 
-  pub adds_both : (few more all : List RowName) (first old new : Draft)
+  pub adds_both : (few more all : List RowName) (first old new : ProgramDraft)
       → AddsNames parts box few first old → AddsNames parts box more old new → all ≡ few ++ more
       → AddsNames parts box all first new
   adds_both few more all first old new some next both =
@@ -109,13 +109,13 @@ module _ (parts : Parts) (box : Box) where
       later : List RowName
       later = kept_among parts box more
 
-  pub adds_columns : (names : List RowName) (first now : Draft) (count : ℕ)
+  pub adds_columns : (names : List RowName) (first now : ProgramDraft) (count : ℕ)
       → AddsNames parts box names first now → columns first.program ≡ count
       → columns now.program ≡ count
   adds_columns names first now count adds same = ap columns adds.rows.program ∙ same
 
   -- there is room for the next names
-  pub adds_room : (few more next all : List RowName) (first now : Draft) (most : ℕ)
+  pub adds_room : (few more next all : List RowName) (first now : ProgramDraft) (most : ℕ)
       → AddsNames parts box few first now → next ≡ few ++ more → IsFront next all
       → columns first.program + length first.program.constraints + length all ≤ most
       → columns now.program + length now.program.constraints + length more ≤ most
@@ -133,7 +133,7 @@ module _ (parts : Parts) (box : Box) where
       omega (arith, cols, long, sum, mapped, less, whole, two, one, three, room)
 
   -- where these have more entries than there is room for, all have
-  pub adds_wide : (few more next all : List RowName) (first now : Draft) (reason : Refused)
+  pub adds_wide : (few more next all : List RowName) (first now : ProgramDraft) (reason : Refused)
       → AddsNames parts box few first now → next ≡ few ++ more → IsFront next all
       → IfWide reason (IsPast now.tally.cells
       (now.tally.entries + sum_by (row_entries parts box) more))

@@ -9,7 +9,7 @@ use Rattle.time_windows.specs.Held.{Held, box_of}
 use Rattle.bytime_model.specs.declared.names.RowName.{RowName}
 use Rattle.bytime_model.specs.Visits.{AreVisitsOf}
 use Rattle.presolve.specs.declared.frame.Frame.{Frame}
-use Rattle.presolve.specs.declared.rows.Draft.{Draft}
+use Rattle.presolve.specs.declared.rows.ProgramDraft.{ProgramDraft}
 use Rattle.presolve.specs.Counting.{IsCounted, row_entries}
 use Rattle.presolve.specs.Gathering.{IsNumberedFor, size_of}
 use Rattle.presolve.specs.Relaxed.{constant_of, cost_in, flipped_of, kept_row, may_exceed, row_in}
@@ -62,7 +62,7 @@ pub record AddsRows (parts : Parts) (box : Box) (names : List RowName) (old new 
   pub kept : after ≡ before ++ kept_among parts box names
 
 -- the same of a draft, whose entries are counted
-pub record AddsNames (parts : Parts) (box : Box) (names : List RowName) (old new : Draft)
+pub record AddsNames (parts : Parts) (box : Box) (names : List RowName) (old new : ProgramDraft)
     : Type 0 where
   pub rows : AddsRows parts box names old.program new.program old.kept new.kept
   pub counted : IsCounted (sum_by (row_entries parts box) names) old.tally new.tally

@@ -9,7 +9,7 @@ ghost use Rattle.scaled_simplex.specs.Program.{columns, most_indices};
 ghost use Rattle.time_windows.specs.Held.{box_of};
 
 use crate::frame::{Frame, Room};
-use crate::rows::{Draft, add_rows};
+use crate::rows::{ProgramDraft, add_rows};
 use crate::tally::Refused;
 use bytime_model::{RowKind, part_count, part_rows, row_kinds};
 use flow_types::Scenario;
@@ -20,7 +20,7 @@ use time_windows::Boxes;
 // or connection are there at a time, since most windows are so narrow that few rows are kept.
 #[tactic(auto, using(crate::proofs::NamesFacts::adds_none, crate::proofs::NamesFacts::adds_columns, crate::proofs::NamesFacts::part_are))]
 fn add_kind(
-    draft: &mut Draft,
+    draft: &mut ProgramDraft,
     alloc: Global,
     room: &mut Room,
     frame: &Frame<'_>,
@@ -49,7 +49,7 @@ fn add_kind(
 // Adds those of these kinds, one after the other.
 #[tactic(auto, using(crate::proofs::NamesFacts::adds_none, crate::proofs::NamesFacts::adds_columns))]
 fn add_kinds(
-    draft: &mut Draft,
+    draft: &mut ProgramDraft,
     alloc: Global,
     room: &mut Room,
     frame: &Frame<'_>,
@@ -78,7 +78,7 @@ fn add_kinds(
 /// and 12 bytes for each name of one flight and kind, one place or one connection at a time, or up
 /// to twice that.
 pub fn add_all_kinds(
-    draft: &mut Draft,
+    draft: &mut ProgramDraft,
     alloc: Global,
     frame: &Frame<'_>,
     s: &Scenario,

@@ -17,7 +17,7 @@ use crate::costs::{Costs, costs_of, negatives_of, sizes_of};
 use crate::frame::Frame;
 use crate::kinds::add_all_kinds;
 use crate::numbers::Numbers;
-use crate::rows::{Draft, add_ones};
+use crate::rows::{ProgramDraft, add_ones};
 use crate::tally::{Refused, Tally};
 use bytime_model::{RowNames, Table, Var, Vars};
 use flow_types::{OutOfMemory, Scenario, Sequence};
@@ -96,7 +96,7 @@ fn begun(alloc: Global, s: &Scenario, boxes: &Boxes, costs: &Costs) -> Result<Pr
 
 // Adds all rows to a program without any.
 fn add_all(
-    draft: &mut Draft,
+    draft: &mut ProgramDraft,
     alloc: Global,
     frame: &Frame<'_>,
     s: &Scenario,
@@ -138,13 +138,13 @@ fn tallied(
     let mut tally = Tally::new(cells);
     let columns = columns_of(alloc, s, boxes, &mut tally)?;
     let Base { frame, costs } = base_of(alloc, s, boxes, table, columns.items())?;
-    let mut draft = Draft {
+    let mut draft = ProgramDraft {
         program: begun(alloc, s, boxes, &costs)?,
         kept: RowNames::empty(alloc),
         tally,
     };
     add_all(&mut draft, alloc, &frame, s, boxes, columns.items().len())?;
-    let Draft {
+    let ProgramDraft {
         program,
         kept,
         tally: _,

@@ -76,7 +76,7 @@ fn add_landed(
 
 /// A program while its rows are added, their names, and how many entries its tableau has.
 #[derive(Debug, Drop)]
-pub struct Draft {
+pub struct ProgramDraft {
     pub program: Program,
     pub kept: RowNames,
     pub tally: Tally,
@@ -85,7 +85,7 @@ pub struct Draft {
 // Adds the row of this name, if values of the columns may exceed it.
 #[tactic(auto, using(crate::proofs::RowFacts::landed_row_is, crate::proofs::RowFacts::landed_within, crate::proofs::RowFacts::adds_kept, crate::proofs::RowFacts::adds_none, crate::proofs::RowFacts::greatest_room, crate::proofs::CountFacts::row_counted, crate::proofs::CountFacts::row_uncounted, crate::proofs::CountFacts::row_wide))]
 fn add_row(
-    draft: &mut Draft,
+    draft: &mut ProgramDraft,
     alloc: Global,
     room: &mut Room,
     frame: &Frame<'_>,
@@ -124,7 +124,7 @@ fn add_row(
 /// Adds the rows of these names that values of the columns may exceed.
 #[tactic(auto, using(crate::proofs::RowFacts::rows_none, crate::proofs::RowFacts::rows_room, crate::proofs::RowFacts::rows_columns))]
 pub fn add_rows(
-    draft: &mut Draft,
+    draft: &mut ProgramDraft,
     alloc: Global,
     room: &mut Room,
     frame: &Frame<'_>,

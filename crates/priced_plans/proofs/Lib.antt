@@ -11,3 +11,4 @@ pub mod SmallFacts
 pub mod RoundFacts
 pub mod WorkedPrices
 pub mod SameFacts
+pub mod UsageFacts

@@ -2,7 +2,7 @@
 ghost use Rattle.std.specs.Prelude.{◌≡◌};
 ghost use Rattle.flow_types.specs.Scenario.{parts_of};
 ghost use Rattle.flight_routes.specs.Prices.{row_count};
-ghost use Rattle.priced_plans.specs.Keys.{has_limit, price_kinds};
+ghost use Rattle.priced_plans.specs.Keys.{IsKeyFor, has_limit, price_kinds};
 
 use flow_types::{CapKind, PriceKey, PriceKind, Scenario, has_kind};
 
@@ -28,8 +28,10 @@ pub fn row_count(s: &Scenario, kind: PriceKind) -> usize
     }
 }
 
-/// Whether a price may be put on it: on a capacity that is there, or a connection.
+/// Whether a price may be put on it: on a capacity that is there, or a connection. The key is of
+/// the scenario.
 pub fn has_limit(s: &Scenario, key: PriceKey) -> bool
+    requires { IsKeyFor (parts_of s.now) key }
     ensures { result ≡ has_limit (parts_of s.now) key }
 {
     match key.kind {

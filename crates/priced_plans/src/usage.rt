@@ -1,9 +1,10 @@
 //! How often trips use what a price is put on.
-ghost use Rattle.std.specs.Prelude.{◌≡◌};
+ghost use Rattle.std.specs.Prelude.{◌≡◌, List, true};
+ghost use Rattle.flow_types.specs.declared.plan.Stop.{Stop};
 ghost use Rattle.flow_types.specs.Scenario.{parts_of};
-ghost use Rattle.plan_rules.specs.Loads.{IsMadeFor};
-ghost use Rattle.priced_plans.specs.Keys.{IsKeyFor};
-ghost use Rattle.priced_plans.specs.Usage.{is_by, limit, traffic_in, used};
+ghost use Rattle.plan_rules.specs.Loads.{AreLoads, IsMadeFor};
+ghost use Rattle.priced_plans.specs.Keys.{IsKeyFor, has_limit};
+ghost use Rattle.priced_plans.specs.Usage.{is_by, limit, traffic_in, traffic_of, used};
 
 use flow_types::{PriceKey, PriceKind, Scenario, capacity_at};
 use plan_rules::Loads;
@@ -19,8 +20,23 @@ pub struct Usage {
 /// arrive or are inside, of so many that may; of a connection, 1 where its second flight has
 /// departed by the period, of 1 where the first has arrived the turnaround before it.
 ///
-/// The loads and the key are of the scenario. It takes no memory.
+/// The loads and the key are of the scenario, and the key is of a capacity that is there or of a
+/// connection. It takes no memory.
 pub fn usage_of(s: &Scenario, loads: &Loads, key: PriceKey) -> Usage
+    requires loads { IsMadeFor (parts_of s.now) loads.now }
+    requires key { IsKeyFor (parts_of s.now) key }
+    requires limit { has_limit (parts_of s.now) key ≡ true }
+    ensures used { result.used ≡ used (parts_of s.now) (traffic_in loads.now) key }
+    ensures limit { result.limit ≡ limit (parts_of s.now) (traffic_in loads.now) key }
+    ensures trips { (trips : List (List Stop)) → AreLoads (parts_of s.now) trips loads.now
+        → (result.used ≡ used (parts_of s.now) (traffic_of (parts_of s.now) trips) key)
+        × (result.limit ≡ limit (parts_of s.now) (traffic_of (parts_of s.now) trips) key) }
+{
+    counted(s, loads, key)
+}
+
+// That which the loads count.
+fn counted(s: &Scenario, loads: &Loads, key: PriceKey) -> Usage
     requires loads { IsMadeFor (parts_of s.now) loads.now }
     requires key { IsKeyFor (parts_of s.now) key }
     ensures used { result.used ≡ used (parts_of s.now) (traffic_in loads.now) key }

@@ -5,21 +5,21 @@ use Rattle.flow_types.specs.Valid.{IsScenario}
 use Rattle.time_windows.specs.Boxes.{Box}
 use Rattle.time_windows.specs.Held.{Held, IsMadeFor, box_of}
 use Rattle.time_windows.specs.Tight.{IsTight}
-use Rattle.tree_search.specs.declared.draft.Draft.{Draft}
+use Rattle.tree_search.specs.declared.draft.RecordDraft.{RecordDraft}
 use Rattle.tree_search.specs.declared.found.Budget.{Budget}
 use Rattle.tree_search.specs.declared.walk.Step.{Step}
 use Rattle.tree_search.specs.Drafts.{Completes}
 use Rattle.tree_search.specs.Searching.{IsSearching}
 use Rattle.tree_search.specs.Visits.{IsVisited}
-use Rattle.tree_search.specs.Ways.{Way, top_box, top_of}
+use Rattle.tree_search.specs.Paths.{Path, top_box, top_of}
 use Rattle.tree_search.proofs.VisitFacts.{first_best, first_complete, first_reached, visited_best, visited_first, visited_same, visited_tried}
 
-module _ (parts : Parts) (budget : Budget) (held : Held) (old new : Draft)
+module _ (parts : Parts) (budget : Budget) (held : Held) (old new : RecordDraft)
     (valid : IsScenario parts) (some : 0 < budget.nodes) (made : IsMadeFor parts held)
     (tight : IsTight parts (box_of held)) (plans : old.plans ≡ []) (nodes : old.nodes ≡ [])
     (counts : old.counts ≡ []) (bounds : old.bounds ≡ []) (best : old.best ≡ None)
     (visited : IsVisited parts (box_of held) old new) where
-  abbrev here : Way
+  abbrev here : Path
   here = record { present = held; above = []; steps = [] }
 
   at_root : IsSearching parts budget here new
@@ -49,18 +49,18 @@ module _ (parts : Parts) (budget : Budget) (held : Held) (old new : Draft)
       none : length new.nodes ≡ 0
       none = ap length ((visited_same parts (box_of held) old new visited).nodes ∙ nodes)
 
-  pub begun_at : (way : Way) → way.present ≡ held → way.above ≡ [] → way.steps ≡ []
-      → IsSearching parts budget way new
-  begun_at way present above steps =
+  pub begun_at : (path : Path) → path.present ≡ held → path.above ≡ [] → path.steps ≡ []
+      → IsSearching parts budget path new
+  begun_at path present above steps =
       subst (λ (h : Held). IsSearching parts budget (record {
         present = h;
-        above = way.above;
-        steps = way.steps;
+        above = path.above;
+        steps = path.steps;
       }) new) (sym present)
       (subst (λ (l : List Held). IsSearching parts budget (record {
         present = held;
         above = l;
-        steps = way.steps;
+        steps = path.steps;
       }) new) (sym above)
       (subst (λ (l : List Step). IsSearching parts budget (record {
         present = held;
@@ -68,8 +68,8 @@ module _ (parts : Parts) (budget : Budget) (held : Held) (old new : Draft)
         steps = l;
       }) new) (sym steps) at_root))
 
--- the first box of the way is that box
-pub begun_top : (way : Way) (held : Held) → way.present ≡ held → way.above ≡ []
-    → top_box way ≡ box_of held
-begun_top way held present above =
-    ap (λ (l : List Held). box_of (top_of way.present l)) above ∙ ap box_of present
+-- the first box of the path is that box
+pub begun_top : (path : Path) (held : Held) → path.present ≡ held → path.above ≡ []
+    → top_box path ≡ box_of held
+begun_top path held present above =
+    ap (λ (l : List Held). box_of (top_of path.present l)) above ∙ ap box_of present

@@ -12,7 +12,7 @@ use Rattle.branch_tree.specs.declared.tree.TreeNode.{TreeNode}
 use Rattle.branch_tree.specs.declared.tree.TreeNode.TheVariants.{Leaf, Split}
 use Rattle.branch_tree.specs.Forests.{AreSides, IsTreeOn, Leads}
 use Rattle.tree_search.specs.declared.found.Budget.{Budget}
-use Rattle.tree_search.specs.declared.draft.Draft.{Draft}
+use Rattle.tree_search.specs.declared.draft.RecordDraft.{RecordDraft}
 use Rattle.tree_search.specs.Drafts.{Completes, IsNoted, IsSameTree}
 use Rattle.tree_search.specs.Nodes.{IsLawfulWith, IsNodeAt, cost_of, cutoff_after}
 
@@ -121,7 +121,7 @@ module _ (parts : Parts) (budget : Budget) (top : Box) where
             node) (sym bound_here) is)
 
   -- no node so far
-  pub none_complete : (draft : Draft) → draft.nodes ≡ []
+  pub none_complete : (draft : RecordDraft) → draft.nodes ≡ []
       → Completes parts budget top draft (top ∷ [])
   none_complete draft none plans counts bounds nodes leads =
       subst (λ (ns : List TreeNode).
@@ -132,7 +132,7 @@ module _ (parts : Parts) (budget : Budget) (top : Box) where
       (ns ++ nodes)) (sym none) (λ is. is) leads
 
   -- no box is left
-  pub all_complete : (draft : Draft) → Completes parts budget top draft []
+  pub all_complete : (draft : RecordDraft) → Completes parts budget top draft []
       → IsTreeOn parts (IsAtIn draft.plans draft.counts draft.bounds) top draft.nodes
   all_complete draft completes =
       subst (λ ps. IsTreeOn parts (IsAtIn ps draft.counts draft.bounds) top draft.nodes)
@@ -146,7 +146,7 @@ module _ (parts : Parts) (budget : Budget) (top : Box) where
       (append-nil draft.nodes) (completes [] [] [] [] refl))))
 
   -- the same tree with more plans
-  pub same_complete : (old new : Draft) (later : List Plan) (boxes : List Box)
+  pub same_complete : (old new : RecordDraft) (later : List Plan) (boxes : List Box)
       → new.plans ≡ old.plans ++ later → IsSameTree old new
       → Completes parts budget top old boxes → Completes parts budget top new boxes
   same_complete old new later boxes plans same completes =
@@ -163,7 +163,7 @@ module _ (parts : Parts) (budget : Budget) (top : Box) where
       → ((IsAt : ℕ → Box → TreeNode → Type 0) (number : ℕ) (more : List TreeNode)
       → IsAt number box node → Leads parts IsAt (number + 1) after more []
       → Leads parts IsAt number before (node ∷ more) [])
-      → (old new : Draft) (bound : Bound) → length old.counts ≡ length old.nodes
+      → (old new : RecordDraft) (bound : Bound) → length old.counts ≡ length old.nodes
       → length old.bounds ≡ length old.nodes
       → IsLawfulWith parts budget (cutoff_after parts old.plans (length old.plans)) bound box node
       → IsNoted node bound old new → Completes parts budget top old before
@@ -179,7 +179,7 @@ module _ (parts : Parts) (budget : Budget) (top : Box) where
       counted bounded is completes))))
 
   -- a leaf is done with its box
-  pub leaf_complete : (box : Box) (leaf : LeafKind) (boxes : List Box) (old new : Draft)
+  pub leaf_complete : (box : Box) (leaf : LeafKind) (boxes : List Box) (old new : RecordDraft)
       (bound : Bound) → length old.counts ≡ length old.nodes
       → length old.bounds ≡ length old.nodes
       → IsLawfulWith parts budget (cutoff_after parts old.plans (length old.plans)) bound box
@@ -192,7 +192,7 @@ module _ (parts : Parts) (budget : Budget) (top : Box) where
 
   -- a split leaves its two sides
   pub split_complete : (box early late : Box) (flight node time : ℕ) (named : Option ℤ)
-      (boxes : List Box) (old new : Draft) (bound : Bound)
+      (boxes : List Box) (old new : RecordDraft) (bound : Bound)
       → AreSides parts flight node time box early late → length old.counts ≡ length old.nodes
       → length old.bounds ≡ length old.nodes
       → IsLawfulWith parts budget (cutoff_after parts old.plans (length old.plans)) bound box

@@ -15,8 +15,8 @@ use Rattle.flow_types.specs.Bounds.{IsNearBound, is_reached}
 use Rattle.branch_tree.specs.declared.tree.TreeNode.{TreeNode}
 use Rattle.relaxed_bound.proofs.LicenceFacts.{unreached_is}
 use Rattle.scaled_simplex.proofs.Products.{isnt_less, less_isnt}
-use Rattle.tree_search.specs.declared.draft.Draft.{Draft}
-use Rattle.tree_search.specs.Drafts.{AreReached, IsBest, IsDraft, IsKept, IsNoted, IsOffered}
+use Rattle.tree_search.specs.declared.draft.RecordDraft.{RecordDraft}
+use Rattle.tree_search.specs.Drafts.{AreReached, IsBest, IsDraft, IsPlanAdded, IsNoted, IsOffered}
 use Rattle.tree_search.specs.Nodes.{cost_of, cutoff_after}
 use Rattle.tree_search.specs.Records.{IsCheaper}
 use Rattle.time_windows.specs.Plans.{IsPlanIn}
@@ -86,9 +86,9 @@ first_more : {A : Type 0} (xs ys : List A) (x : A) → slice_get xs 0 ≡ Some x
 first_more [] ys x is = absurd cc
 first_more (z ∷ xs) ys x is = is
 
-module _ (parts : Parts) (top : Box) (old new : Draft) where
+module _ (parts : Parts) (top : Box) (old new : RecordDraft) where
   kept_draft : (plan : Plan) → IsDraft parts top old → IsBest parts old → IsPlanIn parts top plan
-      → IsKept parts plan old new → IsDraft parts top new
+      → IsPlanAdded parts plan old new → IsDraft parts top new
   kept_draft plan draft best inside kept = record {
     plans = subst (All (IsPlanIn parts top)) (sym kept.plans)
         (All-push (IsPlanIn parts top) old.plans plan draft.plans inside);
@@ -135,7 +135,7 @@ module _ (parts : Parts) (top : Box) (old new : Draft) where
       subst (λ o. is_reached o (AtLeast (price parts plan)) ≡ true) (sym kept.best)
       (own_reached (price parts plan))
   offered_reached plan (inr left) =
-      subst (λ (d : Draft). is_reached d.best (AtLeast (price parts plan)) ≡ true) (sym left.same)
+      subst (λ (d : RecordDraft). is_reached d.best (AtLeast (price parts plan)) ≡ true) (sym left.same)
       left.dearer
 
   -- and all that was reached

@@ -15,7 +15,7 @@ use Rattle.branch_tree.specs.Lawful.{IsLawfulTree}
 use Rattle.branch_tree.specs.Trees.{is_tree}
 use Rattle.time_windows.specs.Plans.{IsBoundIn, IsPlanIn}
 use Rattle.valid_cuts.specs.declared.names.CutName.{CutName}
-use Rattle.tree_search.specs.declared.draft.Draft.{Draft}
+use Rattle.tree_search.specs.declared.draft.RecordDraft.{RecordDraft}
 use Rattle.tree_search.specs.declared.found.Budget.{Budget}
 use Rattle.tree_search.specs.declared.found.Found.{Found}
 use Rattle.flow_types.specs.Bounds.{least_of, bound_of}
@@ -29,7 +29,7 @@ use Rattle.tree_search.proofs.ReachFacts.{Reaches, bound_closed, last_allowed, r
 use Rattle.tree_search.proofs.SoundFacts.{searched_bounds}
 
 -- the nodes are a tree's
-pub searched_tree : (parts : Parts) (budget : Budget) (top : Box) (draft : Draft)
+pub searched_tree : (parts : Parts) (budget : Budget) (top : Box) (draft : RecordDraft)
     → IsSearched parts budget top draft → is_tree draft.nodes ≡ true
 searched_tree parts budget top draft searched =
     tree_on parts (IsNodeAt parts budget draft.plans draft.counts draft.bounds) top
@@ -46,7 +46,7 @@ made_of plans tree counts bounds pool bound = record {
   bound = bound;
 }
 
-module _ (parts : Parts) (root top : Box) (budget : Budget) (draft : Draft)
+module _ (parts : Parts) (root top : Box) (budget : Budget) (draft : RecordDraft)
     (valid : IsScenario parts) (tight : IsTightened parts root top)
     (searched : IsSearched parts budget top draft) where
   in_root : All (IsPlanIn parts root) draft.plans

@@ -8,17 +8,17 @@ use Rattle.time_windows.specs.Held.{box_of}
 use Rattle.plan_improver.specs.Cheaper.{IsCheaper}
 use Rattle.time_windows.specs.Plans.{IsPlanIn}
 use Rattle.flow_types.specs.Bounds.{is_reached}
-use Rattle.tree_search.specs.declared.draft.Draft.{Draft}
+use Rattle.tree_search.specs.declared.draft.RecordDraft.{RecordDraft}
 use Rattle.tree_search.specs.declared.found.Budget.{Budget}
 use Rattle.tree_search.specs.Drafts.{IsOffered, IsTried}
 use Rattle.tree_search.specs.Searching.{IsSearching, IsStepped}
-use Rattle.tree_search.specs.Ways.{Way, top_box}
+use Rattle.tree_search.specs.Paths.{Path, top_box}
 use Rattle.tree_search.proofs.CompleteFacts.{same_complete}
 use Rattle.tree_search.proofs.DraftFacts.{offered_best, offered_draft, offered_still, reached_below}
 use Rattle.tree_search.proofs.VisitFacts.{offered_tree}
 
 -- what was reached before is reached
-tried_still : (parts : Parts) (box : Box) (old new : Draft) (plan : List (List Stop))
+tried_still : (parts : Parts) (box : Box) (old new : RecordDraft) (plan : List (List Stop))
     → IsOffered parts plan old new → IsTried parts box old → IsTried parts box new
 tried_still parts box old new plan (inl kept) tried = λ unit bound cost.
     subst (λ o. is_reached o bound ≡ true) (sym kept.best)
@@ -27,15 +27,15 @@ tried_still parts box old new plan (inl kept) tried = λ unit bound cost.
 tried_still parts box old new plan (inr left) tried =
     subst (IsTried parts box) (sym left.same) tried
 
-pub improved_on : (parts : Parts) (budget : Budget) (way : Way) (old new : Draft)
-    (plan : List (List Stop)) → IsSearching parts budget way old
-    → IsPlanIn parts (box_of way.present) plan → IsOffered parts plan old new
-    → IsSearching parts budget way new
-improved_on parts budget way old new plan searching found offered =
+pub improved_on : (parts : Parts) (budget : Budget) (path : Path) (old new : RecordDraft)
+    (plan : List (List Stop)) → IsSearching parts budget path old
+    → IsPlanIn parts (box_of path.present) plan → IsOffered parts plan old new
+    → IsSearching parts budget path new
+improved_on parts budget path old new plan searching found offered =
     let arrived = searching.arrived in
-    let tree = offered_tree parts (box_of way.present) old new plan offered in
+    let tree = offered_tree parts (box_of path.present) old new plan offered in
     let same = ap length tree.2.nodes in
-    let inside : IsPlanIn parts (top_box way) plan =
+    let inside : IsPlanIn parts (top_box path) plan =
     record { feasible = found.feasible; inside = arrived.part plan found.inside } in
     record {
       arrived = record {
@@ -44,19 +44,19 @@ improved_on parts budget way old new plan searching found offered =
         part = arrived.part;
         steps = arrived.steps;
         parts_of = arrived.parts_of;
-        draft_is = offered_draft parts (top_box way) old new plan arrived.draft_is arrived.best
+        draft_is = offered_draft parts (top_box path) old new plan arrived.draft_is arrived.best
             inside offered;
-        best = offered_best parts (top_box way) old new plan arrived.best offered;
+        best = offered_best parts (top_box path) old new plan arrived.best offered;
         whole = λ boxes pending.
-            same_complete parts budget (top_box way) old new tree.0 (box_of way.present ∷ boxes)
+            same_complete parts budget (top_box path) old new tree.0 (box_of path.present ∷ boxes)
             tree.1 tree.2 (arrived.whole boxes pending);
         room = omega (arith, same, arrived.room);
         unspent = λ left.
-            offered_still parts (top_box way) old new plan offered
+            offered_still parts (top_box path) old new plan offered
             (arrived.unspent (omega (arith, same, left)));
       };
       tried =
-          tried_still parts (box_of way.present) old new plan offered searching.tried;
+          tried_still parts (box_of path.present) old new plan offered searching.tried;
     }
 
 -- a cheaper plan is one of the box that keeps every rule
@@ -68,12 +68,12 @@ found_in_box parts box start (Some plan) cheaper =
     record { feasible = cheaper.feasible; inside = cheaper.inside }
 
 -- a step after a plan is offered, which writes no node down, is one from before
-pub stepped_from : (parts : Parts) (budget : Budget) (way : Way) (old now : Draft) (next : Way)
-    (new : Draft) (more : Bool) → now.nodes ≡ old.nodes
-    → IsStepped parts budget way now next new more → IsStepped parts budget way old next new more
-stepped_from parts budget way old now next new true same stepped = record {
+pub stepped_from : (parts : Parts) (budget : Budget) (path : Path) (old now : RecordDraft) (next : Path)
+    (new : RecordDraft) (more : Bool) → now.nodes ≡ old.nodes
+    → IsStepped parts budget path now next new more → IsStepped parts budget path old next new more
+stepped_from parts budget path old now next new true same stepped = record {
   searching = stepped.searching;
   same = stepped.same;
   longer = stepped.longer ∙ ap (λ l. suc (length l)) same;
 }
-stepped_from parts budget way old now next new false same stepped = stepped
+stepped_from parts budget path old now next new false same stepped = stepped

@@ -18,6 +18,6 @@ pub mod SeenFacts
 pub mod SoundFacts
 pub mod SplitFacts
 pub mod VisitFacts
-pub mod WayFacts
+pub mod PathFacts
 pub mod WorkedRecord
 pub mod WorkedRecords

@@ -12,7 +12,7 @@ use Rattle.time_windows.specs.Tight.{IsTightened}
 use Rattle.branch_tree.specs.declared.leaf.Leaf.{Leaf as LeafKind}
 use Rattle.branch_tree.specs.declared.tree.TreeNode.{TreeNode}
 use Rattle.branch_tree.specs.declared.tree.TreeNode.TheVariants.{Leaf, Split}
-use Rattle.tree_search.specs.declared.draft.Draft.{Draft}
+use Rattle.tree_search.specs.declared.draft.RecordDraft.{RecordDraft}
 use Rattle.tree_search.specs.declared.found.Budget.{Budget}
 use Rattle.tree_search.specs.declared.walk.Branch.{Branch}
 use Rattle.tree_search.specs.declared.walk.Step.{Step}
@@ -22,14 +22,14 @@ use Rattle.tree_search.specs.Nodes.{IsLawfulWith}
 use Rattle.tree_search.specs.Searching.{IsArrived, IsAtNext, IsGoneOn, IsLeft, IsSearched, IsSearching, planned_in}
 use Rattle.tree_search.specs.Seen.{IsLeafSeen, IsSplitSeen}
 use Rattle.tree_search.specs.Visits.{IsVisited}
-use Rattle.tree_search.specs.Ways.{ArePartsOf, ArePending, IsNext, IsNextOr, IsOver, IsPartOf, Way, top_box}
+use Rattle.tree_search.specs.Paths.{ArePartsOf, ArePending, IsNext, IsNextOr, IsOver, IsPartOf, Path, top_box}
 use Rattle.tree_search.proofs.CompleteFacts.{all_complete, leaf_complete, split_complete}
 use Rattle.tree_search.proofs.DraftFacts.{noted_best, noted_draft, noted_still}
 use Rattle.tree_search.proofs.PartFacts.{in_early}
 use Rattle.tree_search.proofs.VisitFacts.{visited_best, visited_complete, visited_draft, visited_same, visited_still, visited_tried}
 
-module _ (parts : Parts) (budget : Budget) (way : Way) (old new : Draft)
-    (arrived : IsArrived parts budget way old) where
+module _ (parts : Parts) (budget : Budget) (path : Path) (old new : RecordDraft)
+    (arrived : IsArrived parts budget path old) where
   -- a node more
   one_longer : (node : TreeNode) (bound : Bound) → IsNoted node bound old new
       → length new.nodes ≡ suc (length old.nodes)
@@ -37,23 +37,23 @@ module _ (parts : Parts) (budget : Budget) (way : Way) (old new : Draft)
       let long = ap length noted.nodes in
       omega (arith, long, length-append old.nodes (node ∷ []))
 
-  module _ (more : Bool) (room : planned_in old way + 2 ≤ budget.nodes → more ≡ true) where
+  module _ (more : Bool) (room : planned_in old path + 2 ≤ budget.nodes → more ≡ true) where
     module _ (leaf : LeafKind) (bound : Bound)
-        (seen : IsLeafSeen parts budget old.best more (box_of way.present) leaf bound)
+        (seen : IsLeafSeen parts budget old.best more (box_of path.present) leaf bound)
         (noted : IsNoted (Leaf leaf) bound old new) where
-      is_node : IsLawfulWith parts budget old.best bound (box_of way.present) (Leaf leaf)
+      is_node : IsLawfulWith parts budget old.best bound (box_of path.present) (Leaf leaf)
       is_node = (tt, seen.node)
 
-      leaf_whole : (boxes : List Box) → ArePending parts way.above way.steps boxes
-          → Completes parts budget (top_box way) new boxes
+      leaf_whole : (boxes : List Box) → ArePending parts path.above path.steps boxes
+          → Completes parts budget (top_box path) new boxes
       leaf_whole boxes pending =
-          leaf_complete parts budget (top_box way) (box_of way.present) leaf boxes old new
+          leaf_complete parts budget (top_box path) (box_of path.present) leaf boxes old new
           bound arrived.draft_is.counted arrived.draft_is.bounded
-          (subst (λ cutoff. IsLawfulWith parts budget cutoff bound (box_of way.present)
+          (subst (λ cutoff. IsLawfulWith parts budget cutoff bound (box_of path.present)
           (Leaf leaf)) arrived.best is_node) noted (arrived.whole boxes pending)
 
-      pub leaf_next : (next : Way) → IsNext parts way next
-          → IsAtNext parts budget old (top_box way) next new
+      pub leaf_next : (next : Path) → IsNext parts path next
+          → IsAtNext parts budget old (top_box path) next new
       leaf_next next on = record {
         arrived = record {
           made = on.made;
@@ -62,68 +62,68 @@ module _ (parts : Parts) (budget : Budget) (way : Way) (old new : Draft)
           steps = on.steps;
           parts_of = subst (λ top. ArePartsOf top next.above) (sym same) are_parts.1;
           draft_is = subst (λ top. IsDraft parts top new) (sym same)
-              (noted_draft parts (top_box way) old new (Leaf leaf) bound seen.near
+              (noted_draft parts (top_box path) old new (Leaf leaf) bound seen.near
               arrived.draft_is noted);
-          best = noted_best parts (top_box way) old new (Leaf leaf) bound arrived.best noted;
+          best = noted_best parts (top_box path) old new (Leaf leaf) bound arrived.best noted;
           whole = λ boxes pending. subst
               (λ top. Completes parts budget top new (box_of next.present ∷ boxes)) (sym same)
               (leaf_whole (box_of next.present ∷ boxes) (on.pending boxes pending));
           room = omega (arith, arrived.room, on.fewer, one_longer (Leaf leaf) bound noted);
           unspent = λ left.
-              let enough : planned_in old way + 2 ≤ budget.nodes =
+              let enough : planned_in old path + 2 ≤ budget.nodes =
               omega (arith, left, on.fewer, one_longer (Leaf leaf) bound noted) in
-              noted_still parts (top_box way) old new (Leaf leaf) bound noted
+              noted_still parts (top_box path) old new (Leaf leaf) bound noted
               (arrived.unspent enough) (seen.reached (room enough));
         };
         same = same;
         longer = one_longer (Leaf leaf) bound noted;
       }
         where
-          same : top_box next ≡ top_box way
+          same : top_box next ≡ top_box path
           same = ap box_of on.top
 
-          are_parts : IsPartOf (top_box way) next.present × ArePartsOf (top_box way) next.above
-          are_parts = on.parts_of (top_box way) arrived.parts_of
+          are_parts : IsPartOf (top_box path) next.present × ArePartsOf (top_box path) next.above
+          are_parts = on.parts_of (top_box path) arrived.parts_of
 
-      pub leaf_over : IsOver parts way → IsSearched parts budget (top_box way) new
+      pub leaf_over : IsOver parts path → IsSearched parts budget (top_box path) new
       leaf_over over = record {
         draft_is =
-            noted_draft parts (top_box way) old new (Leaf leaf) bound seen.near
+            noted_draft parts (top_box path) old new (Leaf leaf) bound seen.near
             arrived.draft_is noted;
-        best = noted_best parts (top_box way) old new (Leaf leaf) bound arrived.best noted;
-        tree = all_complete parts budget (top_box way) new (leaf_whole [] over.none);
+        best = noted_best parts (top_box path) old new (Leaf leaf) bound arrived.best noted;
+        tree = all_complete parts budget (top_box path) new (leaf_whole [] over.none);
         room = omega (arith, arrived.room, over.fewer, one_longer (Leaf leaf) bound noted);
         unspent = λ left.
-            let enough : planned_in old way + 2 ≤ budget.nodes =
+            let enough : planned_in old path + 2 ≤ budget.nodes =
             omega (arith, left, over.fewer, one_longer (Leaf leaf) bound noted) in
-            noted_still parts (top_box way) old new (Leaf leaf) bound noted
+            noted_still parts (top_box path) old new (Leaf leaf) bound noted
             (arrived.unspent enough) (seen.reached (room enough));
       }
 
   -- after a split
-  module _ (more : Bool) (room : more ≡ true → planned_in old way + 2 ≤ budget.nodes)
+  module _ (more : Bool) (room : more ≡ true → planned_in old path + 2 ≤ budget.nodes)
       (branch : Branch)
-      (seen : IsSplitSeen parts budget old.best more (box_of way.present) branch)
+      (seen : IsSplitSeen parts budget old.best more (box_of path.present) branch)
       (noted : IsNoted (Split branch.flight branch.node branch.time old.best) NoPlan old new)
       (after : Held)
       (tight : IsTightened parts (early_branch branch.flight branch.node branch.time
-      (box_of way.present)) (box_of after))
+      (box_of path.present)) (box_of after))
       (made : IsMadeFor parts after) where
-    enough : planned_in old way + 2 ≤ budget.nodes
+    enough : planned_in old path + 2 ≤ budget.nodes
     enough = room seen.room
 
-    abbrev down : Way
+    abbrev down : Path
     down = record {
       present = after;
-      above = way.present ∷ way.above;
-      steps = Early branch ∷ way.steps;
+      above = path.present ∷ path.above;
+      steps = Early branch ∷ path.steps;
     }
 
     split_whole : (boxes : List Box) → ArePending parts down.above down.steps boxes
-        → Completes parts budget (top_box way) new (box_of after ∷ boxes)
+        → Completes parts budget (top_box path) new (box_of after ∷ boxes)
     split_whole [] pending = absurd pending
     split_whole (late ∷ boxes) (late_is, pending) =
-        split_complete parts budget (top_box way) (box_of way.present) (box_of after) late
+        split_complete parts budget (top_box path) (box_of path.present) (box_of after) late
         branch.flight branch.node branch.time old.best boxes old new NoPlan
         (record {
           live = seen.live;
@@ -133,17 +133,17 @@ module _ (parts : Parts) (budget : Budget) (way : Way) (old new : Draft)
           late_is = late_is;
         })
         arrived.draft_is.counted arrived.draft_is.bounded
-        (subst (λ cutoff. IsLawfulWith parts budget cutoff NoPlan (box_of way.present)
+        (subst (λ cutoff. IsLawfulWith parts budget cutoff NoPlan (box_of path.present)
         (Split branch.flight branch.node branch.time old.best)) arrived.best (refl, seen.node))
         noted (arrived.whole boxes pending)
 
-    split_next : IsAtNext parts budget old (top_box way) down new
+    split_next : IsAtNext parts budget old (top_box path) down new
     split_next = record {
       arrived = record {
         made = made;
         tight = tight.tight;
         part = λ plan inside.
-            arrived.part plan (in_early branch.flight branch.node branch.time (box_of way.present)
+            arrived.part plan (in_early branch.flight branch.node branch.time (box_of path.present)
             (box_of after) plan tight.within inside);
         steps = (
           record {
@@ -154,10 +154,10 @@ module _ (parts : Parts) (budget : Budget) (way : Way) (old new : Draft)
           arrived.steps,
         );
         parts_of = (arrived.part, arrived.parts_of);
-        draft_is = noted_draft parts (top_box way) old new
+        draft_is = noted_draft parts (top_box path) old new
             (Split branch.flight branch.node branch.time old.best) NoPlan tt
             arrived.draft_is noted;
-        best = noted_best parts (top_box way) old new
+        best = noted_best parts (top_box path) old new
             (Split branch.flight branch.node branch.time old.best) NoPlan arrived.best noted;
         whole = split_whole;
         room = omega (
@@ -167,7 +167,7 @@ module _ (parts : Parts) (budget : Budget) (way : Way) (old new : Draft)
               (Split branch.flight branch.node branch.time old.best) NoPlan noted,
         );
         unspent = λ left.
-            noted_still parts (top_box way) old new
+            noted_still parts (top_box path) old new
             (Split branch.flight branch.node branch.time old.best) NoPlan noted
             (arrived.unspent enough) refl;
       };
@@ -175,33 +175,33 @@ module _ (parts : Parts) (budget : Budget) (way : Way) (old new : Draft)
       longer = one_longer (Split branch.flight branch.node branch.time old.best) NoPlan noted;
     }
 
-    pub split_on : (next : Way) → next.present ≡ after → next.above ≡ way.present ∷ way.above
-        → next.steps ≡ Early branch ∷ way.steps
-        → IsAtNext parts budget old (top_box way) next new
+    pub split_on : (next : Path) → next.present ≡ after → next.above ≡ path.present ∷ path.above
+        → next.steps ≡ Early branch ∷ path.steps
+        → IsAtNext parts budget old (top_box path) next new
     split_on next present above steps =
-        subst (λ (h : Held). IsAtNext parts budget old (top_box way) (record {
+        subst (λ (h : Held). IsAtNext parts budget old (top_box path) (record {
           present = h;
           above = next.above;
           steps = next.steps;
         }) new) (sym present)
-        (subst (λ (l : List Held). IsAtNext parts budget old (top_box way) (record {
+        (subst (λ (l : List Held). IsAtNext parts budget old (top_box path) (record {
           present = after;
           above = l;
           steps = next.steps;
         }) new) (sym above)
-        (subst (λ (l : List Step). IsAtNext parts budget old (top_box way) (record {
+        (subst (λ (l : List Step). IsAtNext parts budget old (top_box path) (record {
           present = after;
-          above = way.present ∷ way.above;
+          above = path.present ∷ path.above;
           steps = l;
         }) new) (sym steps) split_next))
 
 -- the greedy plan of the box was offered
-pub visited_on : (parts : Parts) (budget : Budget) (way : Way) (before old new : Draft)
-    (top : Box) → IsScenario parts → IsAtNext parts budget before top way old
-    → IsVisited parts (box_of way.present) old new → IsSearching parts budget way new
-visited_on parts budget way before old new top valid next visited =
+pub visited_on : (parts : Parts) (budget : Budget) (path : Path) (before old new : RecordDraft)
+    (top : Box) → IsScenario parts → IsAtNext parts budget before top path old
+    → IsVisited parts (box_of path.present) old new → IsSearching parts budget path new
+visited_on parts budget path before old new top valid next visited =
     let arrived = next.arrived in
-    let same = ap length (visited_same parts (box_of way.present) old new visited).nodes in
+    let same = ap length (visited_same parts (box_of path.present) old new visited).nodes in
     record {
       arrived = record {
         made = arrived.made;
@@ -209,37 +209,37 @@ visited_on parts budget way before old new top valid next visited =
         part = arrived.part;
         steps = arrived.steps;
         parts_of = arrived.parts_of;
-        draft_is = visited_draft parts (box_of way.present) old new (top_box way) arrived.part
+        draft_is = visited_draft parts (box_of path.present) old new (top_box path) arrived.part
             arrived.draft_is arrived.best visited;
-        best = visited_best parts (box_of way.present) old new arrived.best visited;
+        best = visited_best parts (box_of path.present) old new arrived.best visited;
         whole = λ boxes pending.
-            visited_complete parts (box_of way.present) old new budget (top_box way)
-            (box_of way.present ∷ boxes) visited (arrived.whole boxes pending);
+            visited_complete parts (box_of path.present) old new budget (top_box path)
+            (box_of path.present ∷ boxes) visited (arrived.whole boxes pending);
         room = omega (arith, same, arrived.room);
         unspent = λ left.
-            visited_still parts (box_of way.present) old new visited
+            visited_still parts (box_of path.present) old new visited
             (arrived.unspent (omega (arith, same, left)));
       };
-      tried = visited_tried parts (box_of way.present) old new valid visited;
+      tried = visited_tried parts (box_of path.present) old new valid visited;
     }
 
-pub left_leaf : (parts : Parts) (budget : Budget) (way next : Way) (old new : Draft) (more on : Bool)
-    (leaf : LeafKind) (bound : Bound) → IsArrived parts budget way old
-    → (planned_in old way + 2 ≤ budget.nodes → more ≡ true)
-    → IsLeafSeen parts budget old.best more (box_of way.present) leaf bound
-    → IsNoted (Leaf leaf) bound old new → IsNextOr parts way next on
-    → IsLeft parts budget way old next new on
-left_leaf parts budget way next old new more true leaf bound arrived room seen noted is =
-    leaf_next parts budget way old new arrived more room leaf bound seen noted next is
-left_leaf parts budget way next old new more false leaf bound arrived room seen noted is =
-    leaf_over parts budget way old new arrived more room leaf bound seen noted is
+pub left_leaf : (parts : Parts) (budget : Budget) (path next : Path) (old new : RecordDraft) (more on : Bool)
+    (leaf : LeafKind) (bound : Bound) → IsArrived parts budget path old
+    → (planned_in old path + 2 ≤ budget.nodes → more ≡ true)
+    → IsLeafSeen parts budget old.best more (box_of path.present) leaf bound
+    → IsNoted (Leaf leaf) bound old new → IsNextOr parts path next on
+    → IsLeft parts budget path old next new on
+left_leaf parts budget path next old new more true leaf bound arrived room seen noted is =
+    leaf_next parts budget path old new arrived more room leaf bound seen noted next is
+left_leaf parts budget path next old new more false leaf bound arrived room seen noted is =
+    leaf_over parts budget path old new arrived more room leaf bound seen noted is
 
-pub gone_on : (parts : Parts) (budget : Budget) (way : Way) (before old new : Draft) (top : Box)
-    → IsScenario parts → IsAtNext parts budget before top way old
-    → IsVisited parts (box_of way.present) old new → IsGoneOn parts budget before top way new
-gone_on parts budget way before old new top valid next visited = record {
-  searching = visited_on parts budget way before old new top valid next visited;
+pub gone_on : (parts : Parts) (budget : Budget) (path : Path) (before old new : RecordDraft) (top : Box)
+    → IsScenario parts → IsAtNext parts budget before top path old
+    → IsVisited parts (box_of path.present) old new → IsGoneOn parts budget before top path new
+gone_on parts budget path before old new top valid next visited = record {
+  searching = visited_on parts budget path before old new top valid next visited;
   same = next.same;
   longer =
-      ap length (visited_same parts (box_of way.present) old new visited).nodes ∙ next.longer;
+      ap length (visited_same parts (box_of path.present) old new visited).nodes ∙ next.longer;
 }

@@ -13,7 +13,7 @@ use Rattle.flow_types.specs.Bounds.{IsNearBound, is_reached}
 use Rattle.dual_leaf.proofs.LeafFacts.{same_plan}
 use Rattle.dual_leaf.proofs.UnitSumFacts.{stuck}
 use Rattle.tree_search.specs.declared.found.Budget.{Budget}
-use Rattle.tree_search.specs.declared.draft.Draft.{Draft}
+use Rattle.tree_search.specs.declared.draft.RecordDraft.{RecordDraft}
 use Rattle.tree_search.specs.Drafts.{AreReached, Completes, IsBest, IsDraft, IsOffered, IsSameTree, IsTried}
 use Rattle.tree_search.specs.Nodes.{cutoff_after}
 use Rattle.tree_search.specs.Records.{IsCheaper}
@@ -26,7 +26,7 @@ use Rattle.tree_search.proofs.GreedyFacts.{greedy_inside, not_stuck, one_greedy}
 abbrev Plan : Type 0
 Plan = List (List Stop)
 
-module _ (parts : Parts) (box : Box) (old new : Draft) where
+module _ (parts : Parts) (box : Box) (old new : RecordDraft) where
   pub visited_best : IsBest parts old → IsVisited parts box old new → IsBest parts new
   visited_best best (inl offered) = offered_best parts box old new offered.plan best offered.offered
   visited_best best (inr left) = subst (IsBest parts) (sym left.same) best
@@ -66,11 +66,11 @@ module _ (parts : Parts) (box : Box) (old new : Draft) where
   offered_tree plan (inl kept) = (plan ∷ [], kept.plans, kept.tree)
   offered_tree plan (inr left) = (
     [],
-    ap (λ (d : Draft). d.plans) left.same ∙ sym (append-nil old.plans),
+    ap (λ (d : RecordDraft). d.plans) left.same ∙ sym (append-nil old.plans),
     record {
-      nodes = ap (λ (d : Draft). d.nodes) left.same;
-      counts = ap (λ (d : Draft). d.counts) left.same;
-      bounds = ap (λ (d : Draft). d.bounds) left.same;
+      nodes = ap (λ (d : RecordDraft). d.nodes) left.same;
+      counts = ap (λ (d : RecordDraft). d.counts) left.same;
+      bounds = ap (λ (d : RecordDraft). d.bounds) left.same;
     },
   )
 
@@ -79,11 +79,11 @@ module _ (parts : Parts) (box : Box) (old new : Draft) where
   visited_tree (inl offered) = offered_tree offered.plan offered.offered
   visited_tree (inr left) = (
     [],
-    ap (λ (d : Draft). d.plans) left.same ∙ sym (append-nil old.plans),
+    ap (λ (d : RecordDraft). d.plans) left.same ∙ sym (append-nil old.plans),
     record {
-      nodes = ap (λ (d : Draft). d.nodes) left.same;
-      counts = ap (λ (d : Draft). d.counts) left.same;
-      bounds = ap (λ (d : Draft). d.bounds) left.same;
+      nodes = ap (λ (d : RecordDraft). d.nodes) left.same;
+      counts = ap (λ (d : RecordDraft). d.counts) left.same;
+      bounds = ap (λ (d : RecordDraft). d.bounds) left.same;
     },
   )
 
@@ -98,7 +98,7 @@ module _ (parts : Parts) (box : Box) (old new : Draft) where
       same_complete parts budget top old new tree.0 boxes tree.1 tree.2
 
 -- the first box, before any node
-module _ (parts : Parts) (box : Box) (old new : Draft) (plans : old.plans ≡ [])
+module _ (parts : Parts) (box : Box) (old new : RecordDraft) (plans : old.plans ≡ [])
     (nodes : old.nodes ≡ []) (counts : old.counts ≡ []) (bounds : old.bounds ≡ [])
     (best : old.best ≡ None) where
   begun : (first : List Plan) → new.plans ≡ first → IsSameTree old new
@@ -145,7 +145,7 @@ module _ (parts : Parts) (box : Box) (old new : Draft) (plans : old.plans ≡ []
           (AtLeast (plan_cost parts.tables parts.flights plan)) ≡ true) best left.dearer in
           absurd (let e : false ≡ true = none in cc)
   visited_first (inr left) =
-      begun [] (ap (λ (d : Draft). d.plans) left.same ∙ plans)
+      begun [] (ap (λ (d : RecordDraft). d.plans) left.same ∙ plans)
       (visited_same parts box old new (inr left)) (All-nil (IsPlanIn parts box))
       (λ i j d less within. absurd (omega (arith, within)))
       (λ plan greedy. absurd (not_stuck parts box left.kept left.flight plan left.stuck greedy))

@@ -7,4 +7,4 @@ pub mod Searching
 pub mod Seen
 pub mod Trees
 pub mod Visits
-pub mod Ways
+pub mod Paths

@@ -6,20 +6,20 @@ use Rattle.flow_types.specs.declared.plan.Stop.{Stop}
 use Rattle.flow_types.specs.Feasible.{IsFeasible}
 use Rattle.time_windows.specs.Boxes.{Box}
 use Rattle.greedy_plan.specs.Greedy.{IsGreedy, IsStuck}
-use Rattle.tree_search.specs.declared.draft.Draft.{Draft}
+use Rattle.tree_search.specs.declared.draft.RecordDraft.{RecordDraft}
 use Rattle.tree_search.specs.Drafts.{IsOffered}
 
-pub record IsGreedyOffered (parts : Parts) (box : Box) (old new : Draft) : Type 0 where
+pub record IsGreedyOffered (parts : Parts) (box : Box) (old new : RecordDraft) : Type 0 where
   pub plan : List (List Stop)
   pub greedy : IsGreedy parts box plan
   pub feasible : IsFeasible parts plan
   pub offered : IsOffered parts plan old new
 
-pub record IsGreedyStuck (parts : Parts) (box : Box) (old new : Draft) : Type 0 where
+pub record IsGreedyStuck (parts : Parts) (box : Box) (old new : RecordDraft) : Type 0 where
   pub kept : List (List Stop)
   pub flight : ℕ
   pub stuck : IsStuck parts box kept flight
   pub same : new ≡ old
 
-abbrev pub IsVisited : Parts → Box → Draft → Draft → Type 0
+abbrev pub IsVisited : Parts → Box → RecordDraft → RecordDraft → Type 0
 IsVisited parts box old new = IsGreedyOffered parts box old new ⊎ IsGreedyStuck parts box old new

@@ -12,7 +12,7 @@ use std::alloc::Global;
 
 /// The plans and the first nodes of the tree, with their counts and bounds.
 #[derive(Drop)]
-pub struct Draft {
+pub struct RecordDraft {
     pub plans: Plans,
     pub nodes: TreeNodes,
     pub counts: Counts,
@@ -22,14 +22,14 @@ pub struct Draft {
 }
 
 /// Nothing so far.
-pub fn no_draft(alloc: Global) -> Draft
+pub fn no_draft(alloc: Global) -> RecordDraft
     ensures plans { result.plans ≡ [] }
     ensures nodes { result.nodes ≡ [] }
     ensures counts { result.counts ≡ [] }
     ensures bounds { result.bounds ≡ [] }
     ensures best { result.best ≡ None }
 {
-    Draft {
+    RecordDraft {
         plans: Sequence::empty(alloc),
         nodes: Sequence::empty(alloc),
         counts: Sequence::empty(alloc),
@@ -39,7 +39,7 @@ pub fn no_draft(alloc: Global) -> Draft
 }
 
 /// Keeps a plan that is cheaper than the last one.
-pub fn offer(draft: &mut Draft, s: &Scenario, plan: Plan) -> Result<(), OutOfMemory>
+pub fn offer(draft: &mut RecordDraft, s: &Scenario, plan: Plan) -> Result<(), OutOfMemory>
     requires { IsFeasible (parts_of s.now) plan }
     ensures { OnOk result (IsOffered (parts_of s.now) plan draft.old draft.new) }
 {
@@ -52,7 +52,7 @@ pub fn offer(draft: &mut Draft, s: &Scenario, plan: Plan) -> Result<(), OutOfMem
 }
 
 /// Writes a node down, with its bound.
-pub fn note(draft: &mut Draft, node: TreeNode, bound: Bound) -> Result<(), OutOfMemory>
+pub fn note(draft: &mut RecordDraft, node: TreeNode, bound: Bound) -> Result<(), OutOfMemory>
     ensures { OnOk result (IsNoted node bound draft.old draft.new) }
 {
     draft.nodes.add(node)?;

@@ -16,10 +16,10 @@ ghost use Rattle.tree_search.specs.Records.{IsSearchRecord};
 ghost use Rattle.tree_search.specs.Rooms.{AreRoomsFor};
 ghost use Rattle.tree_search.specs.Searching.{IsLeft, IsSearched, IsSearching, IsStepped, planned_in};
 ghost use Rattle.tree_search.specs.Visits.{IsVisited};
-ghost use Rattle.tree_search.specs.Ways.{AreSteps, IsFork, IsNextOr, top_box};
+ghost use Rattle.tree_search.specs.Paths.{AreSteps, IsFork, IsNextOr, top_box};
 
 use crate::branching::first_choice;
-use crate::draft::{Draft, no_draft, note, offer};
+use crate::draft::{RecordDraft, no_draft, note, offer};
 use crate::found::{Budget, Found};
 use crate::pricing::begin_climb;
 use crate::rooms::{Rooms, rooms_for};
@@ -39,7 +39,7 @@ fn visit(
     s: &Scenario,
     boxes: &Boxes,
     rooms: &mut Rooms,
-    draft: &mut Draft,
+    draft: &mut RecordDraft,
 ) -> Result<(), OutOfMemory>
     requires boxes { IsMadeFor (parts_of s.now) boxes.now }
     requires rooms { AreRoomsFor (parts_of s.now) rooms.old }
@@ -88,7 +88,7 @@ fn find_cheaper(
 fn offer_found(
     s: &Scenario,
     walk: &Walk,
-    draft: &mut Draft,
+    draft: &mut RecordDraft,
     found: Option<Plan>,
 ) -> Result<(), OutOfMemory>
     requires { IfSome found (IsPlanIn (parts_of s.now) (box_of walk.now.present)) }
@@ -111,7 +111,7 @@ fn improve(
     s: &Scenario,
     walk: &Walk,
     rooms: &mut Rooms,
-    draft: &mut Draft,
+    draft: &mut RecordDraft,
     bound: Bound,
 ) -> Result<(), OutOfMemory>
     requires boxes { IsMadeFor (parts_of s.now) walk.now.present }
@@ -126,7 +126,7 @@ fn improve(
 
 // Whether there is room in the budget for two nodes more, beside those that are there, the present
 // box and those that wait.
-fn has_room(budget: Budget, walk: &Walk, draft: &Draft) -> bool
+fn has_room(budget: Budget, walk: &Walk, draft: &RecordDraft) -> bool
     requires { planned_in draft.now walk.now ≤ budget.nodes }
     ensures { IsTrue result ↔ planned_in draft.now walk.now + 2 ≤ budget.nodes }
 {
@@ -137,7 +137,7 @@ fn has_room(budget: Budget, walk: &Walk, draft: &Draft) -> bool
 fn leave(
     s: &Scenario,
     walk: &mut Walk,
-    draft: &mut Draft,
+    draft: &mut RecordDraft,
     leaf: Leaf,
     bound: Bound,
 ) -> Result<bool, OutOfMemory>
@@ -153,7 +153,7 @@ fn leave(
 fn split(
     s: &Scenario,
     walk: &mut Walk,
-    draft: &mut Draft,
+    draft: &mut RecordDraft,
     branch: Branch,
 ) -> Result<(), OutOfMemory>
     requires { IsFork (parts_of s.now) walk.old.present branch }
@@ -189,7 +189,7 @@ fn go_on(
     budget: Budget,
     rooms: &mut Rooms,
     walk: &mut Walk,
-    draft: &mut Draft,
+    draft: &mut RecordDraft,
 ) -> Result<bool, OutOfMemory>
     requires searching { IsSearching (parts_of s.now) budget walk.old draft.old }
     requires rooms { AreRoomsFor (parts_of s.now) rooms.old }
@@ -244,7 +244,7 @@ fn climb_on(
     s: &Scenario,
     walk: &Walk,
     rooms: &mut Rooms,
-    draft: &mut Draft,
+    draft: &mut RecordDraft,
     rounds: u32,
 ) -> Result<(), OutOfMemory>
     requires boxes { IsMadeFor (parts_of s.now) walk.now.present }
@@ -265,7 +265,7 @@ fn step(
     budget: Budget,
     rooms: &mut Rooms,
     walk: &mut Walk,
-    draft: &mut Draft,
+    draft: &mut RecordDraft,
 ) -> Result<bool, OutOfMemory>
     requires searching { IsSearching (parts_of s.now) budget walk.old draft.old }
     requires rooms { AreRoomsFor (parts_of s.now) rooms.old }
@@ -287,7 +287,7 @@ fn advance(
     budget: Budget,
     rooms: &mut Rooms,
     walk: &mut Walk,
-    draft: &mut Draft,
+    draft: &mut RecordDraft,
 ) -> Result<bool, OutOfMemory>
     requires searching { IsSearching (parts_of s.now) budget walk.old draft.old }
     requires rooms { AreRoomsFor (parts_of s.now) rooms.old }
@@ -300,14 +300,14 @@ fn advance(
     Ok(more)
 }
 
-// Searches from the tight box on, which is the way's first one, until no box waits.
+// Searches from the tight box on, which is the path's first one, until no box waits.
 fn run(
     alloc: Global,
     s: &Scenario,
     budget: Budget,
     rooms: &mut Rooms,
     walk: &mut Walk,
-    draft: &mut Draft,
+    draft: &mut RecordDraft,
 ) -> Result<(), OutOfMemory>
     requires searching { IsSearching (parts_of s.now) budget walk.old draft.old }
     requires rooms { AreRoomsFor (parts_of s.now) rooms.old }
@@ -330,7 +330,7 @@ fn least_of(bounds: &[Bound]) -> Bound
 }
 
 // What is handed back of a whole tree.
-fn found_in(alloc: Global, draft: Draft) -> Found
+fn found_in(alloc: Global, draft: RecordDraft) -> Found
     requires { is_tree draft.nodes ≡ true }
     ensures plans { result.plans ≡ draft.plans }
     ensures tree { result.tree ≡ draft.nodes }
@@ -339,7 +339,7 @@ fn found_in(alloc: Global, draft: Draft) -> Found
     ensures pool { result.pool ≡ [] }
     ensures bound { result.bound ≡ least_of result.bounds }
 {
-    let Draft {
+    let RecordDraft {
         plans,
         nodes,
         counts,
@@ -360,7 +360,7 @@ fn found_in(alloc: Global, draft: Draft) -> Found
     }
 }
 
-// Searches from the tight box on, which is the way's first one, for plans and for prices; and then
+// Searches from the tight box on, which is the path's first one, for plans and for prices; and then
 // until no box waits.
 fn search_from(
     alloc: Global,
@@ -368,7 +368,7 @@ fn search_from(
     budget: Budget,
     rooms: &mut Rooms,
     walk: &mut Walk,
-    draft: &mut Draft,
+    draft: &mut RecordDraft,
 ) -> Result<(), OutOfMemory>
     requires searching { IsSearching (parts_of s.now) budget walk.old draft.old }
     requires rooms { AreRoomsFor (parts_of s.now) rooms.old }
@@ -392,7 +392,7 @@ fn search_in(
     boxes: Boxes,
     budget: Budget,
     rooms: &mut Rooms,
-    draft: &mut Draft,
+    draft: &mut RecordDraft,
 ) -> Result<(), OutOfMemory>
     requires nodes { 0 < budget.nodes }
     requires made { IsMadeFor (parts_of s.now) boxes }
@@ -413,7 +413,7 @@ fn draft_of(
     boxes: Boxes,
     budget: Budget,
     rooms: &mut Rooms,
-) -> Result<Draft, OutOfMemory>
+) -> Result<RecordDraft, OutOfMemory>
     requires nodes { 0 < budget.nodes }
     requires made { IsMadeFor (parts_of s.now) boxes }
     requires tight { IsTight (parts_of s.now) (box_of boxes) }
@@ -431,7 +431,7 @@ fn search_tight(
     s: &Scenario,
     boxes: Boxes,
     budget: Budget,
-) -> Result<Draft, OutOfMemory>
+) -> Result<RecordDraft, OutOfMemory>
     requires nodes { 0 < budget.nodes }
     requires made { IsMadeFor (parts_of s.now) boxes }
     requires tight { IsTight (parts_of s.now) (box_of boxes) }

@@ -1,11 +1,11 @@
-//! The way of a search down its tree.
+//! The path of a search down its tree.
 ghost use Rattle.std.specs.Prelude.{◌≡◌, ◌∷◌, ◌<◌, ℕ, IfOk, List, MatchOption, OnOk, [], length, reverse};
 ghost use Rattle.flow_types.specs.Scenario.{parts_of};
 ghost use Rattle.time_windows.specs.Boxes.{Box};
 ghost use Rattle.time_windows.specs.Held.{IsMadeFor, box_of};
 ghost use Rattle.time_windows.specs.Splits.{late_branch};
 ghost use Rattle.time_windows.specs.Tight.{IsTightened};
-ghost use Rattle.tree_search.specs.Ways.{AreSteps, IsFork, IsNextOr, waiting_in};
+ghost use Rattle.tree_search.specs.Paths.{AreSteps, IsFork, IsNextOr, waiting_in};
 ghost use Rattle.tree_search.specs.declared.walk.Step.TheVariants.{Early, Late};
 
 use flow_types::{OutOfMemory, Scenario};
@@ -30,7 +30,7 @@ pub enum Step {
     Late,
 }
 
-/// The way from the first box down to the present one: a trail, and the steps that led down. It
+/// The path from the first box down to the present one: a trail, and the steps that led down. It
 /// takes what the trail takes, and 16 bytes a step.
 #[derive(Drop)]
 pub struct Walk {
@@ -42,9 +42,9 @@ pub struct Walk {
 
 impl Model for Walk {
     ghost use Rattle.std.specs.Prelude.{◌≡◌, reverse};
-    ghost use Rattle.tree_search.specs.Ways.{Way, waiting_in};
+    ghost use Rattle.tree_search.specs.Paths.{Path, waiting_in};
 
-    ghost Value = { Way };
+    ghost Value = { Path };
 
     ghost view = { λ w. record {
       present = w.trail.present;
@@ -61,10 +61,10 @@ impl Walk {
     ghost use Rattle.time_windows.specs.Held.{IsMadeFor, box_of};
     ghost use Rattle.time_windows.specs.Splits.{early_branch};
     ghost use Rattle.time_windows.specs.Tight.{IsTightened};
-    ghost use Rattle.tree_search.specs.Ways.{AreSteps, IsFork, IsNextOr, waiting_in};
+    ghost use Rattle.tree_search.specs.Paths.{AreSteps, IsFork, IsNextOr, waiting_in};
     ghost use Rattle.tree_search.specs.declared.walk.Step.TheVariants.{Early};
 
-    /// The way of the first box alone.
+    /// The path of the first box alone.
     pub fn new(alloc: Global, boxes: Boxes) -> Result<Walk, OutOfMemory>
         ensures present { IfOk result (λ walk. walk.present ≡ boxes) }
         ensures above { IfOk result (λ walk. walk.above ≡ []) }

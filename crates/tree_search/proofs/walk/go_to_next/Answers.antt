@@ -1,8 +1,8 @@
 use Rattle.std.proofs.Common.{◌∷◌, reverse, ◌∙◌, ap}
 use Rattle.flow_types.specs.Scenario.{parts_of}
 use Rattle.tree_search.specs.declared.walk.Step.TheVariants.{Early, Late}
-use Rattle.tree_search.specs.Ways.{waiting_in}
-use Rattle.tree_search.proofs.WayFacts.{back_early, back_late, back_same, popped}
+use Rattle.tree_search.specs.Paths.{waiting_in}
+use Rattle.tree_search.proofs.PathFacts.{back_early, back_late, back_same, popped}
 use Rattle.tree_search.proofs.walk.go_to_next.Goals as goal
 
 pub loop-step-preserved : goal.loop-step-preserved

@@ -1,5 +1,5 @@
 use Rattle.std.proofs.Common.{arith}
-use Rattle.tree_search.proofs.WayFacts.{few_waiting}
+use Rattle.tree_search.proofs.PathFacts.{few_waiting}
 use Rattle.tree_search.proofs.walk.Walk.split.Goals as goal
 
 pub overflow_add-self : goal.overflow_add-self

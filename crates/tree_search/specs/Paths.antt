@@ -1,4 +1,4 @@
--- The way of a search down its tree: the present box, those above it, and the steps that led down,
+-- The path of a search down its tree: the present box, those above it, and the steps that led down,
 -- the last first. The late side of each step to an early one waits.
 use Rattle.std.specs.Prelude.{◌≡◌, ℕ, suc, ◌<◌, Bool, false, true, List, [], ◌∷◌, length}
 use Rattle.flow_types.specs.declared.parts.Parts.{Parts}
@@ -11,18 +11,18 @@ use Rattle.tree_search.specs.declared.walk.Branch.{Branch}
 use Rattle.tree_search.specs.declared.walk.Step.{Step}
 use Rattle.tree_search.specs.declared.walk.Step.TheVariants.{Early, Late}
 
-pub record Way : Type 0 where
+pub record Path : Type 0 where
   pub present : Held
   pub above : List Held
   pub steps : List Step
 
--- the first box of the way
+-- the first box of the path
 abbrev pub top_of : Held → List Held → Held
 top_of present [] = present
 top_of present (held ∷ above) = top_of held above
 
-abbrev pub top_box : Way → Box
-top_box way = box_of (top_of way.present way.above)
+abbrev pub top_box : Path → Box
+top_box path = box_of (top_of path.present path.above)
 
 -- how many boxes wait
 abbrev pub waiting_in : List Step → ℕ
@@ -62,8 +62,8 @@ ArePending parts (held ∷ above) (Early branch ∷ steps) (late ∷ boxes) =
     IsTightened parts (late_branch branch.flight branch.node branch.time (box_of held)) late
     × ArePending parts above steps boxes
 
--- the way has gone on to the next box that waited
-pub record IsNext (parts : Parts) (old new : Way) : Type 0 where
+-- the path has gone on to the next box that waited
+pub record IsNext (parts : Parts) (old new : Path) : Type 0 where
   pub made : IsMadeFor parts new.present
   pub tight : IsTight parts (box_of new.present)
   pub steps : AreSteps parts new.above new.steps
@@ -75,10 +75,10 @@ pub record IsNext (parts : Parts) (old new : Way) : Type 0 where
       → IsPartOf top new.present × ArePartsOf top new.above
 
 -- no box waited
-pub record IsOver (parts : Parts) (old : Way) : Type 0 where
+pub record IsOver (parts : Parts) (old : Path) : Type 0 where
   pub none : ArePending parts old.above old.steps []
   pub fewer : waiting_in old.steps ≡ 0
 
-abbrev pub IsNextOr : Parts → Way → Way → Bool → Type 0
+abbrev pub IsNextOr : Parts → Path → Path → Bool → Type 0
 IsNextOr parts old new true = IsNext parts old new
 IsNextOr parts old new false = IsOver parts old

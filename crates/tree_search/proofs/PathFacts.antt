@@ -1,4 +1,4 @@
--- The way of a search: a step more, a step back, and the next box that waits.
+-- The path of a search: a step more, a step back, and the next box that waits.
 use Rattle.std.proofs.Common.{◌≡◌, ◌≢◌, ◌≤◌, List, [], ◌∷◌, ◌++◌, length, reverse, refl, sym, ◌∙◌, ap, subst, arith}
 use Rattle.std.proofs.lemmas.List.{length-reverse, reverse-append}
 use Rattle.flow_types.specs.declared.parts.Parts.{Parts}
@@ -10,7 +10,7 @@ use Rattle.tree_search.proofs.PartFacts.{in_late}
 use Rattle.tree_search.specs.declared.walk.Branch.{Branch}
 use Rattle.tree_search.specs.declared.walk.Step.{Step}
 use Rattle.tree_search.specs.declared.walk.Step.TheVariants.{Early, Late}
-use Rattle.tree_search.specs.Ways.{ArePartsOf, AreSteps, ArePending, IsFork, IsNext, IsOver, Way, top_of, waiting_in}
+use Rattle.tree_search.specs.Paths.{ArePartsOf, AreSteps, ArePending, IsFork, IsNext, IsOver, Path, top_of, waiting_in}
 
 -- the last step comes first
 pub last_step : (steps : List Step) (step : Step) → reverse (steps ++ step ∷ []) ≡ step ∷ reverse steps
@@ -26,7 +26,7 @@ few_waiting steps = omega (arith, few_in (reverse steps), length-reverse steps)
 
 -- What the boxes above and the steps were, and what they are after some steps up: what waits is the
 -- same.
-pub record IsBack (parts : Parts) (old : Way) (present : Held) (above : List Held)
+pub record IsBack (parts : Parts) (old : Path) (present : Held) (above : List Held)
     (steps : List Step) : Type 0 where
   pub are : AreSteps parts above steps
   pub pending : (boxes : List Box) → ArePending parts above steps boxes
@@ -35,7 +35,7 @@ pub record IsBack (parts : Parts) (old : Way) (present : Held) (above : List Hel
   pub top : top_of present above ≡ top_of old.present old.above
   pub parts_of : (top : Box) → ArePartsOf top old.above → ArePartsOf top above
 
-pub back_none : (parts : Parts) (old : Way) → AreSteps parts old.above old.steps
+pub back_none : (parts : Parts) (old : Path) → AreSteps parts old.above old.steps
     → IsBack parts old old.present old.above old.steps
 back_none parts old are = record {
   are = are;
@@ -52,7 +52,7 @@ some_above parts [] step steps are none = are
 some_above parts (held ∷ above) step steps are none = cc none
 
 -- up over a late side
-pub back_late : (parts : Parts) (old : Way) (present next : Held) (above below : List Held)
+pub back_late : (parts : Parts) (old : Path) (present next : Held) (above below : List Held)
     (steps : List Step) → IsBack parts old present above (Late ∷ steps) → above ≡ next ∷ below
     → IsBack parts old next below steps
 back_late parts old present next above below steps back is =
@@ -68,14 +68,14 @@ back_late parts old present next above below steps back is =
     }
 
 -- up over an early side there is a box to be split so
-pub back_fork : (parts : Parts) (old : Way) (present next : Held) (above below : List Held)
+pub back_fork : (parts : Parts) (old : Path) (present next : Held) (above below : List Held)
     (branch : Branch) (steps : List Step) → IsBack parts old present above (Early branch ∷ steps)
     → above ≡ next ∷ below → IsFork parts next branch
 back_fork parts old present next above below branch steps back is =
     (subst (λ (l : List Held). IsBack parts old present l (Early branch ∷ steps)) is back).are.0
 
 -- and down to its late side
-pub back_early : (parts : Parts) (old : Way) (present next after : Held)
+pub back_early : (parts : Parts) (old : Path) (present next after : Held)
     (above below new_above : List Held) (branch : Branch) (steps new_steps : List Step)
     → IsBack parts old present above (Early branch ∷ steps) → above ≡ next ∷ below
     → new_above ≡ next ∷ below → new_steps ≡ Late ∷ steps
@@ -119,7 +119,7 @@ back_early parts old present next after above below new_above branch steps new_s
     }
 
 -- no steps are left
-pub back_over : (parts : Parts) (old : Way) (present : Held) (above : List Held)
+pub back_over : (parts : Parts) (old : Path) (present : Held) (above : List Held)
     → IsBack parts old present above [] → IsOver parts old
 back_over parts old present above back = record {
   none = back.pending [] refl;
@@ -127,7 +127,7 @@ back_over parts old present above back = record {
 }
 
 -- the same steps
-pub back_same : (parts : Parts) (old : Way) (present : Held) (above : List Held)
+pub back_same : (parts : Parts) (old : Path) (present : Held) (above : List Held)
     (steps other : List Step) → steps ≡ other → IsBack parts old present above steps
     → IsBack parts old present above other
 back_same parts old present above steps other same =
