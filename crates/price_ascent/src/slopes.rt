@@ -20,6 +20,8 @@ pub struct Slope {
     pub key: PriceKey,
     /// How it moved last, for each unit of the stride, in 1,024ths.
     pub direction: i64,
+    /// How many flights pass no limit; of a connection none, as trips alone make room there.
+    pub limit: u32,
 }
 
 // How finely directions are counted.
@@ -88,7 +90,11 @@ fn add(
     ensures { OnOk result (AreSlopesFor (parts_of s.now) slopes.new.items) }
 {
     if has_limit(s, key) && may_pass(s, users, key) {
-        slopes.push(Slope { key, direction: 0 })?;
+        slopes.push(Slope {
+            key,
+            direction: 0,
+            limit: limit_of(s, key),
+        })?;
     }
     Ok(())
 }
@@ -156,12 +162,12 @@ pub fn paid_by_limits(slopes: &[Slope], s: &Scenario, prices: &Prices) -> i128
     let mut sum = 0i128;
     for slope in slopes {
         let price = i128::from(prices.get(slope.key));
-        sum = sum.saturating_add(price.saturating_mul(i128::from(limit_of(s, slope.key))));
+        sum = sum.saturating_add(price.saturating_mul(i128::from(slope.limit)));
     }
     sum
 }
 
-// How many flights pass no limit; of a connection, what the first one makes room for isn't counted.
+// The capacity, if it is one.
 fn limit_of(s: &Scenario, key: PriceKey) -> u32 {
     match key.kind {
         PriceKind::Capacity(kind) => capacity_at(s.places(), kind, key.row, key.period),
@@ -189,11 +195,16 @@ pub fn excess_by_slopes(
         exceeds: false,
     };
     for at in 0..slopes.len() {
-        let Slope { key, direction } = slopes[at];
-        let excess = excess_of(s, loads, key);
+        let Slope {
+            key,
+            direction,
+            limit,
+        } = slopes[at];
+        let excess = excess_of(s, loads, key, limit);
         slopes[at] = Slope {
             key,
             direction: next_direction(direction, fifths, excess),
+            limit,
         };
         sum = with_one(sum, excess, prices.get(key));
     }
@@ -223,13 +234,20 @@ fn next_direction(direction: i64, fifths: i64, excess: i64) -> i64 {
         .saturating_add((direction / 5).saturating_mul(fifths))
 }
 
-// By how much the loads exceed the limit.
-fn excess_of(s: &Scenario, loads: &Loads, key: PriceKey) -> i64
+// By how much the loads exceed the limit, which for a capacity is known.
+fn excess_of(s: &Scenario, loads: &Loads, key: PriceKey, limit: u32) -> i64
     requires key { IsSlopeKey (parts_of s.now) key }
     requires loads { IsMadeFor (parts_of s.now) loads.now }
 {
-    let usage = usage_of(s, loads, key);
-    i64::from(usage.used) - i64::from(usage.limit)
+    match key.kind {
+        PriceKind::Capacity(kind) => {
+            i64::from(loads.load(kind, key.row, key.period)) - i64::from(limit)
+        }
+        PriceKind::Connection => {
+            let usage = usage_of(s, loads, key);
+            i64::from(usage.used) - i64::from(usage.limit)
+        }
+    }
 }
 
 /// Moves each price along its slope, by so many 1,024ths for a flight; no price falls below 0.
