@@ -16,7 +16,7 @@ use Rattle.time_windows.specs.declared.access.Window.{Window}
 use Rattle.time_windows.specs.Boxes.{Box, IsBoxOf, IsProper, closed, IsWindowWithin, IsWithin, root_access, root_box, root_row}
 use Rattle.time_windows.specs.Held.{Held, IsMadeFor, box_of}
 use Rattle.time_windows.specs.Steps.{legs_of}
-use Rattle.time_windows.specs.Tight.{IsTight, IsTightened, IsWayIn, IsWayOut}
+use Rattle.time_windows.specs.Tight.{IsTight, IsTightened, IsLegIn, IsLegOut}
 use Rattle.time_windows.proofs.AnyFacts.{any_map}
 use Rattle.time_windows.proofs.RootFacts.{flight_in}
 use Rattle.bytime_model.specs.declared.left.Left.TheVariants.{Free, One, Same, Zero}
@@ -261,10 +261,10 @@ module _ (parts : Parts) (scenario : IsScenario parts) (outer root : Box)
   }) (record {
     rows = λ f flight here. record {
       proper = (is.rows f flight here).proper;
-      entered = λ n w from within at. any_map (IsWayIn (box f) n w) (IsWayIn (inner f) n w)
+      entered = λ n w from within at. any_map (IsLegIn (box f) n w) (IsLegIn (inner f) n w)
           flight.legs (λ leg here way. record { to = way.to; time = way.time })
           ((is.rows f flight here).entered n w from within at);
-      left = λ n w within at. any_map (IsWayOut (box f) n w) (IsWayOut (inner f) n w) flight.legs
+      left = λ n w within at. any_map (IsLegOut (box f) n w) (IsLegOut (inner f) n w) flight.legs
           (λ leg here way. record { from = way.from; time = way.time })
           ((is.rows f flight here).left n w within at);
     };

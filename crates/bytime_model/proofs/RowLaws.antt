@@ -19,7 +19,7 @@ use Rattle.bytime_model.specs.declared.names.RowName.{RowName}
 use Rattle.bytime_model.specs.declared.names.RowName.TheVariants.{Arr, Connect, Cut, Dep, Enter, Leave, Mono, Occupy, Sector, Top}
 use Rattle.bytime_model.specs.declared.variables.Var.{Var}
 use Rattle.bytime_model.specs.declared.variables.Var.TheVariants.{By, Inside}
-use Rattle.bytime_model.specs.Rows.{AreCollected, AreOther, AtMost, IsKept, IsValid, back_term, back_terms, connect_terms, enter_terms, goes_on, is_node, is_row, leave_terms, minus_one, most_terms, no_row, occupy_terms, of_connection, on_terms, one, row_limit, row_of, row_terms, term_of}
+use Rattle.bytime_model.specs.Rows.{AreCollected, AreOther, AtMost, RowHolds, IsValid, back_term, back_terms, connect_terms, enter_terms, goes_on, is_node, is_row, leave_terms, minus_one, most_terms, no_row, occupy_terms, of_connection, on_terms, one, row_limit, row_of, row_terms, term_of}
 use Rattle.bytime_model.specs.Values.{form_value, has_inside, is_plain, value_at}
 use Rattle.bytime_model.proofs.FillFacts.{back_few, on_all_few, parts_few}
 use Rattle.bytime_model.proofs.NameLists.{ascending_pairs}
@@ -194,7 +194,7 @@ module _ (parts : Parts) (plan : List (List Stop)) (scenario : IsScenario parts)
   abbrev at_plan : Var → ℕ
   at_plan = value_at parts.flights plan
 
-  pub row_kept : (name : RowName) → is_row parts name ≡ true → IsKept at_plan (row_of parts name)
+  pub row_kept : (name : RowName) → is_row parts name ≡ true → RowHolds at_plan (row_of parts name)
   row_kept (Mono f n t) is = mono_kept parts plan scenario feasible.trips f n t
   row_kept (Top f n) is = top_kept parts plan scenario feasible.trips f n (parts.day.periods - 1)
   row_kept (Dep p t) is =
@@ -263,7 +263,7 @@ pub row_valid : (parts : Parts) (name : RowName) (held : AtMost) (told : Bool) �
     → told ≡ is_row parts name → (told ≡ true → held ≡ row_of parts name)
     → (told ≡ false → held ≡ no_row) → IsValid parts held
 row_valid parts name held true scenario is row none plan feasible =
-    subst (IsKept (value_at parts.flights plan)) (sym (row refl))
+    subst (RowHolds (value_at parts.flights plan)) (sym (row refl))
     (row_kept parts plan scenario feasible name (sym is))
 row_valid parts name held false scenario is row none plan feasible =
-    subst (IsKept (value_at parts.flights plan)) (sym (none refl)) (omega (arith, ints))
+    subst (RowHolds (value_at parts.flights plan)) (sym (none refl)) (omega (arith, ints))

@@ -221,10 +221,10 @@ abbrev pub no_row : AtMost
 no_row = record { terms = []; limit = pos 0 }
 
 -- where variables have these values, the row holds
-abbrev pub IsKept : (Var → ℕ) → AtMost → Type 0
-IsKept value row = form_value value row.terms ≤ℤ row.limit
+abbrev pub RowHolds : (Var → ℕ) → AtMost → Type 0
+RowHolds value row = form_value value row.terms ≤ℤ row.limit
 
 -- no plan that keeps every rule breaks it
 abbrev pub IsValid : Parts → AtMost → Type 0
 IsValid parts row = (plan : List (List Stop)) → IsFeasible parts plan
-    → IsKept (value_at parts.flights plan) row
+    → RowHolds (value_at parts.flights plan) row

@@ -1,5 +1,6 @@
 //! The cost row.
 ghost use Rattle.std.specs.Prelude.{[], ◌≡◌, ◌+◌, ◌-◌, ◌≤◌, ◌<◌, ◌^◌, ◌++◌, Some, IfOk, OnOk, List, length, min, ◌+ℤ◌, ◌-ℤ◌};
+ghost use Rattle.flow_types.specs.Limits.{most_delay_cost, most_trip_cost};
 ghost use Rattle.flow_types.specs.declared.plan.Stop.{Stop};
 ghost use Rattle.flow_types.specs.Costs.{plan_cost};
 ghost use Rattle.flow_types.specs.Feasible.{AreTrips};
@@ -175,8 +176,8 @@ fn term_of(factor: i64, variable: Var) -> Term
 
 // The difference of two numbers that aren't far from 0.
 fn difference(a: i64, b: i64) -> i64
-    requires a { IsNear 100000000000 a }
-    requires b { IsNear 100000000000 b }
+    requires a { IsNear most_delay_cost a }
+    requires b { IsNear most_delay_cost b }
     ensures { result ≡ a -ℤ b }
 {
     a - b
@@ -272,7 +273,7 @@ fn flight_constant(s: &Scenario, number: u32, flight: &Flight) -> i64
     requires { flight_at s.now number ≡ Some flight.now }
     ensures constant { result ≡ flight_constant (parts_of s.now).tables
         (parts_of s.now).day.periods flight.now }
-    ensures within { IsNear 200000000000 result }
+    ensures within { IsNear most_trip_cost result }
 {
     difference(
         s.total(number, most_late(s, number)),
@@ -283,7 +284,7 @@ fn flight_constant(s: &Scenario, number: u32, flight: &Flight) -> i64
 // The sum of both.
 fn plus(sum: i64, more: i64) -> i64
     requires sum { IsNear (2 ^ 60) sum }
-    requires more { IsNear 200000000000 more }
+    requires more { IsNear most_trip_cost more }
     ensures { result ≡ sum +ℤ more }
 {
     sum + more

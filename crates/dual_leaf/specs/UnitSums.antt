@@ -1,5 +1,6 @@
 -- What the trips in a unit box cost, one flight after another.
 use Rattle.std.specs.Prelude.{◌≡◌, ℕ, ◌*◌, List, [], ◌∷◌, ◌++◌, length, Option, None, Some, slice_get, ℤ}
+use Rattle.flow_types.specs.Limits.{most_trip_cost}
 use Rattle.flow_types.specs.declared.bound.Bound.TheVariants.{NoPlan}
 use Rattle.flow_types.specs.declared.parts.Parts.{Parts}
 use Rattle.flow_types.specs.declared.plan.Stop.{Stop}
@@ -36,7 +37,7 @@ pub record IsSumOf (parts : Parts) (box : Box) (count : ℕ) (loads : Tally)
   pub loads_are : AreLoads parts (with_rest parts.flights trips) loads
   pub sum_is : plan_cost parts.tables parts.flights trips ≡ sum
   pub least : IsLeastSum parts box count sum
-  pub near : IsNear (count * 200000000000) sum
+  pub near : IsNear (count * most_trip_cost) sum
 
 -- that, or there is no plan
 abbrev pub IsSoFar : Parts → Box → ℕ → Tally → Option ℤ → Type 0

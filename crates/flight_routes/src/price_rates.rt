@@ -1,7 +1,7 @@
 //! The rates of a flight under prices.
 ghost use Rattle.std.specs.Prelude.{◌≡◌, ◌≤◌, ◌<◌, ◌+◌, ◌-◌, ◌*◌, ◌^◌, ℕ, IfSome, Some, option_map, length, slice_index, ℤ, pos, ◌*ℤ◌, ◌-ℤ◌, ◌+ℤ◌};
 ghost use Rattle.flow_types.specs.declared.flight.Flight.{Flight};
-ghost use Rattle.flow_types.specs.Limits.{most_connections, most_nodes, most_periods};
+ghost use Rattle.flow_types.specs.Limits.{most_connections, most_delay_cost, most_nodes, most_periods};
 ghost use Rattle.flow_types.specs.Scenario.{flight_at, parts_of};
 ghost use Rattle.flow_types.specs.Trips.{place_at};
 ghost use Rattle.time_windows.specs.Boxes.{IsInWindow};
@@ -27,7 +27,7 @@ use time_windows::{Access, End, Turns, Window};
 // A weight times a cost.
 fn weighted(weight: u64, cost: Option<i64>) -> Option<i128>
     requires weight { weight < 2 ^ 62 }
-    requires cost { IfSome cost (IsNear 100000000000) }
+    requires cost { IfSome cost (IsNear most_delay_cost) }
     ensures value { result ≡ option_map (λ value. pos weight *ℤ value) cost }
     ensures within { IfSome result (IsNear (2 ^ 100)) }
 {

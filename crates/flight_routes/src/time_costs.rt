@@ -1,6 +1,6 @@
 //! What leaving and arriving in a period cost a flight.
 ghost use Rattle.std.specs.Prelude.{◌≡◌, ◌≤◌, ◌<◌, ◌+◌, IfSome, Some, length};
-ghost use Rattle.flow_types.specs.Limits.{most_nodes};
+ghost use Rattle.flow_types.specs.Limits.{most_delay_cost, most_nodes};
 ghost use Rattle.flow_types.specs.Scenario.{flight_at, parts_of};
 ghost use Rattle.exact_sums.specs.Near.{IsNear};
 ghost use Rattle.flight_routes.specs.TimeCosts.{credit_then, total_then};
@@ -12,7 +12,7 @@ pub fn credit_then(s: &Scenario, flight: u32, time: u16) -> Option<i64>
     requires { flight < length (parts_of s.now).flights }
     ensures value { result
         ≡ Some (credit_then (parts_of s.now).tables (flight_at s.now flight) time) }
-    ensures within { IfSome result (IsNear 100000000000) }
+    ensures within { IfSome result (IsNear most_delay_cost) }
 {
     let delay = time.saturating_sub(s.flights()[flight as usize].sd);
     Some(s.credit(flight, delay))
@@ -23,7 +23,7 @@ pub fn total_then(s: &Scenario, flight: u32, time: u16) -> Option<i64>
     requires { flight < length (parts_of s.now).flights }
     ensures value { result
         ≡ Some (total_then (parts_of s.now).tables (flight_at s.now flight) time) }
-    ensures within { IfSome result (IsNear 100000000000) }
+    ensures within { IfSome result (IsNear most_delay_cost) }
 {
     let delay = time.saturating_sub(s.flights()[flight as usize].sa);
     Some(s.total(flight, delay))

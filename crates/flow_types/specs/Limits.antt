@@ -59,6 +59,13 @@ most_values = 512
 abbrev pub most_value : ℕ
 most_value = 1000000000
 
+-- what a delay costs, and what a trip costs, are no further than these from zero
+abbrev pub most_delay_cost : ℕ
+most_delay_cost = 100000000000
+
+abbrev pub most_trip_cost : ℕ
+most_trip_cost = 200000000000
+
 -- connections
 abbrev pub most_connections : ℕ
 most_connections = 4000

@@ -1,4 +1,5 @@
 //! A valid scenario.
+ghost use Rattle.flow_types.specs.Limits.{most_delay_cost};
 ghost use Rattle.flow_types.specs.Valid.{IsScenario};
 
 use crate::day::Day;
@@ -94,8 +95,8 @@ impl Scenario {
         requires { flight < length (parts_of self.now).flights }
         ensures value { result
             ≡ total_at (parts_of self.now).tables (flight_at self.now flight) delay }
-        ensures low { neg_ℤ (pos 100000000000) ≤ℤ result }
-        ensures high { result ≤ℤ pos 100000000000 }
+        ensures low { neg_ℤ (pos most_delay_cost) ≤ℤ result }
+        ensures high { result ≤ℤ pos most_delay_cost }
     {
         total_at(self.tables(), &self.flights()[flight as usize], delay)
     }
@@ -106,8 +107,8 @@ impl Scenario {
         requires { flight < length (parts_of self.now).flights }
         ensures value { result
             ≡ credit_at (parts_of self.now).tables (flight_at self.now flight) delay }
-        ensures low { neg_ℤ (pos 100000000000) ≤ℤ result }
-        ensures high { result ≤ℤ pos 100000000000 }
+        ensures low { neg_ℤ (pos most_delay_cost) ≤ℤ result }
+        ensures high { result ≤ℤ pos most_delay_cost }
     {
         credit_at(self.tables(), &self.flights()[flight as usize], delay)
     }

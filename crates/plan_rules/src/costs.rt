@@ -1,5 +1,6 @@
 //! What a plan and a trip cost.
 ghost use Rattle.std.specs.Prelude.{◌≡◌, ◌<◌, ◌≤ℤ◌, length, neg_ℤ, pos};
+ghost use Rattle.flow_types.specs.Limits.{most_trip_cost};
 ghost use Rattle.flow_types.specs.Costs.{plan_cost, trip_cost_at};
 ghost use Rattle.flow_types.specs.Feasible.{AreTrips};
 ghost use Rattle.flow_types.specs.Scenario.{flight_at, parts_of};
@@ -27,8 +28,8 @@ pub fn trip_cost(s: &Scenario, flight: u32, stops: &[Stop]) -> i64
     requires { flight < length (parts_of s.now).flights }
     ensures value { result
         ≡ trip_cost_at (parts_of s.now).tables (flight_at s.now flight) stops.now }
-    ensures low { neg_ℤ (pos 200000000000) ≤ℤ result }
-    ensures high { result ≤ℤ pos 200000000000 }
+    ensures low { neg_ℤ (pos most_trip_cost) ≤ℤ result }
+    ensures high { result ≤ℤ pos most_trip_cost }
 {
     let Some(departure) = departure_of(stops) else {
         return 0;

@@ -8,7 +8,7 @@ use Rattle.std.specs.List.{filter, position_from, range_with_len}
 use Rattle.flow_types.specs.declared.parts.Parts.{Parts}
 use Rattle.flow_types.specs.Valid.{IsScenario}
 use Rattle.row_arena.specs.declared.entry.Entry.{Entry}
-use Rattle.scaled_simplex.specs.Points.{IsKept, IsProgramPoint, point_cost, terms_at}
+use Rattle.scaled_simplex.specs.Points.{ConstraintHolds, IsProgramPoint, point_cost, terms_at}
 use Rattle.scaled_simplex.specs.Program.{Constraint}
 use Rattle.scaled_simplex.proofs.Products.{less_is, less_isnt, less_times, linear, low_times, neg_times, one_times, sum_times, times_less, zero_times}
 use Rattle.time_windows.specs.Boxes.{Box, IsBoxOf}
@@ -171,7 +171,7 @@ module _ (parts : Parts) (box : Box) (scenario : IsScenario parts) (made : IsBox
 
   module _ (point : IsProgramPoint (program_of parts box) numerator denominator) where
     abbrev Holds : Constraint → Type 0
-    Holds = IsKept numerator denominator
+    Holds = ConstraintHolds numerator denominator
 
     abbrev first_rows : List Constraint
     first_rows = map (kept_row parts box) (kept_of parts box)

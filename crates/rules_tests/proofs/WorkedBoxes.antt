@@ -8,7 +8,7 @@ use Rattle.time_windows.specs.declared.access.Window.{Window}
 use Rattle.time_windows.specs.Boxes.{Box, IsProper, closed, options_of, root_access}
 use Rattle.time_windows.specs.Splits.{IsBranching, early_branch, late_branch}
 use Rattle.time_windows.specs.Steps.{below_limit, entry_of, from_entry, limit_of}
-use Rattle.time_windows.specs.Tight.{IsTightRow, IsWayIn, IsWayOut, KeepsEnds}
+use Rattle.time_windows.specs.Tight.{IsTightRow, IsLegIn, IsLegOut, KeepsEnds}
 use Rattle.time_windows.proofs.AnyFacts.{any_cases, any_here, any_none, any_there}
 use Rattle.worked_days.specs.Days.{there}
 
@@ -57,33 +57,33 @@ same_window : (a b : Window) → Some a ≡ Some b → a ≡ b
 same_window a b e = cc
 
 ways_in : (n : ℕ) (window : Window) → 0 < n → (tight_row n).window ≡ Some window
-    → Any (IsWayIn tight_row n window) flight.legs
+    → Any (IsLegIn tight_row n window) flight.legs
 ways_in zero window pos is = absurd (omega arith)
 ways_in (suc zero) window pos is =
     let same = same_window (record { lo = 1; hi = 4 }) window is in
-    subst (λ w. Any (IsWayIn tight_row 1 w) flight.legs) same
-    (any_here (IsWayIn tight_row 1 (record { lo = 1; hi = 4 })) leg_in (leg_out ∷ [])
+    subst (λ w. Any (IsLegIn tight_row 1 w) flight.legs) same
+    (any_here (IsLegIn tight_row 1 (record { lo = 1; hi = 4 })) leg_in (leg_out ∷ [])
     (record { to = refl; time = omega arith }))
 ways_in (suc (suc zero)) window pos is =
     let same = same_window (record { lo = 5; hi = 7 }) window is in
-    subst (λ w. Any (IsWayIn tight_row 2 w) flight.legs) same
-    (any_there (IsWayIn tight_row 2 (record { lo = 5; hi = 7 })) leg_in (leg_out ∷ [])
-    (any_here (IsWayIn tight_row 2 (record { lo = 5; hi = 7 })) leg_out []
+    subst (λ w. Any (IsLegIn tight_row 2 w) flight.legs) same
+    (any_there (IsLegIn tight_row 2 (record { lo = 5; hi = 7 })) leg_in (leg_out ∷ [])
+    (any_here (IsLegIn tight_row 2 (record { lo = 5; hi = 7 })) leg_out []
     (record { to = refl; time = omega arith })))
 ways_in (suc (suc (suc n))) window pos is = absurd cc
 
 ways_out : (n : ℕ) (window : Window) → n + 1 < 3 → (tight_row n).window ≡ Some window
-    → Any (IsWayOut tight_row n window) flight.legs
+    → Any (IsLegOut tight_row n window) flight.legs
 ways_out zero window below is =
     let same = same_window (record { lo = 0; hi = 2 }) window is in
-    subst (λ w. Any (IsWayOut tight_row 0 w) flight.legs) same
-    (any_here (IsWayOut tight_row 0 (record { lo = 0; hi = 2 })) leg_in (leg_out ∷ [])
+    subst (λ w. Any (IsLegOut tight_row 0 w) flight.legs) same
+    (any_here (IsLegOut tight_row 0 (record { lo = 0; hi = 2 })) leg_in (leg_out ∷ [])
     (record { from = refl; time = omega arith }))
 ways_out (suc zero) window below is =
     let same = same_window (record { lo = 1; hi = 4 }) window is in
-    subst (λ w. Any (IsWayOut tight_row 1 w) flight.legs) same
-    (any_there (IsWayOut tight_row 1 (record { lo = 1; hi = 4 })) leg_in (leg_out ∷ [])
-    (any_here (IsWayOut tight_row 1 (record { lo = 1; hi = 4 })) leg_out []
+    subst (λ w. Any (IsLegOut tight_row 1 w) flight.legs) same
+    (any_there (IsLegOut tight_row 1 (record { lo = 1; hi = 4 })) leg_in (leg_out ∷ [])
+    (any_here (IsLegOut tight_row 1 (record { lo = 1; hi = 4 })) leg_out []
     (record { from = refl; time = omega arith })))
 ways_out (suc (suc n)) window below is = absurd (omega arith)
 
@@ -103,24 +103,24 @@ row_is_tight = record {
 
 -- Where the sector is closed, a tight row is closed at both ends: its one way is through there.
 no_way_out : (row : ℕ → Access) (window : Window) → (row 1).window ≡ None
-    → Any (IsWayOut row 0 window) flight.legs → ⊥
+    → Any (IsLegOut row 0 window) flight.legs → ⊥
 no_way_out row window shut any =
-    elim (any_cases (IsWayOut row 0 window) leg_in (leg_out ∷ []) any) as (λ _. ⊥) [
+    elim (any_cases (IsLegOut row 0 window) leg_in (leg_out ∷ []) any) as (λ _. ⊥) [
       | inl way ↦ rw shut at way.time
-      | inr rest ↦ elim (any_cases (IsWayOut row 0 window) leg_out [] rest) as (λ _. ⊥) [
+      | inr rest ↦ elim (any_cases (IsLegOut row 0 window) leg_out [] rest) as (λ _. ⊥) [
         | inl way ↦ omega (arith, way.from)
-        | inr none ↦ any_none (IsWayOut row 0 window) none
+        | inr none ↦ any_none (IsLegOut row 0 window) none
       ]
     ]
 
 no_way_in : (row : ℕ → Access) (window : Window) → (row 1).window ≡ None
-    → Any (IsWayIn row 2 window) flight.legs → ⊥
+    → Any (IsLegIn row 2 window) flight.legs → ⊥
 no_way_in row window shut any =
-    elim (any_cases (IsWayIn row 2 window) leg_in (leg_out ∷ []) any) as (λ _. ⊥) [
+    elim (any_cases (IsLegIn row 2 window) leg_in (leg_out ∷ []) any) as (λ _. ⊥) [
       | inl way ↦ omega (arith, way.to)
-      | inr rest ↦ elim (any_cases (IsWayIn row 2 window) leg_out [] rest) as (λ _. ⊥) [
+      | inr rest ↦ elim (any_cases (IsLegIn row 2 window) leg_out [] rest) as (λ _. ⊥) [
         | inl way ↦ rw shut at way.time
-        | inr none ↦ any_none (IsWayIn row 2 window) none
+        | inr none ↦ any_none (IsLegIn row 2 window) none
       ]
     ]
 

@@ -3,7 +3,7 @@ use Rattle.std.proofs.Common.{◌≡◌, ℕ, ◌+◌, ◌<◌, ◌≤◌, List,
 use Rattle.std.proofs.lemmas.List.Elements.{All-head, All-tail}
 use Rattle.row_arena.specs.declared.entry.Entry.{Entry}
 use Rattle.scaled_simplex.specs.LastPoint.{IsWorth}
-use Rattle.scaled_simplex.specs.Points.{IsKept, IsProgramPoint, costs_at, point_cost, terms_at}
+use Rattle.scaled_simplex.specs.Points.{ConstraintHolds, IsProgramPoint, costs_at, point_cost, terms_at}
 use Rattle.scaled_simplex.specs.Program.{Constraint, IsConstraint, IsProblem, Problem, columns}
 use Rattle.scaled_simplex.specs.Run.{Outcome, value_in, weight_in}
 use Rattle.scaled_simplex.proofs.Products.{linear, low_back, low_times, same_back, times_assoc, times_comm, times_less, times_moved, times_sum, times_zero}
@@ -44,7 +44,7 @@ module _ (problem : Problem) (valid : IsProblem problem) (d e : ℤ) (f g : ℕ 
       low_back e (f k) is.positive (omega (arith, linear, whole, low))
 
   kept_scaled : IsProgramPoint problem g e → (c : Constraint) → IsConstraint (columns problem) c
-      → IsKept g e c → IsKept f d c
+      → ConstraintHolds g e c → ConstraintHolds f d c
   kept_scaled is c valid_c kept =
       let terms = terms_scaled d e f g (columns problem) each c.terms valid_c.within in
       let left = (c.limit *ℤ e) -ℤ terms_at c.terms g in

@@ -9,7 +9,7 @@ use Rattle.row_arena.specs.Arena.{row_at}
 use Rattle.row_arena.specs.Rows.{entry_at, row_from, unless_zero}
 use Rattle.scaled_simplex.specs.Board.{IsBasic}
 use Rattle.scaled_simplex.specs.Derived.{AreSolved, IsDerived, row_with}
-use Rattle.scaled_simplex.specs.Points.{IsKept, IsProgramPoint, costs_at, point_cost, terms_at}
+use Rattle.scaled_simplex.specs.Points.{ConstraintHolds, IsProgramPoint, costs_at, point_cost, terms_at}
 use Rattle.scaled_simplex.specs.Program.{Constraint, IsProblem, Problem, columns}
 use Rattle.scaled_simplex.specs.Run.{cost_at, last_row, right_at}
 use Rattle.scaled_simplex.specs.Tableau.{Tableau, bare_row, constraint_row, cost_row, first_tableau, one_at, right_side, weight_index}
@@ -192,7 +192,7 @@ module _ (problem : Problem) (tableau : Tableau) (share : ℕ → ℤ) (denomina
           held_low tableau.basis share (length problem.constraints) index low
 
       constraint_kept : (k : ℕ) → k < length problem.constraints → (c : Constraint)
-          → slice_get problem.constraints k ≡ Some c → IsKept numerator denominator c
+          → slice_get problem.constraints k ≡ Some c → ConstraintHolds numerator denominator c
       constraint_kept k small c here =
           let solved : row_with values (constraint_row problem k c) ≡ pos 0 =
           subst (λ (r : List Entry). row_with values r ≡ pos 0) (row_is problem k small c here)
@@ -242,7 +242,7 @@ module _ (problem : Problem) (tableau : Tableau) (share : ℕ → ℤ) (denomina
         least = λ column _. numerator_low column;
         kept = λ k d small.
             let found = there problem k small in
-            subst (IsKept numerator denominator)
+            subst (ConstraintHolds numerator denominator)
             (sym (get_or_from_slice_get problem.constraints k found.0 d found.1))
             (constraint_kept k small found.0 found.1);
       }

@@ -9,14 +9,14 @@ use Rattle.scaled_simplex.specs.Program.{Constraint, Problem, columns}
 abbrev pub terms_at : List Entry → (ℕ → ℤ) → ℤ
 terms_at terms numerator = total (λ term. term.value *ℤ numerator term.column) terms
 
-abbrev pub IsKept : (ℕ → ℤ) → ℤ → Constraint → Type 0
-IsKept numerator denominator constraint =
+abbrev pub ConstraintHolds : (ℕ → ℤ) → ℤ → Constraint → Type 0
+ConstraintHolds numerator denominator constraint =
     terms_at constraint.terms numerator ≤ℤ (constraint.limit *ℤ denominator)
 
 pub record IsProgramPoint (problem : Problem) (numerator : ℕ → ℤ) (denominator : ℤ) : Type 0 where
   pub positive : pos 0 <ℤ denominator
   pub least : (column : ℕ) → column < columns problem → pos 0 ≤ℤ numerator column
-  pub kept : All (IsKept numerator denominator) problem.constraints
+  pub kept : All (ConstraintHolds numerator denominator) problem.constraints
 
 -- what the columns cost, from one on
 abbrev pub costs_at : (ℕ → ℤ) → ℕ → List ℤ → ℤ

@@ -9,7 +9,7 @@ use std::marker::Model;
 
 /// The scenario as far as it is read. Contracts see its parts.
 #[derive(Drop)]
-pub struct Draft {
+pub struct ScenarioDraft {
     pub(crate) day: Day,
     pub(crate) places: NamedList<Place>,
     pub(crate) flights: NamedList<FlightDraft>,
@@ -19,7 +19,7 @@ pub struct Draft {
     pub(crate) nodes: u32,
 }
 
-impl Model for Draft {
+impl Model for ScenarioDraft {
     ghost use Rattle.scenario_reader.specs.DraftParts.{DraftParts};
     ghost use Rattle.scenario_reader.specs.Drafts.{IsDraft};
 
@@ -36,7 +36,7 @@ impl Model for Draft {
     ghost invariant = { λ d. IsDraft d.day d.places d.flights d.tables d.connections d.nodes };
 }
 
-impl Draft {
+impl ScenarioDraft {
     ghost use Rattle.std.specs.Prelude.{◌≡◌, ◌<◌, ◌≤◌, ◌+◌, [], None, Some, OnOk, OnErr, false, length, slice_get};
     ghost use Rattle.flow_types.specs.Limits.{most_connections, most_flights, most_nodes_in_all, most_places, most_tables};
     ghost use Rattle.flow_types.specs.Valid.{IsDay, IsPlace, IsTable};
@@ -52,7 +52,7 @@ impl Draft {
         requires { IsDay day }
         ensures { result ≡ no_parts day }
     {
-        Draft {
+        ScenarioDraft {
             day,
             places: NamedList::empty(alloc),
             flights: NamedList::empty(alloc),

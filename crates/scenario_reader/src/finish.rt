@@ -5,7 +5,7 @@ ghost use Rattle.scenario_reader.specs.Sectors.{most_sectors};
 ghost use Rattle.text_records.specs.Errors.{Reads};
 ghost use Rattle.scenario_reader.specs.Finish.{finished, finished_flight, finished_flights, flight_with, has_route, leads_on, leg_between, node_of, nodes_of};
 
-use crate::draft::Draft;
+use crate::draft::ScenarioDraft;
 use crate::flight_draft::{FlightDraft, PlaceLeg, is_among};
 use flow_types::{
     Cause, Fault, Flight, Flights, Leg, Legs, Nodes, OutOfMemory, Parts, Scenario, Sequence,
@@ -125,11 +125,11 @@ fn finished_flights(alloc: Global, flights: &[FlightDraft]) -> Result<Flights, R
 
 /// The scenario of a draft, or the first flight's fault.
 #[tactic(auto, unfolding(crate::specs::Finish::finished))]
-pub fn finished(alloc: Global, draft: Draft) -> Result<Scenario, Refusal>
+pub fn finished(alloc: Global, draft: ScenarioDraft) -> Result<Scenario, Refusal>
     ensures { Reads parts_of result (finished draft) }
 {
     let flights = finished_flights(alloc, draft.flights().items())?;
-    let Draft {
+    let ScenarioDraft {
         day,
         places,
         flights: _,

@@ -6,7 +6,7 @@ ghost use Rattle.scenario_reader.specs.Reading.{records_step, scenario_of};
 ghost use Rattle.text_records.specs.Errors.{Reads};
 ghost use Rattle.flow_types.specs.Limits.{most_text_bytes};
 
-use crate::draft::Draft;
+use crate::draft::ScenarioDraft;
 use crate::finish::finished;
 use crate::records::{first_step, record_step};
 use csv::ByteRecord;
@@ -17,7 +17,7 @@ use text_records::{RecordError, Refusal, Rows, refusal_of};
 // Takes in all records from the second on.
 fn records_step(
     alloc: Global,
-    draft: &mut Draft,
+    draft: &mut ScenarioDraft,
     rows: &mut Rows,
     row: &mut ByteRecord,
 ) -> Result<(), Refusal>

@@ -14,7 +14,7 @@ ghost use Rattle.flow_types.specs.Limits.{most_flights, most_nodes_in_all};
 
 use crate::capacities::cap_change_of;
 use crate::connections::connection_of;
-use crate::draft::Draft;
+use crate::draft::ScenarioDraft;
 use crate::flight_draft::{FlightDraft, PlaceLeg};
 use crate::flights::{cost_in, destination_in, flight_name_of, hours_in, origin_in};
 use crate::kind::{Kind, kind_of};
@@ -31,7 +31,7 @@ use text_records::{FieldFault, RecordError, field_in};
 #[tactic(auto, unfolding(crate::specs::Flights::flight_of))]
 fn flight_of(
     alloc: Global,
-    draft: &Draft,
+    draft: &ScenarioDraft,
     number: u32,
     row: &ByteRecord,
 ) -> Result<FlightDraft, RecordError>
@@ -65,7 +65,7 @@ fn flight_of(
 
 // The leg that a `leg` record tells, and the position of its flight.
 #[tactic(auto, unfolding(crate::specs::Legs::leg_in))]
-fn leg_in(draft: &Draft, row: &ByteRecord) -> Result<(u32, PlaceLeg), FieldFault>
+fn leg_in(draft: &ScenarioDraft, row: &ByteRecord) -> Result<(u32, PlaceLeg), FieldFault>
     ensures found { Finds (λ found. (found.0, found.1)) result
         (leg_in draft.now (fields_of row.now)) }
     ensures here { IfOk result (λ found. found.0 < length draft.now.flights) }
@@ -79,7 +79,11 @@ fn leg_in(draft: &Draft, row: &ByteRecord) -> Result<(u32, PlaceLeg), FieldFault
 }
 
 #[tactic(auto, unfolding(crate::specs::Reading::airport_step))]
-fn airport_step(alloc: Global, draft: &mut Draft, row: &ByteRecord) -> Result<(), RecordError>
+fn airport_step(
+    alloc: Global,
+    draft: &mut ScenarioDraft,
+    row: &ByteRecord,
+) -> Result<(), RecordError>
     ensures { Gives (λ _. draft.new) result (airport_step draft.old (fields_of row.now)) }
 {
     let place = airport_of(alloc, draft.day().periods, draft.places().names(), row)?;
@@ -88,7 +92,11 @@ fn airport_step(alloc: Global, draft: &mut Draft, row: &ByteRecord) -> Result<()
 }
 
 #[tactic(auto, unfolding(crate::specs::Reading::sector_step))]
-fn sector_step(alloc: Global, draft: &mut Draft, row: &ByteRecord) -> Result<(), RecordError>
+fn sector_step(
+    alloc: Global,
+    draft: &mut ScenarioDraft,
+    row: &ByteRecord,
+) -> Result<(), RecordError>
     ensures { Gives (λ _. draft.new) result (sector_step draft.old (fields_of row.now)) }
 {
     let place = sector_of(alloc, draft.day().periods, draft.places().names(), row)?;
@@ -99,7 +107,7 @@ fn sector_step(alloc: Global, draft: &mut Draft, row: &ByteRecord) -> Result<(),
 #[tactic(auto, unfolding(crate::specs::Reading::flight_step))]
 fn flight_step(
     alloc: Global,
-    draft: &mut Draft,
+    draft: &mut ScenarioDraft,
     number: u32,
     row: &ByteRecord,
 ) -> Result<(), RecordError>
@@ -111,7 +119,7 @@ fn flight_step(
 }
 
 #[tactic(auto, unfolding(crate::specs::Reading::leg_step))]
-fn leg_step(draft: &mut Draft, row: &ByteRecord) -> Result<(), RecordError>
+fn leg_step(draft: &mut ScenarioDraft, row: &ByteRecord) -> Result<(), RecordError>
     ensures { Gives (λ _. draft.new) result (leg_step draft.old (fields_of row.now)) }
 {
     let (flight, leg) = leg_in(draft, row)?;
@@ -120,7 +128,7 @@ fn leg_step(draft: &mut Draft, row: &ByteRecord) -> Result<(), RecordError>
 }
 
 #[tactic(auto, unfolding(crate::specs::Reading::connect_step))]
-fn connect_step(draft: &mut Draft, row: &ByteRecord) -> Result<(), RecordError>
+fn connect_step(draft: &mut ScenarioDraft, row: &ByteRecord) -> Result<(), RecordError>
     ensures { Gives (λ _. draft.new) result (connect_step draft.old (fields_of row.now)) }
 {
     let connection = connection_of(draft.flights(), draft.connections(), row)?;
@@ -129,7 +137,7 @@ fn connect_step(draft: &mut Draft, row: &ByteRecord) -> Result<(), RecordError>
 }
 
 #[tactic(auto, unfolding(crate::specs::Reading::table_step))]
-fn table_step(alloc: Global, draft: &mut Draft, row: &ByteRecord) -> Result<(), RecordError>
+fn table_step(alloc: Global, draft: &mut ScenarioDraft, row: &ByteRecord) -> Result<(), RecordError>
     ensures { Gives (λ _. draft.new) result (table_step draft.old (fields_of row.now)) }
 {
     let table = table_of(alloc, draft.tables().names(), row)?;
@@ -138,7 +146,7 @@ fn table_step(alloc: Global, draft: &mut Draft, row: &ByteRecord) -> Result<(), 
 }
 
 #[tactic(auto, unfolding(crate::specs::Reading::cost_step))]
-fn cost_step(draft: &mut Draft, row: &ByteRecord) -> Result<(), FieldFault>
+fn cost_step(draft: &mut ScenarioDraft, row: &ByteRecord) -> Result<(), FieldFault>
     ensures { Finds (λ _. draft.new) result (cost_step draft.old (fields_of row.now)) }
 {
     let pricing = pricing_of(draft.flights(), draft.tables(), row)?;
@@ -147,7 +155,7 @@ fn cost_step(draft: &mut Draft, row: &ByteRecord) -> Result<(), FieldFault>
 }
 
 #[tactic(auto, unfolding(crate::specs::Reading::cap_step))]
-fn cap_step(draft: &mut Draft, row: &ByteRecord) -> Result<(), FieldFault>
+fn cap_step(draft: &mut ScenarioDraft, row: &ByteRecord) -> Result<(), FieldFault>
     ensures { Finds (λ _. draft.new) result (cap_step draft.old (fields_of row.now)) }
 {
     let change = cap_change_of(draft.day().periods, draft.places(), row)?;
@@ -164,7 +172,7 @@ fn fault_of_kind(cause: Cause) -> RecordError
 // What a record of this kind does.
 fn step_of(
     alloc: Global,
-    draft: &mut Draft,
+    draft: &mut ScenarioDraft,
     number: u32,
     row: &ByteRecord,
     kind: Option<Kind>,
@@ -190,7 +198,7 @@ fn step_of(
 #[tactic(auto, unfolding(crate::specs::Reading::record_step))]
 pub fn record_step(
     alloc: Global,
-    draft: &mut Draft,
+    draft: &mut ScenarioDraft,
     number: u32,
     row: &ByteRecord,
 ) -> Result<(), RecordError>
@@ -216,10 +224,10 @@ fn day_by_kind(row: &ByteRecord, kind: Option<Kind>) -> Result<Day, FieldFault>
 
 /// The draft after the first record.
 #[tactic(auto, unfolding(crate::specs::Reading::first_step))]
-pub fn first_step(alloc: Global, row: &ByteRecord) -> Result<Draft, FieldFault>
+pub fn first_step(alloc: Global, row: &ByteRecord) -> Result<ScenarioDraft, FieldFault>
     ensures { Finds (λ draft. draft) result (first_step (fields_of row.now)) }
 {
     let kind = kind_of(field_in(row, 1)?);
     let day = day_by_kind(row, kind)?;
-    Ok(Draft::of_day(alloc, day))
+    Ok(ScenarioDraft::of_day(alloc, day))
 }

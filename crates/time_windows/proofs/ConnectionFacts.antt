@@ -16,7 +16,7 @@ use Rattle.time_windows.specs.Boxes.{Box, IsProper, IsWindowWithin, width_of}
 use Rattle.time_windows.specs.Held.{access_at}
 use Rattle.time_windows.specs.Narrowing.{AreSound, AreTightRows, AreWaiting, IsDone, IsLowered, IsRaised, IsSetAt, IsSettled, IsSound, IsStep, KeepsAt, Narrows, arrives_at, leaves_at, total_width}
 use Rattle.time_windows.specs.Steps.{below_limit, entry_of, from_entry, limit_of, never}
-use Rattle.time_windows.specs.Tight.{IsTight, IsTightRow, IsTightTurn, IsWayIn, IsWayOut, KeepsEnds, LeadsOn, LeadsTo, last_of}
+use Rattle.time_windows.specs.Tight.{IsTight, IsTightRow, IsTightTurn, IsLegIn, IsLegOut, KeepsEnds, LeadsOn, LeadsTo, last_of}
 use Rattle.time_windows.specs.declared.ends.End.{End}
 use Rattle.time_windows.specs.declared.ends.End.TheVariants.{Arrival, Departure}
 use Rattle.time_windows.specs.declared.turns.Turn.{Turn}
@@ -30,30 +30,30 @@ use Rattle.number_set.proofs.FewFacts.{count_few, count_less}
 use Rattle.time_windows.proofs.WindowFacts.{below_limit_is, below_limit_keeps, entry_from_leads, from_entry_is, from_entry_keeps, limit_from_leads, width_within}
 
 -- a row that says the same is as tight
-way_in_same : (a b : ℕ → Access) → ((n : ℕ) → b n ≡ a n) → (n : ℕ) (window : Window) (leg : Leg)
-    → IsWayIn a n window leg → IsWayIn b n window leg
-way_in_same a b same n window leg way = record {
-  to = way.to;
-  time = subst (λ (x : Access). LeadsTo x.window leg.least window) (sym (same leg.from)) way.time;
+leg_in_same : (a b : ℕ → Access) → ((n : ℕ) → b n ≡ a n) → (n : ℕ) (window : Window) (leg : Leg)
+    → IsLegIn a n window leg → IsLegIn b n window leg
+leg_in_same a b same n window leg joins = record {
+  to = joins.to;
+  time = subst (λ (x : Access). LeadsTo x.window leg.least window) (sym (same leg.from)) joins.time;
 }
 
-way_out_same : (a b : ℕ → Access) → ((n : ℕ) → b n ≡ a n) → (n : ℕ) (window : Window) (leg : Leg)
-    → IsWayOut a n window leg → IsWayOut b n window leg
-way_out_same a b same n window leg way = record {
-  from = way.from;
-  time = subst (λ (x : Access). LeadsOn x.window leg.least window) (sym (same leg.to)) way.time;
+leg_out_same : (a b : ℕ → Access) → ((n : ℕ) → b n ≡ a n) → (n : ℕ) (window : Window) (leg : Leg)
+    → IsLegOut a n window leg → IsLegOut b n window leg
+leg_out_same a b same n window leg joins = record {
+  from = joins.from;
+  time = subst (λ (x : Access). LeadsOn x.window leg.least window) (sym (same leg.to)) joins.time;
 }
 
 row_same : (flight : Flight) (a b : ℕ → Access) → ((n : ℕ) → b n ≡ a n) → IsTightRow flight a
     → IsTightRow flight b
 row_same flight a b same tight = record {
   proper = λ n. subst (λ (x : Access). IsProper x.window) (sym (same n)) (tight.proper n);
-  entered = λ n window pos below is. any_map (IsWayIn a n window) (IsWayIn b n window) flight.legs
-      (λ leg on way. way_in_same a b same n window leg way)
+  entered = λ n window pos below is. any_map (IsLegIn a n window) (IsLegIn b n window) flight.legs
+      (λ leg on joins. leg_in_same a b same n window leg joins)
       (tight.entered n window pos below
       (subst (λ (x : Access). x.window ≡ Some window) (same n) is));
-  left = λ n window below is. any_map (IsWayOut a n window) (IsWayOut b n window) flight.legs
-      (λ leg on way. way_out_same a b same n window leg way)
+  left = λ n window below is. any_map (IsLegOut a n window) (IsLegOut b n window) flight.legs
+      (λ leg on joins. leg_out_same a b same n window leg joins)
       (tight.left n window below
       (subst (λ (x : Access). x.window ≡ Some window) (same n) is));
 }

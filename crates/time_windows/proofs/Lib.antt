@@ -10,7 +10,7 @@ pub mod ConnectionFacts
 pub mod LinkFacts
 pub mod CellFacts
 pub mod GroupFacts
-pub mod WayFacts
+pub mod LegGroupFacts
 pub mod RootFacts
 pub mod BoxFacts
 pub mod TripFacts

@@ -12,17 +12,17 @@ use Rattle.time_windows.specs.declared.access.Window.{Window}
 use Rattle.time_windows.specs.Boxes.{Box, IsWithin}
 use Rattle.time_windows.specs.Groups.{Grouped}
 use Rattle.time_windows.specs.Held.{access_at}
-use Rattle.time_windows.specs.Narrowing.{AreEntered, AreLeft, AreSound, AreWaysAt, IsLoweredTo, IsSetAt, IsSound, NarrowsRow}
+use Rattle.time_windows.specs.Narrowing.{AreEntered, AreLeft, AreSound, AreLegGroupsAt, IsLoweredTo, IsSetAt, IsSound, NarrowsRow}
 use Rattle.time_windows.specs.Steps.{below_limit, latest_limit, legs_of}
-use Rattle.time_windows.specs.Tight.{IsWayIn, IsWayOut, LeadsOn, LeadsTo}
+use Rattle.time_windows.specs.Tight.{IsLegIn, IsLegOut, LeadsOn, LeadsTo}
 use Rattle.time_windows.proofs.AnyFacts.{any_keeps, any_kept, any_map}
 use Rattle.time_windows.proofs.EntryFacts.{IsLimitBy, limit_by, limit_cases}
 use Rattle.time_windows.proofs.NarrowFacts.{set_narrows_row, set_other}
 use Rattle.time_windows.proofs.WindowFacts.{below_limit_is, below_limit_keeps, below_limit_open, below_limit_sound, below_limit_within, leads_from_limit, leads_same, limit_from_leads}
 
 -- the window that the limit leaves at the node is set
-module _ (ways : Grouped Leg) (flight : Flight) (number node : ℕ) (old new : List Access)
-    (at : AreWaysAt ways number flight) (node_in : node + 1 < length flight.nodes)
+module _ (leg_groups : Grouped Leg) (flight : Flight) (number node : ℕ) (old new : List Access)
+    (at : AreLegGroupsAt leg_groups number flight) (node_in : node + 1 < length flight.nodes)
     (sound : AreSound old) (lowered : IsLoweredTo flight (access_at old number) (node + 1))
     (set : IsSetAt number node (below_limit (access_at old number node).window
     (latest_limit (access_at old number) (legs_of flight node) 0)) old new) where
@@ -39,13 +39,13 @@ module _ (ways : Grouped Leg) (flight : Flight) (number node : ℕ) (old new : L
       limit_by (access_at old number) (legs_of flight node) 0 k
       (any_keeps (λ leg. leg.from == node) (IsLimitBy (access_at old number) k) flight.legs any)
 
-  by_way : (other : Box) (o : Window) → IsWithin other (access_at old) → (leg : Leg)
-      → Contains flight.legs leg → IsWayOut (other number) node o leg
+  by_leg : (other : Box) (o : Window) → IsWithin other (access_at old) → (leg : Leg)
+      → Contains flight.legs leg → IsLegOut (other number) node o leg
       → (leg.from == node ≡ true) × IsLimitBy (access_at old number) (o.hi + 1) leg
-  by_way other o inside leg on way = (
-    (Decides-eqb leg.from node).1 way.from,
+  by_leg other o inside leg on joins = (
+    (Decides-eqb leg.from node).1 joins.from,
     limit_from_leads (other number leg.to).window (access_at old number leg.to).window leg.least
-        o (inside.windows number leg.to) way.time,
+        o (inside.windows number leg.to) joins.time,
   )
 
   pub lower_narrows : NarrowsRow flight number old new
@@ -55,44 +55,44 @@ module _ (ways : Grouped Leg) (flight : Flight) (number node : ℕ) (old new : L
       (below_limit_within was limit) (below_limit_sound was limit (sound number node))
       (λ other tight inside. below_limit_keeps (other number node).window was limit
       (tight.proper node) (inside.windows number node)
-      (λ o is. limit_of_leg (o.hi + 1) (any_map (IsWayOut (other number) node o)
+      (λ o is. limit_of_leg (o.hi + 1) (any_map (IsLegOut (other number) node o)
       (λ leg. (leg.from == node ≡ true) × IsLimitBy (access_at old number) (o.hi + 1) leg)
-      flight.legs (by_way other o inside) (tight.left node o node_in is))))
+      flight.legs (by_leg other o inside) (tight.left node o node_in is))))
 
   same_apart : (n : ℕ) → n ≢ node → access_at new number n ≡ access_at old number n
   same_apart n apart =
       set_other number node n (below_limit (access_at old number node).window limit) old new set
       apart
 
-  -- a way out to another node is as before
+  -- a leg out to another node is as before
   out_same : (n : ℕ) (window : Window) → node ≤ n → (leg : Leg) → Contains flight.legs leg
-      → IsWayOut (access_at old number) n window leg → IsWayOut (access_at new number) n window leg
-  out_same n window from leg on way = record {
-    from = way.from;
+      → IsLegOut (access_at old number) n window leg → IsLegOut (access_at new number) n window leg
+  out_same n window from leg on joins = record {
+    from = joins.from;
     time = subst (λ (a : Access). LeadsOn a.window leg.least window)
-        (sym (same_apart leg.to (λ e. omega (arith, (upward leg on).upward, way.from)))) way.time;
+        (sym (same_apart leg.to (λ e. omega (arith, (upward leg on).upward, joins.from)))) joins.time;
   }
 
   out_of_limit : (window : Window) (leg : Leg)
       → (leg.from == node ≡ true) × IsLimitBy (access_at old number) (window.hi + 1) leg
-      → IsWayOut (access_at old number) node window leg
+      → IsLegOut (access_at old number) node window leg
   out_of_limit window leg by = record {
     from = (Decides-eqb leg.from node).0 by.0;
     time = leads_from_limit (access_at old number leg.to).window leg.least window by.1;
   }
 
   left_here : (window : Window) → (access_at new number node).window ≡ Some window
-      → Any (IsWayOut (access_at new number) node window) flight.legs
+      → Any (IsLegOut (access_at new number) node window) flight.legs
   left_here window is =
       let was = (access_at old number node).window in
       let ended = below_limit_is was limit window (sym set.here ∙ is) in
       let early : window.hi + 1 ≤ limit = omega (arith, ended.hi, ended.fits) in
       elim (limit_cases (access_at old number) (legs_of flight node) 0 (window.hi + 1) early)
-      as (λ _. Any (IsWayOut (access_at new number) node window) flight.legs) [
+      as (λ _. Any (IsLegOut (access_at new number) node window) flight.legs) [
         | inl none ↦ absurd (omega arith)
         | inr by ↦ any_map (λ leg. (leg.from == node ≡ true)
             × IsLimitBy (access_at old number) (window.hi + 1) leg)
-            (IsWayOut (access_at new number) node window) flight.legs
+            (IsLegOut (access_at new number) node window) flight.legs
             (λ leg on late. out_same node window (omega arith) leg on
             (out_of_limit window leg late))
             (any_kept (λ leg. leg.from == node) (IsLimitBy (access_at old number) (window.hi + 1))
@@ -101,17 +101,17 @@ module _ (ways : Grouped Leg) (flight : Flight) (number node : ℕ) (old new : L
 
   lower_left : AreLeft flight (access_at new number) node
   lower_left n window from below is =
-      elim (cases_eq n node) as (λ _. Any (IsWayOut (access_at new number) n window) flight.legs) [
+      elim (cases_eq n node) as (λ _. Any (IsLegOut (access_at new number) n window) flight.legs) [
         | inl here ↦ rw here (left_here window
             (subst (λ m. (access_at new number m).window ≡ Some window) here is))
-        | inr apart ↦ any_map (IsWayOut (access_at old number) n window)
-            (IsWayOut (access_at new number) n window) flight.legs
-            (λ leg on way. out_same n window from leg on way)
+        | inr apart ↦ any_map (IsLegOut (access_at old number) n window)
+            (IsLegOut (access_at new number) n window) flight.legs
+            (λ leg on joins. out_same n window from leg on joins)
             (lowered.left n window (omega (arith, apart)) below
             (subst (λ (a : Access). a.window ≡ Some window) (same_apart n apart) is))
       ]
 
-  -- a way in from the node: it stays open, with the same start
+  -- a leg in from the node: it stays open, with the same start
   in_from_node : (n : ℕ) (v w : Window) (leg : Leg) → Contains flight.legs leg
       → (access_at old number n).window ≡ Some v → leg.to ≡ n → leg.from ≡ node
       → (access_at old number node).window ≡ Some w → w.lo + leg.least ≤ v.lo
@@ -130,53 +130,53 @@ module _ (ways : Grouped Leg) (flight : Flight) (number node : ℕ) (old new : L
   old_start None leg v leads = absurd leads
   old_start (Some w) leg v leads = (w, refl, leads)
 
-  -- a way into another node is kept
+  -- a leg into another node is kept
   in_kept : (n : ℕ) (v : Window) (leg : Leg) → Contains flight.legs leg
-      → (access_at old number n).window ≡ Some v → IsWayIn (access_at old number) n v leg
-      → (leg.from ≡ node) ⊎ (leg.from ≢ node) → IsWayIn (access_at new number) n v leg
-  in_kept n v leg on is way (inr apart) = record {
-    to = way.to;
+      → (access_at old number n).window ≡ Some v → IsLegIn (access_at old number) n v leg
+      → (leg.from ≡ node) ⊎ (leg.from ≢ node) → IsLegIn (access_at new number) n v leg
+  in_kept n v leg on is joins (inr apart) = record {
+    to = joins.to;
     time = subst (λ (a : Access). LeadsTo a.window leg.least v) (sym (same_apart leg.from apart))
-        way.time;
+        joins.time;
   }
-  in_kept n v leg on is way (inl from) =
+  in_kept n v leg on is joins (inl from) =
       let start = old_start (access_at old number node).window leg v
-      (subst (λ m. LeadsTo (access_at old number m).window leg.least v) from way.time) in
+      (subst (λ m. LeadsTo (access_at old number m).window leg.least v) from joins.time) in
       record {
-        to = way.to;
-        time = rw from (in_from_node n v start.0 leg on is way.to from start.1 start.2);
+        to = joins.to;
+        time = rw from (in_from_node n v start.0 leg on is joins.to from start.1 start.2);
       }
 
-  -- a way into the node itself, whose start is as before
+  -- a leg into the node itself, whose start is as before
   in_here : (v w : Window) → v.lo ≡ w.lo → (leg : Leg) → Contains flight.legs leg
-      → IsWayIn (access_at old number) node w leg → IsWayIn (access_at new number) node v leg
-  in_here v w same leg on way = record {
-    to = way.to;
+      → IsLegIn (access_at old number) node w leg → IsLegIn (access_at new number) node v leg
+  in_here v w same leg on joins = record {
+    to = joins.to;
     time = subst (λ (a : Access). LeadsTo a.window leg.least v)
-        (sym (same_apart leg.from (λ e. omega (arith, (upward leg on).upward, way.to))))
-        (leads_same (access_at old number leg.from).window leg.least w v (sym same) way.time);
+        (sym (same_apart leg.from (λ e. omega (arith, (upward leg on).upward, joins.to))))
+        (leads_same (access_at old number leg.from).window leg.least w v (sym same) joins.time);
   }
 
   entered_at : (v : Window) → 0 < node → (access_at new number node).window ≡ Some v
-      → Any (IsWayIn (access_at new number) node v) flight.legs
+      → Any (IsLegIn (access_at new number) node v) flight.legs
   entered_at v pos is =
       let was = (access_at old number node).window in
       let ended = below_limit_is was limit v (sym set.here ∙ is) in
-      any_map (IsWayIn (access_at old number) node ended.from)
-      (IsWayIn (access_at new number) node v) flight.legs
-      (λ leg on way. in_here v ended.from ended.lo leg on way)
+      any_map (IsLegIn (access_at old number) node ended.from)
+      (IsLegIn (access_at new number) node v) flight.legs
+      (λ leg on joins. in_here v ended.from ended.lo leg on joins)
       (lowered.entered node ended.from pos (omega arith) ended.was)
 
   lower_entered : AreEntered flight (access_at new number) (length flight.nodes)
   lower_entered n v pos below is =
-      elim (cases_eq n node) as (λ _. Any (IsWayIn (access_at new number) n v) flight.legs) [
+      elim (cases_eq n node) as (λ _. Any (IsLegIn (access_at new number) n v) flight.legs) [
         | inl here ↦ rw here (entered_at v (omega arith)
             (subst (λ m. (access_at new number m).window ≡ Some v) here is))
         | inr apart ↦
             let was : (access_at old number n).window ≡ Some v =
             subst (λ (a : Access). a.window ≡ Some v) (same_apart n apart) is in
-            any_map (IsWayIn (access_at old number) n v) (IsWayIn (access_at new number) n v)
-            flight.legs (λ leg on way. in_kept n v leg on was way (cases_eq leg.from node))
+            any_map (IsLegIn (access_at old number) n v) (IsLegIn (access_at new number) n v)
+            flight.legs (λ leg on joins. in_kept n v leg on was joins (cases_eq leg.from node))
             (lowered.entered n v pos below was)
       ]
 

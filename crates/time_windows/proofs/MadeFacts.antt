@@ -6,7 +6,7 @@ use Rattle.flow_types.specs.Trips.{earliest_of, latest_of}
 use Rattle.time_windows.specs.declared.access.Access.{Access}
 use Rattle.time_windows.specs.declared.access.Window.{Window}
 use Rattle.time_windows.specs.Boxes.{Box, IsBoxOf, IsWindowWithin, IsWithin, closed, root_box, root_row}
-use Rattle.time_windows.specs.Held.{AreWaysOf, Held, IsMadeFor, box_of}
+use Rattle.time_windows.specs.Held.{AreLegGroupsOf, Held, IsMadeFor, box_of}
 use Rattle.time_windows.specs.Splits.{IsBranching, after, early_branch, late_branch, until}
 use Rattle.time_windows.specs.Tight.{IsTightened}
 use Rattle.time_windows.specs.Turns.{AreTurnsOf}
@@ -118,33 +118,33 @@ same_inside parts box other is inside = record {
 }
 
 pub early_made : (parts : Parts) (old new : Held) (flight node time : ℕ)
-    → IsMadeFor parts old → IsBranching (box_of old flight node) time → new.ways ≡ old.ways →
+    → IsMadeFor parts old → IsBranching (box_of old flight node) time → new.leg_groups ≡ old.leg_groups →
     new.turns ≡ old.turns
     → ((f n : ℕ) → box_of new f n ≡ early_branch flight node time (box_of old) f n)
     → IsMadeFor parts new
-early_made parts old new flight node time made branching ways turns is = record {
-  ways = subst (AreWaysOf parts) (sym ways) made.ways;
+early_made parts old new flight node time made branching leg_groups turns is = record {
+  leg_groups = subst (AreLegGroupsOf parts) (sym leg_groups) made.leg_groups;
   turns = subst (AreTurnsOf parts) (sym turns) made.turns;
   inside = same_inside parts (early_branch flight node time (box_of old)) (box_of new) is
       (early_inside parts (box_of old) flight node time branching made.inside);
 }
 
 pub late_made : (parts : Parts) (old new : Held) (flight node time : ℕ)
-    → IsMadeFor parts old → IsBranching (box_of old flight node) time → new.ways ≡ old.ways →
+    → IsMadeFor parts old → IsBranching (box_of old flight node) time → new.leg_groups ≡ old.leg_groups →
     new.turns ≡ old.turns
     → ((f n : ℕ) → box_of new f n ≡ late_branch flight node time (box_of old) f n)
     → IsMadeFor parts new
-late_made parts old new flight node time made branching ways turns is = record {
-  ways = subst (AreWaysOf parts) (sym ways) made.ways;
+late_made parts old new flight node time made branching leg_groups turns is = record {
+  leg_groups = subst (AreLegGroupsOf parts) (sym leg_groups) made.leg_groups;
   turns = subst (AreTurnsOf parts) (sym turns) made.turns;
   inside = same_inside parts (late_branch flight node time (box_of old)) (box_of new) is
       (late_inside parts (box_of old) flight node time branching made.inside);
 }
 
-pub tight_made : (parts : Parts) (old new : Held) → IsMadeFor parts old → new.ways ≡ old.ways
+pub tight_made : (parts : Parts) (old new : Held) → IsMadeFor parts old → new.leg_groups ≡ old.leg_groups
     → new.turns ≡ old.turns → IsTightened parts (box_of old) (box_of new) → IsMadeFor parts new
-tight_made parts old new made ways turns tight = record {
-  ways = subst (AreWaysOf parts) (sym ways) made.ways;
+tight_made parts old new made leg_groups turns tight = record {
+  leg_groups = subst (AreLegGroupsOf parts) (sym leg_groups) made.leg_groups;
   turns = subst (AreTurnsOf parts) (sym turns) made.turns;
   inside = within_inside parts (box_of old) (box_of new) tight.within made.inside;
 }

@@ -15,7 +15,7 @@ use Rattle.time_windows.specs.declared.access.Access.{Access}
 use Rattle.time_windows.specs.declared.access.Window.{Window}
 use Rattle.time_windows.specs.Boxes.{Box, IsInBox, IsInWindow, IsProper, IsWindowWithin, IsWithin}
 use Rattle.time_windows.specs.Held.{access_at}
-use Rattle.time_windows.specs.Tight.{IsTight, IsTightRow, IsTightTurn, IsTightened, IsWayIn, IsWayOut, KeepsEnds}
+use Rattle.time_windows.specs.Tight.{IsTight, IsTightRow, IsTightTurn, IsTightened, IsLegIn, IsLegOut, KeepsEnds}
 use Rattle.time_windows.proofs.RootFacts.{flight_in, if_eq}
 use Rattle.time_windows.proofs.TripFacts.{at_here, at_node, at_skip, at_within, each_at, entered_on, last_at, left_on, moment, moment_in, trip_row}
 
@@ -76,7 +76,7 @@ module _ (periods : ℕ) (flight : Flight)
     (upward : All (IsLeg (length flight.nodes)) flight.legs) (marks : ℕ → Bool) where
   entered_trip : (stops : List Stop) → IsTrip periods flight stops → (node : ℕ) (w : Window)
       → 0 < node → at_node stops node ≡ Some w
-      → Any (IsWayIn (trip_row marks stops) node w) flight.legs
+      → Any (IsLegIn (trip_row marks stops) node w) flight.legs
   entered_trip [] trip node w pos is = absurd trip
   entered_trip (stop ∷ rest) trip node w pos is =
       entered_on periods flight upward marks stop rest node w trip.2
@@ -84,7 +84,7 @@ module _ (periods : ℕ) (flight : Flight)
 
   left_trip : (stops : List Stop) → IsTrip periods flight stops → (node : ℕ) (w : Window)
       → node + 1 < length flight.nodes → at_node stops node ≡ Some w
-      → Any (IsWayOut (trip_row marks stops) node w) flight.legs
+      → Any (IsLegOut (trip_row marks stops) node w) flight.legs
   left_trip [] trip node w below is = absurd trip
   left_trip (stop ∷ rest) trip node w below is =
       left_on periods flight upward marks stop rest node w trip.2 below is

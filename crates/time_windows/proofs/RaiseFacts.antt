@@ -13,17 +13,17 @@ use Rattle.time_windows.specs.declared.access.Window.{Window}
 use Rattle.time_windows.specs.Boxes.{Box, IsProper, IsWindowWithin, IsWithin}
 use Rattle.time_windows.specs.Groups.{Grouped}
 use Rattle.time_windows.specs.Held.{access_at}
-use Rattle.time_windows.specs.Narrowing.{AreEntered, AreSound, AreWaysAt, IsLead, IsRaisedTo, IsSetAt, IsSound, NarrowsRow}
+use Rattle.time_windows.specs.Narrowing.{AreEntered, AreSound, AreLegGroupsAt, IsLead, IsRaisedTo, IsSetAt, IsSound, NarrowsRow}
 use Rattle.time_windows.specs.Steps.{entry_of, from_entry, legs_of, never, with_entries}
-use Rattle.time_windows.specs.Tight.{IsTightRow, IsWayIn, LeadsTo}
+use Rattle.time_windows.specs.Tight.{IsTightRow, IsLegIn, LeadsTo}
 use Rattle.time_windows.proofs.AnyFacts.{any_keeps, any_kept, any_map}
 use Rattle.time_windows.proofs.EntryFacts.{IsEntryBy, entries_by, entries_cases, entries_kept, entries_length}
 use Rattle.time_windows.proofs.NarrowFacts.{set_narrows_row, set_other}
 use Rattle.time_windows.proofs.WindowFacts.{entry_from_leads, from_entry_is, from_entry_keeps, from_entry_sound, from_entry_within, leads_from_entry, start_low}
 
 -- the window that the entry leaves at the node is set
-module _ (ways : Grouped Leg) (flight : Flight) (number node : ℕ) (entries : List ℕ)
-    (old new : List Access) (at : AreWaysAt ways number flight)
+module _ (leg_groups : Grouped Leg) (flight : Flight) (number node : ℕ) (entries : List ℕ)
+    (old new : List Access) (at : AreLegGroupsAt leg_groups number flight)
     (node_in : node < length flight.nodes) (sound : AreSound old)
     (raised : IsRaisedTo flight (access_at old number) entries node)
     (set : IsSetAt number node
@@ -31,15 +31,15 @@ module _ (ways : Grouped Leg) (flight : Flight) (number node : ℕ) (entries : L
   upward : (leg : Leg) → Contains flight.legs leg → IsLeg (length flight.nodes) leg
   upward leg on = All-contains (IsLeg (length flight.nodes)) flight.legs leg at.legs on
 
-  -- a way into the node in a tight row leads there in the old one
-  lead_from_way : (other : Box) (o : Window) → IsWithin other (access_at old) → (leg : Leg)
-      → Contains flight.legs leg → IsWayIn (other number) node o leg
+  -- a leg into the node in a tight row leads there in the old one
+  lead_from_leg : (other : Box) (o : Window) → IsWithin other (access_at old) → (leg : Leg)
+      → Contains flight.legs leg → IsLegIn (other number) node o leg
       → IsLead (access_at old number) node node o.lo leg
-  lead_from_way other o inside leg on way = record {
-    from = omega (arith, (upward leg on).upward, way.to);
-    to = way.to;
+  lead_from_leg other o inside leg on joins = record {
+    from = omega (arith, (upward leg on).upward, joins.to);
+    to = joins.to;
     time = entry_from_leads (other number leg.from).window (access_at old number leg.from).window
-        leg.least o (inside.windows number leg.from) way.time;
+        leg.least o (inside.windows number leg.from) joins.time;
   }
 
   late_enough : (other : Box) → IsTightRow flight (other number) → IsWithin other (access_at old)
@@ -53,8 +53,8 @@ module _ (ways : Grouped Leg) (flight : Flight) (number node : ℕ) (entries : L
       let proper : o.lo ≤ o.hi = subst IsProper is (tight.proper node) in
       raised.below node o.lo (omega (arith, at.few))
       (start_low (access_at old number node).window o (sound number node) in_old proper)
-      (any_map (IsWayIn (other number) node o) (IsLead (access_at old number) node node o.lo)
-      flight.legs (lead_from_way other o inside)
+      (any_map (IsLegIn (other number) node o) (IsLead (access_at old number) node node o.lo)
+      flight.legs (lead_from_leg other o inside)
       (tight.entered node o (omega arith) node_in is))
 
   pub raise_narrows : NarrowsRow flight number old new
@@ -73,45 +73,45 @@ module _ (ways : Grouped Leg) (flight : Flight) (number node : ℕ) (entries : L
       (from_entry (access_at old number node).window (get_or entries node 0)) old new set
       (λ e. omega arith)
 
-  -- a way in from before the node is as before
-  way_same : (n : ℕ) (window : Window) → n ≤ node → (leg : Leg) → Contains flight.legs leg
-      → IsWayIn (access_at old number) n window leg → IsWayIn (access_at new number) n window leg
-  way_same n window upto leg on way = record {
-    to = way.to;
+  -- a leg in from before the node is as before
+  leg_same : (n : ℕ) (window : Window) → n ≤ node → (leg : Leg) → Contains flight.legs leg
+      → IsLegIn (access_at old number) n window leg → IsLegIn (access_at new number) n window leg
+  leg_same n window upto leg on joins = record {
+    to = joins.to;
     time = subst (λ (a : Access). LeadsTo a.window leg.least window)
-        (sym (same_before leg.from (omega (arith, (upward leg on).upward, way.to)))) way.time;
+        (sym (same_before leg.from (omega (arith, (upward leg on).upward, joins.to)))) joins.time;
   }
 
-  way_from_lead : (window : Window) → window.lo < never → (leg : Leg)
+  leg_from_lead : (window : Window) → window.lo < never → (leg : Leg)
       → IsLead (access_at old number) node node window.lo leg
-      → IsWayIn (access_at old number) node window leg
-  way_from_lead window low leg lead = record {
+      → IsLegIn (access_at old number) node window leg
+  leg_from_lead window low leg lead = record {
     to = lead.to;
     time = leads_from_entry (access_at old number leg.from).window leg.least window low
         lead.time;
   }
 
   entered_here : (window : Window) → 0 < node → (access_at new number node).window ≡ Some window
-      → Any (IsWayIn (access_at new number) node window) flight.legs
+      → Any (IsLegIn (access_at new number) node window) flight.legs
   entered_here window pos is =
       let was = (access_at old number node).window in
       let left = from_entry_is was (get_or entries node 0) window (sym set.here ∙ is) in
       let bounds : IsSound (Some left.from) = subst IsSound left.was (sound number node) in
       let low : window.lo < never = omega (arith, left.lo, left.fits, bounds.0, bounds.1) in
       any_map (IsLead (access_at old number) node node window.lo)
-      (IsWayIn (access_at new number) node window) flight.legs
-      (λ leg on lead. way_same node window (omega arith) leg on
-      (way_from_lead window low leg lead))
+      (IsLegIn (access_at new number) node window) flight.legs
+      (λ leg on lead. leg_same node window (omega arith) leg on
+      (leg_from_lead window low leg lead))
       (raised.reached node window.lo pos (omega (arith, at.few)) low (omega (arith, left.lo)))
 
   raise_entered : AreEntered flight (access_at new number) (node + 1)
   raise_entered n window pos below is =
-      elim (cases_eq n node) as (λ _. Any (IsWayIn (access_at new number) n window) flight.legs) [
+      elim (cases_eq n node) as (λ _. Any (IsLegIn (access_at new number) n window) flight.legs) [
         | inl here ↦ rw here (entered_here window (omega arith)
             (subst (λ m. (access_at new number m).window ≡ Some window) here is))
-        | inr apart ↦ any_map (IsWayIn (access_at old number) n window)
-            (IsWayIn (access_at new number) n window) flight.legs
-            (λ leg on way. way_same n window (omega arith) leg on way)
+        | inr apart ↦ any_map (IsLegIn (access_at old number) n window)
+            (IsLegIn (access_at new number) n window) flight.legs
+            (λ leg on joins. leg_same n window (omega arith) leg on joins)
             (raised.entered n window pos (omega arith)
             (subst (λ (a : Access). a.window ≡ Some window)
             (same_before n (omega arith)) is))

@@ -1,4 +1,4 @@
--- A flight whose windows have ways in and out.
+-- A flight whose windows have legs in and out.
 use Rattle.std.proofs.Common.{◌≡◌, ℕ, ◌<◌, List, get_or, set, replicate, Option, Some, slice_get, refl, ◌∙◌, subst, arith}
 use Rattle.std.proofs.lemmas.List.{get_or-replicate, get_or-set_other}
 use Rattle.flow_types.specs.declared.flight.Flight.{Flight}
@@ -7,8 +7,8 @@ use Rattle.flow_types.specs.declared.parts.Parts.{Parts}
 use Rattle.flow_types.specs.Valid.{IsScenario}
 use Rattle.time_windows.specs.declared.access.Access.{Access}
 use Rattle.time_windows.specs.Groups.{Grouped}
-use Rattle.time_windows.specs.Held.{AreWaysOf, access_at}
-use Rattle.time_windows.specs.Narrowing.{AreWaysAt, IsLoweredTo, IsRaisedTo, IsSettled, NarrowsRow}
+use Rattle.time_windows.specs.Held.{AreLegGroupsOf, access_at}
+use Rattle.time_windows.specs.Narrowing.{AreLegGroupsAt, IsLoweredTo, IsRaisedTo, IsSettled, NarrowsRow}
 use Rattle.time_windows.specs.Steps.{never}
 use Rattle.time_windows.specs.Tight.{IsTight, IsTightRow}
 use Rattle.time_windows.proofs.NarrowFacts.{narrows_for, row_then}
@@ -61,10 +61,10 @@ settled parts number flight old mid new is first second lowered =
     }
 
 -- the groups of a flight
-pub ways_at : (parts : Parts) (number : ℕ) (flight : Flight) (ways : Grouped Leg)
-    → IsScenario parts → slice_get parts.flights number ≡ Some flight → AreWaysOf parts ways
-    → AreWaysAt ways number flight
-ways_at parts number flight ways valid is groups =
+pub leg_groups_at : (parts : Parts) (number : ℕ) (flight : Flight) (leg_groups : Grouped Leg)
+    → IsScenario parts → slice_get parts.flights number ≡ Some flight → AreLegGroupsOf parts leg_groups
+    → AreLegGroupsAt leg_groups number flight
+leg_groups_at parts number flight leg_groups valid is groups =
     let route = (flight_in parts number flight valid is).route in
     record {
       groups = λ n below. groups number n flight is below;

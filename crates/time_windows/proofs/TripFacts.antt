@@ -11,7 +11,7 @@ use Rattle.flow_types.specs.Trips.{IsLegBetween, IsOnward, IsStep, IsWithinHours
 use Rattle.time_windows.specs.declared.access.Access.{Access}
 use Rattle.time_windows.specs.declared.access.Window.{Window}
 use Rattle.time_windows.specs.Boxes.{IsInWindow, IsWindowWithin}
-use Rattle.time_windows.specs.Tight.{IsWayIn, IsWayOut, LeadsOn, LeadsTo}
+use Rattle.time_windows.specs.Tight.{IsLegIn, IsLegOut, LeadsOn, LeadsTo}
 use Rattle.time_windows.proofs.AnyFacts.{any_here, any_map, any_there}
 use Rattle.time_windows.proofs.RootFacts.{if_eq}
 
@@ -88,7 +88,7 @@ module _ (periods : ℕ) (flight : Flight)
 
   in_here : (marks : ℕ → Bool) (stop next : Stop) (more : List Stop) (node : ℕ) (w : Window)
       → next.node ≡ node → moment next.time ≡ w → (leg : Leg) → IsLegBetween stop next leg
-      → IsWayIn (trip_row marks (stop ∷ next ∷ more)) node w leg
+      → IsLegIn (trip_row marks (stop ∷ next ∷ more)) node w leg
   in_here marks stop next more node w here same leg between = record {
     to = between.to ∙ here;
     time = rw (at_here stop (next ∷ more) leg.from (sym between.from), ← same) between.least;
@@ -96,30 +96,30 @@ module _ (periods : ℕ) (flight : Flight)
 
   in_later : (marks : ℕ → Bool) (stop : Stop) (rest : List Stop) (node : ℕ) (w : Window)
       → IsOnward periods flight stop rest → (leg : Leg)
-      → IsWayIn (trip_row marks rest) node w leg
-      → IsWayIn (trip_row marks (stop ∷ rest)) node w leg
-  in_later marks stop rest node w onward leg way =
-      let there = leads_some (at_node rest leg.from) leg.least w way.time in
+      → IsLegIn (trip_row marks rest) node w leg
+      → IsLegIn (trip_row marks (stop ∷ rest)) node w leg
+  in_later marks stop rest node w onward leg joins =
+      let there = leads_some (at_node rest leg.from) leg.least w joins.time in
       record {
-        to = way.to;
-        time = rw (at_rest stop rest leg.from there.0 onward there.1) way.time;
+        to = joins.to;
+        time = rw (at_rest stop rest leg.from there.0 onward there.1) joins.time;
       }
 
   -- each entry but the first is led up to
   pub entered_on : (marks : ℕ → Bool) (stop : Stop) (rest : List Stop) (node : ℕ) (w : Window)
       → IsOnward periods flight stop rest → at_node rest node ≡ Some w
-      → Any (IsWayIn (trip_row marks (stop ∷ rest)) node w) flight.legs
+      → Any (IsLegIn (trip_row marks (stop ∷ rest)) node w) flight.legs
   entered_on marks stop [] node w onward is = absurd cc
   entered_on marks stop (next ∷ more) node w onward is =
       elim (cases_eq next.node node)
-      as (λ _. Any (IsWayIn (trip_row marks (stop ∷ next ∷ more)) node w) flight.legs) [
+      as (λ _. Any (IsLegIn (trip_row marks (stop ∷ next ∷ more)) node w) flight.legs) [
         | inl here ↦ any_map (IsLegBetween stop next)
-            (IsWayIn (trip_row marks (stop ∷ next ∷ more)) node w) flight.legs
+            (IsLegIn (trip_row marks (stop ∷ next ∷ more)) node w) flight.legs
             (λ leg on between. in_here marks stop next more node w here
             (same_moment w next.time (sym (at_here next more node here) ∙ is)) leg between) onward.0
-        | inr apart ↦ any_map (IsWayIn (trip_row marks (next ∷ more)) node w)
-            (IsWayIn (trip_row marks (stop ∷ next ∷ more)) node w) flight.legs
-            (λ leg on way. in_later marks stop (next ∷ more) node w onward leg way)
+        | inr apart ↦ any_map (IsLegIn (trip_row marks (next ∷ more)) node w)
+            (IsLegIn (trip_row marks (stop ∷ next ∷ more)) node w) flight.legs
+            (λ leg on joins. in_later marks stop (next ∷ more) node w onward leg joins)
             (entered_on marks next more node w onward.2
             (sym (at_skip next more node apart) ∙ is))
       ]
@@ -127,7 +127,7 @@ module _ (periods : ℕ) (flight : Flight)
   out_here : (marks : ℕ → Bool) (stop next : Stop) (more : List Stop) (node : ℕ) (w : Window)
       → IsOnward periods flight stop (next ∷ more) → stop.node ≡ node → moment stop.time ≡ w
       → (leg : Leg) → IsLegBetween stop next leg
-      → IsWayOut (trip_row marks (stop ∷ next ∷ more)) node w leg
+      → IsLegOut (trip_row marks (stop ∷ next ∷ more)) node w leg
   out_here marks stop next more node w onward here same leg between =
       let there = at_here next more leg.to (sym between.to) in
       record {
@@ -138,13 +138,13 @@ module _ (periods : ℕ) (flight : Flight)
 
   out_later : (marks : ℕ → Bool) (stop : Stop) (rest : List Stop) (node : ℕ) (w : Window)
       → IsOnward periods flight stop rest → (leg : Leg)
-      → IsWayOut (trip_row marks rest) node w leg
-      → IsWayOut (trip_row marks (stop ∷ rest)) node w leg
-  out_later marks stop rest node w onward leg way =
-      let there = leads_on_some (at_node rest leg.to) leg.least w way.time in
+      → IsLegOut (trip_row marks rest) node w leg
+      → IsLegOut (trip_row marks (stop ∷ rest)) node w leg
+  out_later marks stop rest node w onward leg joins =
+      let there = leads_on_some (at_node rest leg.to) leg.least w joins.time in
       record {
-        from = way.from;
-        time = rw (at_rest stop rest leg.to there.0 onward there.1) way.time;
+        from = joins.from;
+        time = rw (at_rest stop rest leg.to there.0 onward there.1) joins.time;
       }
 
   out_last : (marks : ℕ → Bool) (stop : Stop) (node : ℕ) (w : Window)
@@ -158,20 +158,20 @@ module _ (periods : ℕ) (flight : Flight)
   pub left_on : (marks : ℕ → Bool) (stop : Stop) (rest : List Stop) (node : ℕ) (w : Window)
       → IsOnward periods flight stop rest → node + 1 < length flight.nodes
       → at_node (stop ∷ rest) node ≡ Some w
-      → Any (IsWayOut (trip_row marks (stop ∷ rest)) node w) flight.legs
+      → Any (IsLegOut (trip_row marks (stop ∷ rest)) node w) flight.legs
   left_on marks stop [] node w onward below is =
       absurd (out_last marks stop node w onward below is)
   left_on marks stop (next ∷ more) node w onward below is =
       elim (cases_eq stop.node node)
-      as (λ _. Any (IsWayOut (trip_row marks (stop ∷ next ∷ more)) node w) flight.legs) [
+      as (λ _. Any (IsLegOut (trip_row marks (stop ∷ next ∷ more)) node w) flight.legs) [
         | inl here ↦ any_map (IsLegBetween stop next)
-            (IsWayOut (trip_row marks (stop ∷ next ∷ more)) node w) flight.legs
+            (IsLegOut (trip_row marks (stop ∷ next ∷ more)) node w) flight.legs
             (λ leg on between. out_here marks stop next more node w onward here
             (same_moment w stop.time (sym (at_here stop (next ∷ more) node here) ∙ is)) leg between)
             onward.0
-        | inr apart ↦ any_map (IsWayOut (trip_row marks (next ∷ more)) node w)
-            (IsWayOut (trip_row marks (stop ∷ next ∷ more)) node w) flight.legs
-            (λ leg on way. out_later marks stop (next ∷ more) node w onward leg way)
+        | inr apart ↦ any_map (IsLegOut (trip_row marks (next ∷ more)) node w)
+            (IsLegOut (trip_row marks (stop ∷ next ∷ more)) node w) flight.legs
+            (λ leg on joins. out_later marks stop (next ∷ more) node w onward leg joins)
             (left_on marks next more node w onward.2 below
             (sym (at_skip stop (next ∷ more) node apart) ∙ is))
       ]

@@ -142,7 +142,7 @@ below_limit_open w limit h =
     limit (Some (record { lo = w.lo; hi = min w.hi (limit - 1) })) None (λ _. refl)
     (λ past. absurd (omega arith))
 
--- between a way in and an entry
+-- between a leg in and an entry
 pub entry_from_leads : (inner outer : Option Window) (least : ℕ) (o : Window)
     → IsWindowWithin inner outer → LeadsTo inner least o → entry_of outer least ≤ o.lo
 entry_from_leads None outer least o within leads = absurd leads
@@ -154,7 +154,7 @@ pub leads_from_entry : (w : Option Window) (least : ℕ) (o : Window) → o.lo <
 leads_from_entry None least o low entry = omega (arith, entry)
 leads_from_entry (Some w) least o low entry = entry
 
--- between a way out and a limit
+-- between a leg out and a limit
 pub limit_from_leads : (inner outer : Option Window) (least : ℕ) (o : Window)
     → IsWindowWithin inner outer → LeadsOn inner least o → o.hi + 1 ≤ limit_of outer least
 limit_from_leads None outer least o within leads = absurd leads
@@ -166,7 +166,7 @@ pub leads_from_limit : (w : Option Window) (least : ℕ) (o : Window)
 leads_from_limit None least o limit = omega (arith, limit)
 leads_from_limit (Some w) least o limit = omega (arith, limit)
 
--- a way into a window with this start
+-- a leg into a window with this start
 pub leads_same : (w : Option Window) (least : ℕ) (o v : Window) → o.lo ≡ v.lo
     → LeadsTo w least o → LeadsTo w least v
 leads_same None least o v same leads = leads

@@ -14,7 +14,7 @@ use Rattle.time_windows.specs.Turns.{AreTurnsOf, TurnLists}
 -- connections of each flight
 pub record Held : Type 0 where
   pub accesses : List Access
-  pub ways : Grouped Leg
+  pub leg_groups : Grouped Leg
   pub turns : TurnLists
 
 -- the box of a list with so many places a flight; where it has none, a node is closed
@@ -27,14 +27,14 @@ abbrev pub box_of : Held → Box
 box_of held = access_at held.accesses
 
 -- the groups are those of the scenario's flights, the legs of one node in the order of the text
-abbrev pub AreWaysOf : Parts → Grouped Leg → Type 0
-AreWaysOf parts ways = (f n : ℕ) (flight : Flight) → slice_get parts.flights f ≡ Some flight
+abbrev pub AreLegGroupsOf : Parts → Grouped Leg → Type 0
+AreLegGroupsOf parts leg_groups = (f n : ℕ) (flight : Flight) → slice_get parts.flights f ≡ Some flight
     → n < most_nodes
-    → get_or ways.closed (f * most_nodes + n) [] ≡ filter (λ leg. leg.from == n) flight.legs
+    → get_or leg_groups.closed (f * most_nodes + n) [] ≡ filter (λ leg. leg.from == n) flight.legs
 
 -- The boxes are of the scenario: the groups are those of its flights and connections, and the box
 -- lies within its root box.
 pub record IsMadeFor (parts : Parts) (held : Held) : Type 0 where
-  pub ways : AreWaysOf parts held.ways
+  pub leg_groups : AreLegGroupsOf parts held.leg_groups
   pub turns : AreTurnsOf parts held.turns
   pub inside : IsBoxOf parts (box_of held)

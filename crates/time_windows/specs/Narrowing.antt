@@ -13,7 +13,7 @@ use Rattle.time_windows.specs.Boxes.{Box, IsWindowWithin, IsWithin, width_of}
 use Rattle.time_windows.specs.Groups.{Grouped}
 use Rattle.time_windows.specs.Held.{access_at}
 use Rattle.time_windows.specs.Steps.{below_limit, entry_of, from_entry, legs_of, limit_of, never}
-use Rattle.time_windows.specs.Tight.{IsTight, IsTightRow, IsTightTurn, IsWayIn, IsWayOut, last_of}
+use Rattle.time_windows.specs.Tight.{IsTight, IsTightRow, IsTightTurn, IsLegIn, IsLegOut, last_of}
 use Rattle.number_set.specs.Few.{IsIn}
 
 -- proper, and within 16 bits
@@ -54,9 +54,9 @@ pub record NarrowsRow (flight : Flight) (number : ℕ) (old new : List Access) :
   pub others : (f n : ℕ) → f ≢ number → access_at new f n ≡ access_at old f n
 
 -- the groups are those of the flight, which has few nodes and upward legs
-pub record AreWaysAt (ways : Grouped Leg) (number : ℕ) (flight : Flight) : Type 0 where
+pub record AreLegGroupsAt (leg_groups : Grouped Leg) (number : ℕ) (flight : Flight) : Type 0 where
   pub groups : (n : ℕ) → n < most_nodes
-      → get_or ways.closed (number * most_nodes + n) [] ≡ legs_of flight n
+      → get_or leg_groups.closed (number * most_nodes + n) [] ≡ legs_of flight n
   pub some : 1 ≤ length flight.nodes
   pub few : length flight.nodes ≤ most_nodes
   pub legs : All (IsLeg (length flight.nodes)) flight.legs
@@ -67,17 +67,17 @@ pub record IsLead (row : ℕ → Access) (bound node period : ℕ) (leg : Leg) :
   pub to : leg.to ≡ node
   pub time : entry_of (row leg.from).window leg.least ≤ period
 
--- each window below the bound has a way in
+-- each window below the bound has a leg in
 abbrev pub AreEntered : Flight → (ℕ → Access) → ℕ → Type 0
 AreEntered flight row bound = (n : ℕ) (window : Window) → 0 < n → n < bound
-    → (row n).window ≡ Some window → Any (IsWayIn row n window) flight.legs
+    → (row n).window ≡ Some window → Any (IsLegIn row n window) flight.legs
 
--- each window from the bound on has a way out
+-- each window from the bound on has a leg out
 abbrev pub AreLeft : Flight → (ℕ → Access) → ℕ → Type 0
 AreLeft flight row bound = (n : ℕ) (window : Window) → bound ≤ n → n + 1 < length flight.nodes
-    → (row n).window ≡ Some window → Any (IsWayOut row n window) flight.legs
+    → (row n).window ≡ Some window → Any (IsLegOut row n window) flight.legs
 
--- The windows below the bound have ways in, and the entries are the first ones from there.
+-- The windows below the bound have legs in, and the entries are the first ones from there.
 pub record IsRaisedTo (flight : Flight) (row : ℕ → Access) (entries : List ℕ) (bound : ℕ)
     : Type 0 where
   pub length : length entries ≡ most_nodes
@@ -88,7 +88,7 @@ pub record IsRaisedTo (flight : Flight) (row : ℕ → Access) (entries : List �
       → Any (IsLead row bound m time) flight.legs → slice_index entries m ≤ time
   pub entered : AreEntered flight row bound
 
--- All windows have ways in, and those from the bound on have ways out.
+-- All windows have legs in, and those from the bound on have legs out.
 pub record IsLoweredTo (flight : Flight) (row : ℕ → Access) (bound : ℕ) : Type 0 where
   pub entered : AreEntered flight row (length flight.nodes)
   pub left : AreLeft flight row bound
@@ -135,7 +135,7 @@ IsDone parts accesses words connection =
     IsTightTurn parts (access_at accesses) connection
     ⊎ (IsIn words connection.first ⊎ IsIn words connection.second)
 
--- the windows of one flight have ways in and out now, and nothing else is changed
+-- the windows of one flight have legs in and out now, and nothing else is changed
 pub record IsSettled (parts : Parts) (number : ℕ) (old new : List Access) : Type 0 where
   pub narrows : Narrows (IsTight parts) old new
   pub others : (f n : ℕ) → f ≢ number → access_at new f n ≡ access_at old f n

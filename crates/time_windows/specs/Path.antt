@@ -23,7 +23,7 @@ branch_of Late flight node time box = late_branch flight node time box
 abbrev pub with_accesses : Held → List Access → Held
 with_accesses held accesses = record {
   accesses = accesses;
-  ways = held.ways;
+  leg_groups = held.leg_groups;
   turns = held.turns;
 }
 

@@ -23,12 +23,12 @@ LeadsOn None least window = ⊥
 LeadsOn (Some next) least window = window.hi + least ≤ next.hi
 
 -- the leg enters the node, in time for its window
-pub record IsWayIn (row : ℕ → Access) (node : ℕ) (window : Window) (leg : Leg) : Type 0 where
+pub record IsLegIn (row : ℕ → Access) (node : ℕ) (window : Window) (leg : Leg) : Type 0 where
   pub to : leg.to ≡ node
   pub time : LeadsTo (row leg.from).window leg.least window
 
 -- the leg leaves the node, with time from its window
-pub record IsWayOut (row : ℕ → Access) (node : ℕ) (window : Window) (leg : Leg) : Type 0 where
+pub record IsLegOut (row : ℕ → Access) (node : ℕ) (window : Window) (leg : Leg) : Type 0 where
   pub from : leg.from ≡ node
   pub time : LeadsOn (row leg.to).window leg.least window
 
@@ -46,13 +46,13 @@ abbrev pub last_of : Option Flight → ℕ
 last_of None = 0
 last_of (Some flight) = length flight.nodes - 1
 
--- each window of the flight has a way in and a way out
+-- each window of the flight has a leg in and a leg out
 pub record IsTightRow (flight : Flight) (row : ℕ → Access) : Type 0 where
   pub proper : (n : ℕ) → IsProper (row n).window
   pub entered : (n : ℕ) (window : Window) → 0 < n → n < length flight.nodes
-      → (row n).window ≡ Some window → Any (IsWayIn row n window) flight.legs
+      → (row n).window ≡ Some window → Any (IsLegIn row n window) flight.legs
   pub left : (n : ℕ) (window : Window) → n + 1 < length flight.nodes
-      → (row n).window ≡ Some window → Any (IsWayOut row n window) flight.legs
+      → (row n).window ≡ Some window → Any (IsLegOut row n window) flight.legs
 
 -- the ends of a connection
 abbrev pub IsTightTurn : Parts → Box → Connection → Type 0

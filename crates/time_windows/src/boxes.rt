@@ -5,11 +5,11 @@ use crate::access::{Access, Window};
 use crate::cells::access_at;
 use crate::connections::tighten_all;
 use crate::groups::Groups;
+use crate::leg_groups::{leg_groups_of, legs_from};
 use crate::marks::{first_closed, has_closed_must, have_one_option, options_of};
 use crate::root::root_access;
 use crate::tightening::Tight;
 use crate::turns::Turns;
-use crate::ways::{legs_from, ways_of};
 use crate::windows::{after, until};
 use flow_types::{Leg, MOST_NODES, OutOfMemory, Scenario};
 use std::alloc::Global;
@@ -22,7 +22,7 @@ use std::marker::Model;
 pub struct Boxes {
     // 32 a flight, and as many groups.
     accesses: Vec<Access>,
-    ways: Groups<Leg>,
+    leg_groups: Groups<Leg>,
     turns: Turns,
 }
 
@@ -35,7 +35,7 @@ impl Model for Boxes {
 
     ghost view = { λ b. record {
       accesses = b.accesses.items;
-      ways = b.ways;
+      leg_groups = b.leg_groups;
       turns = b.turns;
     } };
 
@@ -71,7 +71,7 @@ impl Boxes {
         }
         Ok(Boxes {
             accesses,
-            ways: ways_of(alloc, s)?,
+            leg_groups: leg_groups_of(alloc, s)?,
             turns: Turns::new(alloc, s)?,
         })
     }
@@ -82,7 +82,7 @@ impl Boxes {
     {
         Ok(Boxes {
             accesses: Vec::from_slice(alloc, &self.accesses)?,
-            ways: self.ways.copy(alloc)?,
+            leg_groups: self.leg_groups.copy(alloc)?,
             turns: self.turns.copy(alloc)?,
         })
     }
@@ -136,9 +136,9 @@ impl Boxes {
     /// The legs from the node of the flight, in the order of the text.
     pub fn legs_from(&self, flight: u32, node: u16) -> &[Leg]
         requires { node < most_nodes }
-        ensures { result.now ≡ get_or self.now.ways.closed (flight * most_nodes + node) [] }
+        ensures { result.now ≡ get_or self.now.leg_groups.closed (flight * most_nodes + node) [] }
     {
-        legs_from(&self.ways, flight, node)
+        legs_from(&self.leg_groups, flight, node)
     }
 
     /// The connections of each flight of the scenario.
@@ -198,7 +198,7 @@ impl Boxes {
             → All (KeepsTurn plan) (parts_of s.now).connections
             → IsInBox (box_of self.old) plan → IsInBox (box_of self.new) plan }
     {
-        tighten_all(&mut self.accesses, &self.ways, &self.turns, s);
+        tighten_all(&mut self.accesses, &self.leg_groups, &self.turns, s);
         first_closed(&self.accesses)
     }
 

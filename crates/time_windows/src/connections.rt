@@ -5,7 +5,7 @@ ghost use Rattle.flow_types.specs.Scenario.{parts_of};
 ghost use Rattle.std.specs.List.{Contains};
 ghost use Rattle.time_windows.specs.Boxes.{IsWindowWithin};
 ghost use Rattle.time_windows.specs.Ends.{flight_at};
-ghost use Rattle.time_windows.specs.Held.{AreWaysOf, access_at};
+ghost use Rattle.time_windows.specs.Held.{AreLegGroupsOf, access_at};
 ghost use Rattle.time_windows.specs.Narrowing.{AreSound, AreTightRows, IsDone, IsLowered, IsRaised, IsSound, IsStep, KeepsAt, Narrows};
 ghost use Rattle.time_windows.specs.Tight.{IsTight, IsTightened, last_of};
 ghost use Rattle.time_windows.specs.Turns.{AreTurnsOf, connection_at};
@@ -23,22 +23,27 @@ use number_set::FewNumbers;
 
 /// Narrows the windows to the widest ones that are tight: those of each flight once, and then the
 /// ends of connections until none moves any more.
-pub fn tighten_all(accesses: &mut [Access], ways: &Groups<Leg>, turns: &Turns, s: &Scenario)
-    requires ways { AreWaysOf (parts_of s.now) ways.now }
+pub fn tighten_all(accesses: &mut [Access], leg_groups: &Groups<Leg>, turns: &Turns, s: &Scenario)
+    requires leg_groups { AreLegGroupsOf (parts_of s.now) leg_groups.now }
     requires turns { AreTurnsOf (parts_of s.now) turns.now }
     requires sound { AreSound accesses.old }
     ensures sound { AreSound accesses.new }
     ensures tight { IsTightened (parts_of s.now) (access_at accesses.old)
         (access_at accesses.new) }
 {
-    settle_flights(accesses, ways, s);
-    settle_connections(accesses, ways, turns, s);
+    settle_flights(accesses, leg_groups, s);
+    settle_connections(accesses, leg_groups, turns, s);
 }
 
 // Looks at the connections of each flight, and again at those of each one whose windows a
 // connection has moved.
-fn settle_connections(accesses: &mut [Access], ways: &Groups<Leg>, turns: &Turns, s: &Scenario)
-    requires ways { AreWaysOf (parts_of s.now) ways.now }
+fn settle_connections(
+    accesses: &mut [Access],
+    leg_groups: &Groups<Leg>,
+    turns: &Turns,
+    s: &Scenario,
+)
+    requires leg_groups { AreLegGroupsOf (parts_of s.now) leg_groups.now }
     requires turns { AreTurnsOf (parts_of s.now) turns.now }
     requires sound { AreSound accesses.old }
     requires rows { AreTightRows (parts_of s.now) accesses.old }
@@ -47,7 +52,7 @@ fn settle_connections(accesses: &mut [Access], ways: &Groups<Leg>, turns: &Turns
 {
     let mut waiting = FewNumbers::below(s.flights().len() as u32);
     while let Some(flight) = waiting.pop_first() {
-        settle_flight(accesses, &mut waiting, ways, turns, s, flight);
+        settle_flight(accesses, &mut waiting, leg_groups, turns, s, flight);
     }
 }
 
@@ -55,13 +60,13 @@ fn settle_connections(accesses: &mut [Access], ways: &Groups<Leg>, turns: &Turns
 fn settle_flight(
     accesses: &mut [Access],
     waiting: &mut FewNumbers,
-    ways: &Groups<Leg>,
+    leg_groups: &Groups<Leg>,
     turns: &Turns,
     s: &Scenario,
     flight: u32,
 )
     requires flight { flight < length (parts_of s.now).flights }
-    requires ways { AreWaysOf (parts_of s.now) ways.now }
+    requires leg_groups { AreLegGroupsOf (parts_of s.now) leg_groups.now }
     requires turns { AreTurnsOf (parts_of s.now) turns.now }
     requires sound { AreSound accesses.old }
     ensures step { IsStep (parts_of s.now) accesses.old accesses.new waiting.old
@@ -77,21 +82,29 @@ fn settle_flight(
     settle_turns(
         accesses,
         waiting,
-        ways,
+        leg_groups,
         s,
         departures,
         flight,
         End::Departure,
     );
     let arrivals = turns.of_flight(flight, End::Arrival);
-    settle_turns(accesses, waiting, ways, s, arrivals, flight, End::Arrival);
+    settle_turns(
+        accesses,
+        waiting,
+        leg_groups,
+        s,
+        arrivals,
+        flight,
+        End::Arrival,
+    );
 }
 
 // Narrows the windows at the connections that the flight has at this end.
 fn settle_turns(
     accesses: &mut [Access],
     waiting: &mut FewNumbers,
-    ways: &Groups<Leg>,
+    leg_groups: &Groups<Leg>,
     s: &Scenario,
     turns: &[Turn],
     flight: u32,
@@ -99,7 +112,7 @@ fn settle_turns(
 )
     requires turns { All (λ turn. Contains (parts_of s.now).connections
         (connection_at end flight turn)) turns.now }
-    requires ways { AreWaysOf (parts_of s.now) ways.now }
+    requires leg_groups { AreLegGroupsOf (parts_of s.now) leg_groups.now }
     requires sound { AreSound accesses.old }
     ensures step { IsStep (parts_of s.now) accesses.old accesses.new waiting.old
         waiting.new }
@@ -110,7 +123,7 @@ fn settle_turns(
         settle_turn(
             accesses,
             waiting,
-            ways,
+            leg_groups,
             s,
             connection_at(end, flight, *turn),
         );
@@ -140,19 +153,19 @@ fn connection_at(end: End, flight: u32, turn: Turn) -> Connection
 fn settle_turn(
     accesses: &mut [Access],
     waiting: &mut FewNumbers,
-    ways: &Groups<Leg>,
+    leg_groups: &Groups<Leg>,
     s: &Scenario,
     turn: Connection,
 )
     requires turn { Contains (parts_of s.now).connections turn }
-    requires ways { AreWaysOf (parts_of s.now) ways.now }
+    requires leg_groups { AreLegGroupsOf (parts_of s.now) leg_groups.now }
     requires sound { AreSound accesses.old }
     ensures step { IsStep (parts_of s.now) accesses.old accesses.new waiting.old
         waiting.new }
     ensures done { IsDone (parts_of s.now) accesses.new waiting.new turn }
 {
-    raise_turn(accesses, waiting, ways, s, turn);
-    lower_turn(accesses, waiting, ways, s, turn);
+    raise_turn(accesses, waiting, leg_groups, s, turn);
+    lower_turn(accesses, waiting, leg_groups, s, turn);
 }
 
 // Raises the window in which the second flight leaves.
@@ -160,12 +173,12 @@ fn settle_turn(
 fn raise_turn(
     accesses: &mut [Access],
     waiting: &mut FewNumbers,
-    ways: &Groups<Leg>,
+    leg_groups: &Groups<Leg>,
     s: &Scenario,
     turn: Connection,
 )
     requires turn { Contains (parts_of s.now).connections turn }
-    requires ways { AreWaysOf (parts_of s.now) ways.now }
+    requires leg_groups { AreLegGroupsOf (parts_of s.now) leg_groups.now }
     requires sound { AreSound accesses.old }
     ensures step { IsStep (parts_of s.now) accesses.old accesses.new waiting.old
         waiting.new }
@@ -175,7 +188,7 @@ fn raise_turn(
     let arrives = window_at(accesses, turn.first, last_of(s, turn.first));
     let leaves = window_at(accesses, turn.second, 0);
     let window = from_entry(leaves, entry_of(arrives, turn.turnaround));
-    move_to(accesses, waiting, ways, s, turn.second, 0, window);
+    move_to(accesses, waiting, leg_groups, s, turn.second, 0, window);
 }
 
 // Lowers the window in which the first flight arrives.
@@ -183,12 +196,12 @@ fn raise_turn(
 fn lower_turn(
     accesses: &mut [Access],
     waiting: &mut FewNumbers,
-    ways: &Groups<Leg>,
+    leg_groups: &Groups<Leg>,
     s: &Scenario,
     turn: Connection,
 )
     requires turn { Contains (parts_of s.now).connections turn }
-    requires ways { AreWaysOf (parts_of s.now) ways.now }
+    requires leg_groups { AreLegGroupsOf (parts_of s.now) leg_groups.now }
     requires sound { AreSound accesses.old }
     ensures step { IsStep (parts_of s.now) accesses.old accesses.new waiting.old
         waiting.new }
@@ -199,7 +212,7 @@ fn lower_turn(
     let arrives = window_at(accesses, turn.first, last);
     let leaves = window_at(accesses, turn.second, 0);
     let window = below_limit(arrives, limit_of(leaves, turn.turnaround));
-    move_to(accesses, waiting, ways, s, turn.first, last, window);
+    move_to(accesses, waiting, leg_groups, s, turn.first, last, window);
 }
 
 // The last node of the flight.
@@ -216,7 +229,7 @@ fn last_of(s: &Scenario, flight: u32) -> u16
 fn move_to(
     accesses: &mut [Access],
     waiting: &mut FewNumbers,
-    ways: &Groups<Leg>,
+    leg_groups: &Groups<Leg>,
     s: &Scenario,
     flight: u32,
     node: u16,
@@ -224,7 +237,7 @@ fn move_to(
 )
     requires flight { flight < length (parts_of s.now).flights }
     requires node { node < most_nodes }
-    requires ways { AreWaysOf (parts_of s.now) ways.now }
+    requires leg_groups { AreLegGroupsOf (parts_of s.now) leg_groups.now }
     requires sound { AreSound accesses.old }
     requires within { IsWindowWithin window (access_at accesses.old flight node).window }
     requires proper { IsSound window }
@@ -238,6 +251,6 @@ fn move_to(
         return;
     }
     set_window(accesses, flight, node, window);
-    settle(accesses, ways, s, flight);
+    settle(accesses, leg_groups, s, flight);
     waiting.insert(flight);
 }

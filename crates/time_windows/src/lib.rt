@@ -55,13 +55,13 @@ mod connections;
 mod ends;
 mod groups;
 mod laws;
+mod leg_groups;
 mod marks;
 mod root;
 mod rows;
 mod tightening;
 mod trail;
 mod turns;
-mod ways;
 mod windows;
 
 pub use access::{Access, Window};

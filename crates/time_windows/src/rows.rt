@@ -1,46 +1,46 @@
 //! Tightening the windows of one flight.
 ghost use Rattle.std.specs.Prelude.{◌≡◌, ◌+◌, ◌<◌, All, length};
 ghost use Rattle.flow_types.specs.Scenario.{parts_of};
-ghost use Rattle.time_windows.specs.Held.{AreWaysOf, access_at};
-ghost use Rattle.time_windows.specs.Narrowing.{AreEntered, AreSound, AreTightRows, AreWaysAt, IsLoweredTo, IsRaisedTo, IsSettled, Narrows, NarrowsRow};
+ghost use Rattle.time_windows.specs.Held.{AreLegGroupsOf, access_at};
+ghost use Rattle.time_windows.specs.Narrowing.{AreEntered, AreSound, AreTightRows, AreLegGroupsAt, IsLoweredTo, IsRaisedTo, IsSettled, Narrows, NarrowsRow};
 ghost use Rattle.time_windows.specs.Tight.{IsTight};
 ghost use Rattle.time_windows.specs.Steps.{latest_limit, with_entries};
 
 use crate::access::{Access, Window};
 use crate::cells::{set_window, window_at};
 use crate::groups::Groups;
-use crate::ways::legs_from;
+use crate::leg_groups::legs_from;
 use crate::windows::{NEVER, below_limit, entry_of, from_entry, limit_of};
 use flow_types::{Flight, Leg, MOST_NODES, Scenario};
 
 /// Settles each flight.
-pub fn settle_flights(accesses: &mut [Access], ways: &Groups<Leg>, s: &Scenario)
-    requires ways { AreWaysOf (parts_of s.now) ways.now }
+pub fn settle_flights(accesses: &mut [Access], leg_groups: &Groups<Leg>, s: &Scenario)
+    requires leg_groups { AreLegGroupsOf (parts_of s.now) leg_groups.now }
     requires sound { AreSound accesses.old }
     ensures narrows { Narrows (IsTight (parts_of s.now)) accesses.old accesses.new }
     ensures rows { AreTightRows (parts_of s.now) accesses.new }
 {
     for number in 0..s.flights().len() {
-        settle(accesses, ways, s, number as u32);
+        settle(accesses, leg_groups, s, number as u32);
     }
 }
 
-/// Narrows the windows of the flight until each has a way in and a way out: once over its legs
+/// Narrows the windows of the flight until each has a leg in and a leg out: once over its legs
 /// forward, once back.
-pub fn settle(accesses: &mut [Access], ways: &Groups<Leg>, s: &Scenario, number: u32)
+pub fn settle(accesses: &mut [Access], leg_groups: &Groups<Leg>, s: &Scenario, number: u32)
     requires flight { number < length (parts_of s.now).flights }
-    requires ways { AreWaysOf (parts_of s.now) ways.now }
+    requires leg_groups { AreLegGroupsOf (parts_of s.now) leg_groups.now }
     requires sound { AreSound accesses.old }
     ensures { IsSettled (parts_of s.now) number accesses.old accesses.new }
 {
     let flight = &s.flights()[number as usize];
-    raise_starts(accesses, ways, flight, number);
-    lower_ends(accesses, ways, flight, number);
+    raise_starts(accesses, leg_groups, flight, number);
+    lower_ends(accesses, leg_groups, flight, number);
 }
 
 // Raises each window to the first entry by a leg from an open node.
-fn raise_starts(accesses: &mut [Access], ways: &Groups<Leg>, flight: &Flight, number: u32)
-    requires ways { AreWaysAt ways.now number flight.now }
+fn raise_starts(accesses: &mut [Access], leg_groups: &Groups<Leg>, flight: &Flight, number: u32)
+    requires leg_groups { AreLegGroupsAt leg_groups.now number flight.now }
     requires sound { AreSound accesses.old }
     ensures narrows { NarrowsRow flight.now number accesses.old accesses.new }
     ensures entered { AreEntered flight.now (access_at accesses.new number)
@@ -49,7 +49,14 @@ fn raise_starts(accesses: &mut [Access], ways: &Groups<Leg>, flight: &Flight, nu
     let mut entries = [NEVER; MOST_NODES];
     entries[0] = 0;
     for node in 0..flight.nodes.items().len() {
-        raise_start(accesses, &mut entries, ways, flight, number, node as u16);
+        raise_start(
+            accesses,
+            &mut entries,
+            leg_groups,
+            flight,
+            number,
+            node as u16,
+        );
     }
 }
 
@@ -57,12 +64,12 @@ fn raise_starts(accesses: &mut [Access], ways: &Groups<Leg>, flight: &Flight, nu
 fn raise_start(
     accesses: &mut [Access],
     entries: &mut [u32],
-    ways: &Groups<Leg>,
+    leg_groups: &Groups<Leg>,
     flight: &Flight,
     number: u32,
     node: u16,
 )
-    requires ways { AreWaysAt ways.now number flight.now }
+    requires leg_groups { AreLegGroupsAt leg_groups.now number flight.now }
     requires sound { AreSound accesses.old }
     requires node { node < length flight.now.nodes }
     requires raised { IsRaisedTo flight.now (access_at accesses.old number) entries.old node }
@@ -75,7 +82,7 @@ fn raise_start(
         entries[usize::from(node)],
     );
     set_window(accesses, number, node, window);
-    take_entries(entries, window, legs_from(ways, number, node));
+    take_entries(entries, window, legs_from(leg_groups, number, node));
 }
 
 // Takes the entries by legs from a node with this window.
@@ -90,8 +97,8 @@ fn take_entries(entries: &mut [u32], window: Option<Window>, legs: &[Leg])
 }
 
 // Lowers each window to the last period from which a leg leads on to an open node.
-fn lower_ends(accesses: &mut [Access], ways: &Groups<Leg>, flight: &Flight, number: u32)
-    requires ways { AreWaysAt ways.now number flight.now }
+fn lower_ends(accesses: &mut [Access], leg_groups: &Groups<Leg>, flight: &Flight, number: u32)
+    requires leg_groups { AreLegGroupsAt leg_groups.now number flight.now }
     requires sound { AreSound accesses.old }
     requires entered { AreEntered flight.now (access_at accesses.old number)
         (length flight.now.nodes) }
@@ -99,20 +106,26 @@ fn lower_ends(accesses: &mut [Access], ways: &Groups<Leg>, flight: &Flight, numb
     ensures lowered { IsLoweredTo flight.now (access_at accesses.new number) 0 }
 {
     for node in (0..flight.nodes.items().len() - 1).rev() {
-        lower_end(accesses, ways, flight, number, node as u16);
+        lower_end(accesses, leg_groups, flight, number, node as u16);
     }
 }
 
 // Lowers the window of the node.
-fn lower_end(accesses: &mut [Access], ways: &Groups<Leg>, flight: &Flight, number: u32, node: u16)
-    requires ways { AreWaysAt ways.now number flight.now }
+fn lower_end(
+    accesses: &mut [Access],
+    leg_groups: &Groups<Leg>,
+    flight: &Flight,
+    number: u32,
+    node: u16,
+)
+    requires leg_groups { AreLegGroupsAt leg_groups.now number flight.now }
     requires sound { AreSound accesses.old }
     requires node { node + 1 < length flight.now.nodes }
     requires lowered { IsLoweredTo flight.now (access_at accesses.old number) (node + 1) }
     ensures narrows { NarrowsRow flight.now number accesses.old accesses.new }
     ensures lowered { IsLoweredTo flight.now (access_at accesses.new number) node }
 {
-    let limit = latest_limit(accesses, number, legs_from(ways, number, node));
+    let limit = latest_limit(accesses, number, legs_from(leg_groups, number, node));
     let window = below_limit(window_at(accesses, number, node), limit);
     set_window(accesses, number, node, window);
 }

@@ -17,7 +17,7 @@ use Rattle.flow_types.specs.Valid.{IsScenario}
 use Rattle.time_windows.specs.declared.access.Access.{Access}
 use Rattle.time_windows.specs.declared.access.Window.{Window}
 use Rattle.time_windows.specs.Boxes.{Box, IsBoxOf, IsInBox, IsProper, IsTripInBox, IsInWindow, closed, options_of, root_access, root_box, IsWindowWithin}
-use Rattle.time_windows.specs.Tight.{IsTight, IsTightRow, IsTightTurn, IsWayIn, IsWayOut}
+use Rattle.time_windows.specs.Tight.{IsTight, IsTightRow, IsTightTurn, IsLegIn, IsLegOut}
 use Rattle.time_windows.proofs.AnyFacts.{any_here, any_there}
 use Rattle.time_windows.proofs.NarrowFacts.{box_within_same}
 use Rattle.time_windows.proofs.WindowFacts.{if_lt}
@@ -104,29 +104,29 @@ module _ (leaves arrives : ℕ) (long : leaves + 2 ≤ arrives) where
   proper (suc (suc (suc n))) = tt
 
   ways_in : (n : ℕ) (window : Window) → 0 < n → n < 3 → (ways n).window ≡ Some window
-      → Any (IsWayIn ways n window) (legs_with 2)
+      → Any (IsLegIn ways n window) (legs_with 2)
   ways_in zero window some within is = absurd (omega (arith, some))
   ways_in (suc zero) window some within is =
-      subst (λ w. Any (IsWayIn ways 1 w) (legs_with 2)) (same_window leaves window is)
-      (any_here (IsWayIn ways 1 (only_at leaves)) leg_in (leg_out ∷ [])
+      subst (λ w. Any (IsLegIn ways 1 w) (legs_with 2)) (same_window leaves window is)
+      (any_here (IsLegIn ways 1 (only_at leaves)) leg_in (leg_out ∷ [])
       (record { to = refl; time = omega arith }))
   ways_in (suc (suc zero)) window some within is =
-      subst (λ w. Any (IsWayIn ways 2 w) (legs_with 2)) (same_window arrives window is)
-      (any_there (IsWayIn ways 2 (only_at arrives)) leg_in (leg_out ∷ [])
-      (any_here (IsWayIn ways 2 (only_at arrives)) leg_out []
+      subst (λ w. Any (IsLegIn ways 2 w) (legs_with 2)) (same_window arrives window is)
+      (any_there (IsLegIn ways 2 (only_at arrives)) leg_in (leg_out ∷ [])
+      (any_here (IsLegIn ways 2 (only_at arrives)) leg_out []
       (record { to = refl; time = omega (arith, long) })))
   ways_in (suc (suc (suc n))) window some within is = absurd (omega (arith, within))
 
   ways_out : (n : ℕ) (window : Window) → n + 1 < 3 → (ways n).window ≡ Some window
-      → Any (IsWayOut ways n window) (legs_with 2)
+      → Any (IsLegOut ways n window) (legs_with 2)
   ways_out zero window within is =
-      subst (λ w. Any (IsWayOut ways 0 w) (legs_with 2)) (same_window leaves window is)
-      (any_here (IsWayOut ways 0 (only_at leaves)) leg_in (leg_out ∷ [])
+      subst (λ w. Any (IsLegOut ways 0 w) (legs_with 2)) (same_window leaves window is)
+      (any_here (IsLegOut ways 0 (only_at leaves)) leg_in (leg_out ∷ [])
       (record { from = refl; time = omega arith }))
   ways_out (suc zero) window within is =
-      subst (λ w. Any (IsWayOut ways 1 w) (legs_with 2)) (same_window leaves window is)
-      (any_there (IsWayOut ways 1 (only_at leaves)) leg_in (leg_out ∷ [])
-      (any_here (IsWayOut ways 1 (only_at leaves)) leg_out []
+      subst (λ w. Any (IsLegOut ways 1 w) (legs_with 2)) (same_window leaves window is)
+      (any_there (IsLegOut ways 1 (only_at leaves)) leg_in (leg_out ∷ [])
+      (any_here (IsLegOut ways 1 (only_at leaves)) leg_out []
       (record { from = refl; time = omega (arith, long) })))
   ways_out (suc (suc n)) window within is = absurd (omega (arith, within))
 

@@ -6,7 +6,7 @@ use Rattle.time_windows.proofs.rows.lower_end.Goals as goal
 pub returns-clause-narrows : goal.returns-clause-narrows
 returns-clause-narrows c =
     let group : c.legs_from.result.now ≡ legs_of c.args.flight.now c.args.node =
-    c.legs_from.ensures ∙ c.requires.ways.groups c.args.node (omega (arith, c.requires.ways.few)) in
+    c.legs_from.ensures ∙ c.requires.leg_groups.groups c.args.node (omega (arith, c.requires.leg_groups.few)) in
     let set = rw (
       c.below_limit-window.ensures,
       c.window_at.ensures,
@@ -14,14 +14,14 @@ returns-clause-narrows c =
       group,
     )
     at c.set_window.ensures in
-    lower_narrows c.args.ways.now c.args.flight.now c.args.number c.args.node
-    c.args.accesses.now c.set_window.new.accesses c.requires.ways c.requires.node
+    lower_narrows c.args.leg_groups.now c.args.flight.now c.args.number c.args.node
+    c.args.accesses.now c.set_window.new.accesses c.requires.leg_groups c.requires.node
     c.requires.sound c.requires.lowered set
 
 pub returns-clause-lowered : goal.returns-clause-lowered
 returns-clause-lowered c =
     let group : c.legs_from.result.now ≡ legs_of c.args.flight.now c.args.node =
-    c.legs_from.ensures ∙ c.requires.ways.groups c.args.node (omega (arith, c.requires.ways.few)) in
+    c.legs_from.ensures ∙ c.requires.leg_groups.groups c.args.node (omega (arith, c.requires.leg_groups.few)) in
     let set = rw (
       c.below_limit-window.ensures,
       c.window_at.ensures,
@@ -29,6 +29,6 @@ returns-clause-lowered c =
       group,
     )
     at c.set_window.ensures in
-    lower_lowered c.args.ways.now c.args.flight.now c.args.number c.args.node
-    c.args.accesses.now c.set_window.new.accesses c.requires.ways c.requires.node
+    lower_lowered c.args.leg_groups.now c.args.flight.now c.args.number c.args.node
+    c.args.accesses.now c.set_window.new.accesses c.requires.leg_groups c.requires.node
     c.requires.sound c.requires.lowered set

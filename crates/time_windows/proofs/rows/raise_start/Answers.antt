@@ -9,17 +9,17 @@ take_entries-requires c =
     at c.set_window.ensures in
     let group : c.legs_from.result.now ≡ legs_of c.args.flight.now c.args.node =
     c.legs_from.ensures
-    ∙ c.requires.ways.groups c.args.node (omega (arith, c.requires.ways.few)) in
-    rw group (legs_within c.args.ways.now c.args.flight.now c.args.number c.args.node
-    c.args.entries.now c.args.accesses.now c.set_window.new.accesses c.requires.ways
+    ∙ c.requires.leg_groups.groups c.args.node (omega (arith, c.requires.leg_groups.few)) in
+    rw group (legs_within c.args.leg_groups.now c.args.flight.now c.args.number c.args.node
+    c.args.entries.now c.args.accesses.now c.set_window.new.accesses c.requires.leg_groups
     c.requires.node c.requires.sound c.requires.raised set)
 
 pub returns-clause-narrows : goal.returns-clause-narrows
 returns-clause-narrows c =
     let set = rw (c.from_entry-window.ensures, c.window_at.ensures, c.from.ensures)
     at c.set_window.ensures in
-    raise_narrows c.args.ways.now c.args.flight.now c.args.number c.args.node
-    c.args.entries.now c.args.accesses.now c.set_window.new.accesses c.requires.ways
+    raise_narrows c.args.leg_groups.now c.args.flight.now c.args.number c.args.node
+    c.args.entries.now c.args.accesses.now c.set_window.new.accesses c.requires.leg_groups
     c.requires.node c.requires.sound c.requires.raised set
 
 pub returns-clause-raised : goal.returns-clause-raised
@@ -28,7 +28,7 @@ returns-clause-raised c =
     at c.set_window.ensures in
     let group : c.legs_from.result.now ≡ legs_of c.args.flight.now c.args.node =
     c.legs_from.ensures
-    ∙ c.requires.ways.groups c.args.node (omega (arith, c.requires.ways.few)) in
+    ∙ c.requires.leg_groups.groups c.args.node (omega (arith, c.requires.leg_groups.few)) in
     rw (
       c.take_entries.ensures,
       group,
@@ -36,6 +36,6 @@ returns-clause-raised c =
       c.window_at.ensures,
       c.from.ensures,
     )
-    (raise_raised c.args.ways.now c.args.flight.now c.args.number c.args.node
-    c.args.entries.now c.args.accesses.now c.set_window.new.accesses c.requires.ways
+    (raise_raised c.args.leg_groups.now c.args.flight.now c.args.number c.args.node
+    c.args.entries.now c.args.accesses.now c.set_window.new.accesses c.requires.leg_groups
     c.requires.node c.requires.sound c.requires.raised set)

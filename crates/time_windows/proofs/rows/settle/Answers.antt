@@ -1,24 +1,24 @@
 use Rattle.std.proofs.Common.{length, refl}
 use Rattle.std.proofs.lemmas.Option.{slice_get_read}
 use Rattle.flow_types.specs.Scenario.{parts_of}
-use Rattle.time_windows.proofs.SettleFacts.{settled, ways_at}
+use Rattle.time_windows.proofs.SettleFacts.{settled, leg_groups_at}
 use Rattle.time_windows.proofs.rows.settle.Goals as goal
 
-pub raise_starts-requires-clause-ways : goal.raise_starts-requires-clause-ways
-raise_starts-requires-clause-ways c =
+pub raise_starts-requires-clause-leg_groups : goal.raise_starts-requires-clause-leg_groups
+raise_starts-requires-clause-leg_groups c =
     let parts = parts_of c.args.s.now in
     let flight = c.index-flights-number.result in
-    ways_at parts c.args.number flight c.args.ways.now c.args.s.now.valid
+    leg_groups_at parts c.args.number flight c.args.leg_groups.now c.args.s.now.valid
     (slice_get_read parts.flights (length parts.flights) c.args.number flight refl
-    c.requires.flight (rw c.flights.ensures at c.index-flights-number.is)) c.requires.ways
+    c.requires.flight (rw c.flights.ensures at c.index-flights-number.is)) c.requires.leg_groups
 
-pub lower_ends-requires-clause-ways : goal.lower_ends-requires-clause-ways
-lower_ends-requires-clause-ways c =
+pub lower_ends-requires-clause-leg_groups : goal.lower_ends-requires-clause-leg_groups
+lower_ends-requires-clause-leg_groups c =
     let parts = parts_of c.args.s.now in
     let flight = c.index-flights-number.result in
-    ways_at parts c.args.number flight c.args.ways.now c.args.s.now.valid
+    leg_groups_at parts c.args.number flight c.args.leg_groups.now c.args.s.now.valid
     (slice_get_read parts.flights (length parts.flights) c.args.number flight refl
-    c.requires.flight (rw c.flights.ensures at c.index-flights-number.is)) c.requires.ways
+    c.requires.flight (rw c.flights.ensures at c.index-flights-number.is)) c.requires.leg_groups
 
 pub returns : goal.returns
 returns c =

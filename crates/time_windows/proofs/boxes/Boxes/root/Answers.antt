@@ -42,7 +42,7 @@ returns-clause-root c =
 
 pub returns-clause-made : goal.returns-clause-made
 returns-clause-made c = record {
-  ways = c.in_ok-ways_of.ensures;
+  leg_groups = c.in_ok-leg_groups_of.ensures;
   turns = c.in_ok-new.ensures;
   inside = root_inside (parts_of c.args.s.now) (access_at c.loop-cell.accesses.items)
       (root_all (parts_of c.args.s.now) c.loop-cell.accesses.items c.loop-cell.cell

@@ -7,31 +7,31 @@ use Rattle.flow_types.specs.declared.flight.Flight.{Flight}
 use Rattle.flow_types.specs.declared.flight.Leg.{Leg}
 use Rattle.flow_types.specs.declared.parts.Parts.{Parts}
 use Rattle.time_windows.specs.Groups.{Grouped}
-use Rattle.time_windows.specs.Held.{AreWaysOf}
+use Rattle.time_windows.specs.Held.{AreLegGroupsOf}
 use Rattle.time_windows.specs.Steps.{legs_of}
 use Rattle.time_windows.proofs.RootFacts.{place_flight, place_node}
 
 -- the groups of the cells so far
-pub record AreWaysTo (flights : List Flight) (ways : Grouped Leg) (cell : ℕ) : Type 0 where
-  pub pending : ways.pending ≡ []
-  pub count : length ways.closed ≡ cell
+pub record AreLegGroupsTo (flights : List Flight) (leg_groups : Grouped Leg) (cell : ℕ) : Type 0 where
+  pub pending : leg_groups.pending ≡ []
+  pub count : length leg_groups.closed ≡ cell
   pub each : (k : ℕ) (flight : Flight) → k < cell → slice_get flights (k / 32) ≡ Some flight
-      → get_or ways.closed k [] ≡ legs_of flight (k % 32)
+      → get_or leg_groups.closed k [] ≡ legs_of flight (k % 32)
 
-pub no_ways : (flights : List Flight) → AreWaysTo flights (record { closed = []; pending = [] }) 0
-no_ways flights = record {
+pub no_leg_groups : (flights : List Flight) → AreLegGroupsTo flights (record { closed = []; pending = [] }) 0
+no_leg_groups flights = record {
   pending = refl;
   count = refl;
   each = λ k flight below is. absurd (omega (arith, below));
 }
 
 -- the legs of one more cell, added and closed
-pub ways_more : (flights : List Flight) (old added new : Grouped Leg) (cell : ℕ) (flight : Flight)
-    → AreWaysTo flights old cell → slice_get flights (cell / 32) ≡ Some flight
+pub leg_groups_more : (flights : List Flight) (old added new : Grouped Leg) (cell : ℕ) (flight : Flight)
+    → AreLegGroupsTo flights old cell → slice_get flights (cell / 32) ≡ Some flight
     → added.closed ≡ old.closed → added.pending ≡ old.pending ++ legs_of flight (cell % 32)
     → new.closed ≡ added.closed ++ added.pending ∷ [] → new.pending ≡ []
-    → AreWaysTo flights new (cell + 1)
-ways_more flights old added new cell flight so_far is kept legs closed empty =
+    → AreLegGroupsTo flights new (cell + 1)
+leg_groups_more flights old added new cell flight so_far is kept legs closed empty =
     let group : added.pending ≡ legs_of flight (cell % 32) =
     legs ∙ ap (λ xs. xs ++ legs_of flight (cell % 32)) so_far.pending in
     let now : new.closed ≡ old.closed ++ legs_of flight (cell % 32) ∷ [] =
@@ -58,10 +58,10 @@ ways_more flights old added new cell flight so_far is kept legs closed empty =
         (omega (arith, so_far.count))
         ∙ so_far.each k other (omega arith) found
 
-pub all_ways : (parts : Parts) (ways : Grouped Leg) (cell : ℕ)
-    → length parts.flights * 32 ≤ cell → AreWaysTo parts.flights ways cell
-    → AreWaysOf parts ways
-all_ways parts ways cell all so_far f n flight is few =
+pub all_leg_groups : (parts : Parts) (leg_groups : Grouped Leg) (cell : ℕ)
+    → length parts.flights * 32 ≤ cell → AreLegGroupsTo parts.flights leg_groups cell
+    → AreLegGroupsOf parts leg_groups
+all_leg_groups parts leg_groups cell all so_far f n flight is few =
     let there : slice_get parts.flights ((f * 32 + n) / 32) ≡ Some flight =
     rw (place_flight f n few) is in
     let within = slice_get_within parts.flights f flight is in

@@ -1,5 +1,5 @@
 use Rattle.scenario_reader.proofs.DraftFacts.{draft_with_pricing}
-use Rattle.scenario_reader.proofs.draft.Draft.set_pricing.Goals as goal
+use Rattle.scenario_reader.proofs.draft.ScenarioDraft.set_pricing.Goals as goal
 
 pub invariant_of-self : goal.invariant_of-self
 invariant_of-self c =

@@ -4,7 +4,7 @@ use Rattle.std.proofs.lemmas.Option.{slice_get_read}
 use Rattle.scenario_reader.specs.Legs.{adds_node}
 use Rattle.scenario_reader.proofs.DraftFacts.{draft_with_leg, network_at}
 use Rattle.scenario_reader.proofs.RoomFacts.{has_room}
-use Rattle.scenario_reader.proofs.draft.Draft.add_leg.Goals as goal
+use Rattle.scenario_reader.proofs.draft.ScenarioDraft.add_leg.Goals as goal
 
 counted : (nodes : ℕ) (adds b : Bool) → adds ≡ b → nodes + cond b 1 0 ≡ nodes + cond adds 1 0
 counted nodes adds b e = ap (λ v. nodes + cond v 1 0) (sym e)

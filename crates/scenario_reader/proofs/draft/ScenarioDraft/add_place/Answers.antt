@@ -1,5 +1,5 @@
 use Rattle.scenario_reader.proofs.DraftFacts.{draft_with_place}
-use Rattle.scenario_reader.proofs.draft.Draft.add_place.Goals as goal
+use Rattle.scenario_reader.proofs.draft.ScenarioDraft.add_place.Goals as goal
 
 pub invariant_of-self-2 : goal.invariant_of-self-2
 invariant_of-self-2 c =

@@ -1,5 +1,5 @@
 use Rattle.scenario_reader.proofs.DraftFacts.{draft_with_change}
-use Rattle.scenario_reader.proofs.draft.Draft.change_capacities.Goals as goal
+use Rattle.scenario_reader.proofs.draft.ScenarioDraft.change_capacities.Goals as goal
 
 pub invariant_of-self : goal.invariant_of-self
 invariant_of-self c =

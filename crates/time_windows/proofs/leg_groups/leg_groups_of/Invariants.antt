@@ -1,0 +1,5 @@
+use Rattle.time_windows.proofs.LegGroupFacts.{AreLegGroupsTo}
+use Rattle.time_windows.proofs.leg_groups.leg_groups_of.Given as goal
+
+abbrev pub invariant-loop-cell : goal.invariant-loop-cell
+invariant-loop-cell l = AreLegGroupsTo l.flights l.leg_groups l.cell
