@@ -2,16 +2,16 @@
 -- split puts the tight boxes of its two sides in the place of its own; a leaf is done with its box.
 use Rattle.std.specs.Prelude.{◌≡◌, ℕ, ◌+◌, ◌<◌, List, [], ◌∷◌, length}
 use Rattle.flow_types.specs.declared.parts.Parts.{Parts}
-use Rattle.time_windows.specs.Boxes.{Box, IsClosedMust}
+use Rattle.time_windows.specs.Boxes.{Box}
 use Rattle.time_windows.specs.Splits.{IsBranching, early_branch, late_branch}
-use Rattle.time_windows.specs.Tight.{IsTightened}
+use Rattle.time_windows.specs.Tight.{IsLive, IsTightened}
 use Rattle.branch_tree.specs.declared.tree.TreeNode.{TreeNode}
 use Rattle.branch_tree.specs.declared.tree.TreeNode.TheVariants.{Leaf, Split}
 
 -- a box that isn't empty, since no node that must be entered is closed, is split in two, each side
 -- made tight
 pub record AreSides (parts : Parts) (flight node time : ℕ) (box early late : Box) : Type 0 where
-  pub live : (f n : ℕ) → IsClosedMust (box f n) → ⊥
+  pub live : IsLive box
   pub there : flight < length parts.flights
   pub branching : IsBranching (box flight node) time
   pub early_is : IsTightened parts (early_branch flight node time box) early

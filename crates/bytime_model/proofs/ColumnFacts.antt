@@ -39,14 +39,14 @@ get_more (c ∷ columns) column found (suc k) here =
       | inr last ↦ inr (ap suc last.0, last.1)
     ]
 
-pub one_more : (flights : List Flight) (box : Box) (cell count : ℕ) (old : Numbering)
-    (column : Column) → AreColumnsTo flights box cell old
-    → column ≡ column_at flights box (cell / most_nodes) (cell % most_nodes) old.count
+pub one_more : (flights : List Flight) (box : Box) (index count : ℕ) (old : Numbering)
+    (column : Column) → AreColumnsTo flights box index old
+    → column ≡ column_at flights box (index / most_nodes) (index % most_nodes) old.count
     → column.width + column.stays ≤ 2 ^ 17
     → count ≡ old.count + (column.width + column.stays)
-    → AreColumnsTo flights box (cell + 1)
+    → AreColumnsTo flights box (index + 1)
     (record { columns = old.columns ++ column ∷ []; count = count })
-one_more flights box cell count old column are is small sum = record {
+one_more flights box index count old column are is small sum = record {
   few = let few = are.few in omega (arith, few, small, sum);
   length = length-append old.columns (column ∷ []) ∙ ap (λ n. n + 1) are.length;
   line = subst (AreInLine 0 (old.columns ++ column ∷ [])) (total start)
@@ -68,17 +68,17 @@ one_more flights box cell count old column are is small sum = record {
 
     start : column.start ≡ old.count
     start = ap (λ (c : Column). c.start) is
-        ∙ start_of box (cell / most_nodes) (cell % most_nodes) old.count
+        ∙ start_of box (index / most_nodes) (index % most_nodes) old.count
 
     total : column.start ≡ old.count → column.start + column.width + column.stays ≡ count
     total same = omega (arith, same, sum)
 
-    here_is : (k : ℕ) (found : Column) → k ≡ cell → found ≡ column
+    here_is : (k : ℕ) (found : Column) → k ≡ index → found ≡ column
         → found ≡ column_at flights box (k / most_nodes) (k % most_nodes) found.start
     here_is k found at same =
         subst (λ (c : Column). c ≡ column_at flights box (k / most_nodes) (k % most_nodes) c.start)
         (sym same)
         (subst (λ i. column ≡ column_at flights box (i / most_nodes) (i % most_nodes) column.start)
         (sym at)
-        (subst (λ s. column ≡ column_at flights box (cell / most_nodes) (cell % most_nodes) s)
+        (subst (λ s. column ≡ column_at flights box (index / most_nodes) (index % most_nodes) s)
         (sym start) is))

@@ -148,8 +148,8 @@ module _ (flights : List Flight) (box : Box) (numbering : Numbering) (count : �
 
   found : slice_index_or numbering.columns (f * most_nodes + n) no_column ≡ c
   found =
-      let cell : f * most_nodes + n ≡ place.index = omega arith in
-      ap (λ k. slice_index_or numbering.columns k no_column) cell
+      let index : f * most_nodes + n ≡ place.index = omega arith in
+      ap (λ k. slice_index_or numbering.columns k no_column) index
       ∙ get_or_from_slice_get numbering.columns place.index c no_column place.there
 
   taken : IsTaken flights numbering box position

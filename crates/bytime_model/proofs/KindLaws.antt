@@ -18,7 +18,7 @@ use Rattle.bytime_model.specs.declared.names.RowKind.TheVariants as of
 use Rattle.bytime_model.specs.declared.names.RowName.{RowName}
 use Rattle.bytime_model.specs.declared.names.RowName.TheVariants.{Arr, Connect, Cut, Dep, Enter, Leave, Mono, Occupy, Sector, Top}
 use Rattle.bytime_model.specs.AllRows.{kind_rows, kinds_rows, rows_of}
-use Rattle.bytime_model.specs.Kinds.{Key, capacity_name, key_of, name_at, node_thirds, part_count, rank, row_kinds, second_count, thirds}
+use Rattle.bytime_model.specs.Kinds.{SortKey, capacity_name, sort_key, name_at, node_thirds, part_count, rank, row_kinds, second_count, thirds}
 use Rattle.bytime_model.specs.Order.{IsBefore}
 use Rattle.bytime_model.specs.Rows.{goes_on, is_capacity, is_node, is_row, node_count}
 use Rattle.bytime_model.specs.Values.{has_inside}
@@ -43,14 +43,14 @@ module _ (parts : Parts) where
   Is name = is_row parts name ≡ true
 
   -- a name has the numbers that it is made of
-  abbrev key : ℕ → ℕ → ℕ → ℕ → Key
+  abbrev key : ℕ → ℕ → ℕ → ℕ → SortKey
   key k a b c = (k, a, b, c)
 
   no_third : (k a b c : ℕ) → c < 1 → key k a b 0 ≡ key k a b c
   no_third k a b c none = ap (key k a b) (omega (arith, none))
 
   keys : (kind : RowKind) (a b c : ℕ) → c < (thirds parts kind a b).to
-      → key_of (name_at kind a b c) ≡ key (rank kind) a b c
+      → sort_key (name_at kind a b c) ≡ key (rank kind) a b c
   keys (of.Nodes node.Mono) a b c to = refl
   keys (of.Nodes node.Top) a b c to = no_third 1 a b c to
   keys (of.Nodes node.Occupy) a b c to = refl

@@ -35,47 +35,47 @@ line_le from to (c ∷ columns) line =
     omega (arith, more)
 
 -- the first so many: nothing of a column that comes later
-skip : (cell position : ℕ) (column : Column) (columns : List Column)
+skip : (index position : ℕ) (column : Column) (columns : List Column)
     → column.start + column.width + column.stays ≤ position
-    → variable_at cell (column ∷ columns) position ≡ variable_at (cell + 1) columns position
-skip cell position column columns past =
+    → variable_at index (column ∷ columns) position ≡ variable_at (index + 1) columns position
+skip index position column columns past =
     by (nat_lt position (column.start + column.width + column.stays)) refl
   where
     by : (b : Bool) → nat_lt position (column.start + column.width + column.stays) ≡ b
-        → (if b then variable_in cell column position else variable_at (cell + 1) columns position)
-        ≡ variable_at (cell + 1) columns position
+        → (if b then variable_in index column position else variable_at (index + 1) columns position)
+        ≡ variable_at (index + 1) columns position
     by true early =
         let lt = ltb-true position (column.start + column.width + column.stays) early in
         absurd (omega (arith, lt, past))
     by false late = refl
 
-take_it : (cell position : ℕ) (column : Column) (columns : List Column)
+take_it : (index position : ℕ) (column : Column) (columns : List Column)
     → position < column.start + column.width + column.stays
-    → variable_at cell (column ∷ columns) position ≡ variable_in cell column position
-take_it cell position column columns within =
+    → variable_at index (column ∷ columns) position ≡ variable_in index column position
+take_it index position column columns within =
     by (nat_lt position (column.start + column.width + column.stays)) refl
   where
     by : (b : Bool) → nat_lt position (column.start + column.width + column.stays) ≡ b
-        → (if b then variable_in cell column position else variable_at (cell + 1) columns position)
-        ≡ variable_in cell column position
+        → (if b then variable_in index column position else variable_at (index + 1) columns position)
+        ≡ variable_in index column position
     by true early = refl
     by false late =
         let le = ltb-false position (column.start + column.width + column.stays) late in
         absurd (omega (arith, le, within))
 
-record IsPlaced (cell k from to o : ℕ) (columns : List Column) (column : Column) : Type 0 where
+record IsPlaced (index k from to o : ℕ) (columns : List Column) (column : Column) : Type 0 where
   from_le : from ≤ column.start
   within : column.start + o < to
-  here : variable_at cell columns (column.start + o)
-      ≡ variable_in (cell + k) column (column.start + o)
+  here : variable_at index columns (column.start + o)
+      ≡ variable_in (index + k) column (column.start + o)
 
-placed : (cell k from to o : ℕ) (columns : List Column) (column : Column)
+placed : (index k from to o : ℕ) (columns : List Column) (column : Column)
     → AreInLine from columns to → slice_get columns k ≡ Some column
-    → o < column.width + column.stays → IsPlaced cell k from to o columns column
-placed cell k from to o [] column line is opened = absurd (let e : ⊥ = cc in e)
-placed cell zero from to o (c ∷ columns) column line is opened =
+    → o < column.width + column.stays → IsPlaced index k from to o columns column
+placed index k from to o [] column line is opened = absurd (let e : ⊥ = cc in e)
+placed index zero from to o (c ∷ columns) column line is opened =
     let same : c ≡ column = cc in
-    subst (λ (d : Column). IsPlaced cell zero from to o (c ∷ columns) d) same (record {
+    subst (λ (d : Column). IsPlaced index zero from to o (c ∷ columns) d) same (record {
       from_le = omega (arith, line.0);
       within =
           let more = line_le (from + c.width + c.stays) to columns line.1 in
@@ -83,21 +83,21 @@ placed cell zero from to o (c ∷ columns) column line is opened =
           omega (arith, more, line.0, opened, own);
       here =
           let own = ap (λ (d : Column). d.width + d.stays) same in
-          take_it cell (c.start + o) c columns (omega (arith, opened, own))
-          ∙ ap (λ n. variable_in n c (c.start + o)) (plus_zero cell);
+          take_it index (c.start + o) c columns (omega (arith, opened, own))
+          ∙ ap (λ n. variable_in n c (c.start + o)) (plus_zero index);
     })
   where
     plus_zero : (n : ℕ) → n ≡ n + 0
     plus_zero n = omega arith
-placed cell (suc k) from to o (c ∷ columns) column line is opened =
-    let more = placed (cell + 1) k (from + c.width + c.stays) to o columns column line.1 is opened
+placed index (suc k) from to o (c ∷ columns) column line is opened =
+    let more = placed (index + 1) k (from + c.width + c.stays) to o columns column line.1 is opened
     in
     record {
       from_le = let le = more.from_le in omega (arith, le);
       within = more.within;
-      here = skip cell (column.start + o) c columns
+      here = skip index (column.start + o) c columns
           (let le = more.from_le in omega (arith, le, line.0)) ∙ more.here
-          ∙ ap (λ n. variable_in n column (column.start + o)) (next cell k);
+          ∙ ap (λ n. variable_in n column (column.start + o)) (next index k);
     }
   where
     next : (n m : ℕ) → n + 1 + m ≡ n + suc m
@@ -166,17 +166,17 @@ decode_by : (f n t : ℕ) (c : Column) → n < most_nodes → c.first ≤ t → 
     → variable_in (0 + (f * most_nodes + n)) c (c.start + (t - c.first)) ≡ By f n t
 decode_by f n t c few from small = by (nat_lt (c.start + (t - c.first)) (c.start + c.width)) refl
   where
-    cell : ℕ
-    cell = 0 + (f * most_nodes + n)
+    index : ℕ
+    index = 0 + (f * most_nodes + n)
 
     by : (b : Bool) → nat_lt (c.start + (t - c.first)) (c.start + c.width) ≡ b
-        → (if b then By (cell / most_nodes) (cell % most_nodes)
+        → (if b then By (index / most_nodes) (index % most_nodes)
         (c.first + (c.start + (t - c.first) - c.start))
-        else Inside (cell / most_nodes) (cell % most_nodes)
+        else Inside (index / most_nodes) (index % most_nodes)
         (c.first + (c.start + (t - c.first) - (c.start + c.width)))) ≡ By f n t
     by true early =
-        let flight : cell / most_nodes ≡ f = omega arith in
-        let node : cell % most_nodes ≡ n = omega arith in
+        let flight : index / most_nodes ≡ f = omega arith in
+        let node : index % most_nodes ≡ n = omega arith in
         let time : c.first + (c.start + (t - c.first) - c.start) ≡ t = omega arith in cc
     by false late =
         let le = ltb-false (c.start + (t - c.first)) (c.start + c.width) late in
@@ -187,20 +187,20 @@ decode_inside : (f n t : ℕ) (c : Column) → n < most_nodes → c.first ≤ t
 decode_inside f n t c few from =
     by (nat_lt (c.start + c.width + (t - c.first)) (c.start + c.width)) refl
   where
-    cell : ℕ
-    cell = 0 + (f * most_nodes + n)
+    index : ℕ
+    index = 0 + (f * most_nodes + n)
 
     by : (b : Bool) → nat_lt (c.start + c.width + (t - c.first)) (c.start + c.width) ≡ b
-        → (if b then By (cell / most_nodes) (cell % most_nodes)
+        → (if b then By (index / most_nodes) (index % most_nodes)
         (c.first + (c.start + c.width + (t - c.first) - c.start))
-        else Inside (cell / most_nodes) (cell % most_nodes)
+        else Inside (index / most_nodes) (index % most_nodes)
         (c.first + (c.start + c.width + (t - c.first) - (c.start + c.width)))) ≡ Inside f n t
     by true early =
         let lt = ltb-true (c.start + c.width + (t - c.first)) (c.start + c.width) early in
         absurd (omega (arith, lt))
     by false late =
-        let flight : cell / most_nodes ≡ f = omega arith in
-        let node : cell % most_nodes ≡ n = omega arith in
+        let flight : index / most_nodes ≡ f = omega arith in
+        let node : index % most_nodes ≡ n = omega arith in
         let time : c.first + (c.start + c.width + (t - c.first) - (c.start + c.width)) ≡ t =
         omega arith in cc
 
@@ -338,8 +338,8 @@ module _ (parts : Parts) (scenario : IsScenario parts) (outer root : Box)
       few = let most = (flight_in parts f node.flight scenario node.there).route.nodes_to in
           let at = node.node in omega (arith, at, most)
 
-      cell : f * most_nodes + n < length numbering.columns
-      cell =
+      index : f * most_nodes + n < length numbering.columns
+      index =
           let within = slice_get_within parts.flights f node.flight node.there in
           let long = are.length in
           let times : (f + 1) * most_nodes ≤ length parts.flights * most_nodes =
@@ -355,7 +355,7 @@ module _ (parts : Parts) (scenario : IsScenario parts) (outer root : Box)
       by : (o : Option Window) → (root f n).window ≡ o → IsWindowWithin (Some w) o → HasColumn f n w
       by None shut within = absurd within
       by (Some out) opened within =
-          let found = item_there numbering.columns (f * most_nodes + n) cell in
+          let found = item_there numbering.columns (f * most_nodes + n) index in
           let same = are.each (f * most_nodes + n) found.0 found.1
           ∙ ap₂ (λ i j. column_at parts.flights root i j found.0.start) (flight_of few)
           (node_of few)

@@ -5,7 +5,7 @@ use Rattle.flow_types.specs.declared.parts.Parts.{Parts}
 use Rattle.bytime_model.specs.declared.names.RowKind.{RowKind}
 use Rattle.bytime_model.specs.declared.names.RowName.{RowName}
 use Rattle.bytime_model.specs.AllRows.{kind_rows, part_rows, third_rows}
-use Rattle.bytime_model.specs.Kinds.{Key, key_of, name_at, part_count, second_count, thirds}
+use Rattle.bytime_model.specs.Kinds.{SortKey, sort_key, name_at, part_count, second_count, thirds}
 use Rattle.bytime_model.specs.Order.{IsBefore, is_before, is_less_or}
 use Rattle.bytime_model.proofs.NameLists.{Ascending, Each, ascending_append, ascending_flat, ascending_map, each_append, each_flat, each_map, each_weaker}
 
@@ -31,7 +31,7 @@ less_same a rest not = rw (le-ltb a a (omega arith), not) (by (a == a))
 
 pub not_before_itself : (a : RowName) → is_before a a ≡ false
 not_before_itself a =
-    let x = key_of a in
+    let x = sort_key a in
     less_same x.0 (is_less_or x.1 x.1 (is_less_or x.2 x.2 (nat_lt x.3 x.3)))
     (less_same x.1 (is_less_or x.2 x.2 (nat_lt x.3 x.3))
     (less_same x.2 (nat_lt x.3 x.3) (le-ltb x.3 x.3 (omega arith))))
@@ -64,9 +64,9 @@ less_on a b c r s t rest one two =
 
 pub before_on : (a b c : RowName) → IsBefore a b → IsBefore b c → IsBefore a c
 before_on a b c =
-    let x = key_of a in
-    let y = key_of b in
-    let z = key_of c in
+    let x = sort_key a in
+    let y = sort_key b in
+    let z = sort_key c in
     less_on x.0 y.0 z.0 (is_less_or x.1 y.1 (is_less_or x.2 y.2 (nat_lt x.3 y.3)))
     (is_less_or y.1 z.1 (is_less_or y.2 z.2 (nat_lt y.3 z.3)))
     (is_less_or x.1 z.1 (is_less_or x.2 z.2 (nat_lt x.3 z.3)))
@@ -77,25 +77,25 @@ before_on a b c =
 
 -- of a kind, of a number, of two
 pub record HasKind (k : ℕ) (name : RowName) : Type 0 where
-  pub kind : (key_of name).0 ≡ k
+  pub kind : (sort_key name).0 ≡ k
 
 pub record HasFirst (k n : ℕ) (name : RowName) : Type 0 where
-  pub kind : (key_of name).0 ≡ k
-  pub first : (key_of name).1 ≡ n
+  pub kind : (sort_key name).0 ≡ k
+  pub first : (sort_key name).1 ≡ n
 
 pub record HasSecond (k n m : ℕ) (name : RowName) : Type 0 where
-  pub kind : (key_of name).0 ≡ k
-  pub first : (key_of name).1 ≡ n
-  pub second : (key_of name).2 ≡ m
+  pub kind : (sort_key name).0 ≡ k
+  pub first : (sort_key name).1 ≡ n
+  pub second : (sort_key name).2 ≡ m
 
 -- from a kind on
 pub record IsFrom (k : ℕ) (name : RowName) : Type 0 where
-  pub from : k ≤ (key_of name).0
+  pub from : k ≤ (sort_key name).0
 
 before_kind : (k : ℕ) (a b : RowName) → HasKind k a → IsFrom (k + 1) b → IsBefore a b
 before_kind k a b one two =
-    let x = key_of a in
-    let y = key_of b in
+    let x = sort_key a in
+    let y = sort_key b in
     let is = one.kind in
     let past = two.from in
     less_now x.0 y.0
@@ -105,8 +105,8 @@ before_kind k a b one two =
 before_first : (k n m : ℕ) (a b : RowName) → n < m → HasFirst k n a → HasFirst k m b
     → IsBefore a b
 before_first k n m a b less one two =
-    let x = key_of a in
-    let y = key_of b in
+    let x = sort_key a in
+    let y = sort_key b in
     let is = one.first in
     let too = two.first in
     less_then x.0 y.0
@@ -118,8 +118,8 @@ before_first k n m a b less one two =
 before_second : (k f n m : ℕ) (a b : RowName) → n < m → HasSecond k f n a → HasSecond k f m b
     → IsBefore a b
 before_second k f n m a b less one two =
-    let x = key_of a in
-    let y = key_of b in
+    let x = sort_key a in
+    let y = sort_key b in
     let is = one.second in
     let too = two.second in
     less_then x.0 y.0
@@ -129,12 +129,12 @@ before_second k f n m a b less one two =
     (one.first ∙ sym two.first)
     (less_now x.2 y.2 (nat_lt x.3 y.3) (omega (arith, is, too, less))))
 
-before_third : (a b : RowName) → (key_of a).0 ≡ (key_of b).0
-    → (key_of a).1 ≡ (key_of b).1 → (key_of a).2 ≡ (key_of b).2
-    → (key_of a).3 < (key_of b).3 → IsBefore a b
+before_third : (a b : RowName) → (sort_key a).0 ≡ (sort_key b).0
+    → (sort_key a).1 ≡ (sort_key b).1 → (sort_key a).2 ≡ (sort_key b).2
+    → (sort_key a).3 < (sort_key b).3 → IsBefore a b
 before_third a b kind first second less =
-    let x = key_of a in
-    let y = key_of b in
+    let x = sort_key a in
+    let y = sort_key b in
     less_then x.0 y.0
     (is_less_or x.1 y.1 (is_less_or x.2 y.2 (nat_lt x.3 y.3))) kind
     (less_then x.1 y.1 (is_less_or x.2 y.2 (nat_lt x.3 y.3)) first
@@ -149,7 +149,7 @@ pub record AreOf (k : ℕ) (names : List RowName) : Type 0 where
 -- they are so where its names have the numbers that they are made of
 module _ (parts : Parts) (kind : RowKind) (k : ℕ)
     (keys : (a b c : ℕ) → c < (thirds parts kind a b).to
-    → key_of (name_at kind a b c) ≡ (k, a, b, c))
+    → sort_key (name_at kind a b c) ≡ (k, a, b, c))
   where
     thirds_each : (a b : ℕ) → Each (HasSecond k a b) (third_rows parts kind a b)
     thirds_each a b =
@@ -157,9 +157,9 @@ module _ (parts : Parts) (kind : RowKind) (k : ℕ)
         ((thirds parts kind a b).to - (thirds parts kind a b).from) (λ c past before.
         let key = keys a b c (omega (arith, past, before)) in
         record {
-          kind = ap (λ (key : Key). key.0) key;
-          first = ap (λ (key : Key). key.1) key;
-          second = ap (λ (key : Key). key.2) key;
+          kind = ap (λ (key : SortKey). key.0) key;
+          first = ap (λ (key : SortKey). key.1) key;
+          second = ap (λ (key : SortKey). key.2) key;
         })
 
     thirds_ascend : (a b : ℕ) → Ascending IsBefore (third_rows parts kind a b)
@@ -168,12 +168,12 @@ module _ (parts : Parts) (kind : RowKind) (k : ℕ)
         ((thirds parts kind a b).to - (thirds parts kind a b).from) (λ c d past onward before.
         let one = keys a b c (omega (arith, past, onward, before)) in
         let two = keys a b d (omega (arith, past, onward, before)) in
-        let third = ap (λ (key : Key). key.3) one in
-        let fourth = ap (λ (key : Key). key.3) two in
+        let third = ap (λ (key : SortKey). key.3) one in
+        let fourth = ap (λ (key : SortKey). key.3) two in
         before_third (name_at kind a b c) (name_at kind a b d)
-        (ap (λ (key : Key). key.0) one ∙ sym (ap (λ (key : Key). key.0) two))
-        (ap (λ (key : Key). key.1) one ∙ sym (ap (λ (key : Key). key.1) two))
-        (ap (λ (key : Key). key.2) one ∙ sym (ap (λ (key : Key). key.2) two))
+        (ap (λ (key : SortKey). key.0) one ∙ sym (ap (λ (key : SortKey). key.0) two))
+        (ap (λ (key : SortKey). key.1) one ∙ sym (ap (λ (key : SortKey). key.1) two))
+        (ap (λ (key : SortKey). key.2) one ∙ sym (ap (λ (key : SortKey). key.2) two))
         (omega (arith, onward, third, fourth)))
 
     part_each : (a : ℕ) → Each (HasFirst k a) (part_rows parts kind a)

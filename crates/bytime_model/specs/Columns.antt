@@ -25,9 +25,9 @@ pub record Numbering : Type 0 where
   pub columns : List Column
   pub count : ℕ
 
-abbrev pub cell_of : Var → ℕ
-cell_of (By flight node time) = flight * most_nodes + node
-cell_of (Inside flight node time) = flight * most_nodes + node
+abbrev pub index_of : Var → ℕ
+index_of (By flight node time) = flight * most_nodes + node
+index_of (Inside flight node time) = flight * most_nodes + node
 
 abbrev pub position_in : Column → Var → ℕ
 position_in column (By flight node time) = column.start + (time - column.first)
@@ -36,22 +36,22 @@ position_in column (Inside flight node time) =
 
 abbrev pub position_of : List Column → Var → ℕ
 position_of columns variable =
-    position_in (slice_index_or columns (cell_of variable) no_column) variable
+    position_in (slice_index_or columns (index_of variable) no_column) variable
 
 -- and back
 abbrev pub variable_in : ℕ → Column → ℕ → Var
-variable_in cell column position =
+variable_in index column position =
     if nat_lt position (column.start + column.width)
-    then By (cell / most_nodes) (cell % most_nodes) (column.first + (position - column.start))
-    else Inside (cell / most_nodes) (cell % most_nodes)
+    then By (index / most_nodes) (index % most_nodes) (column.first + (position - column.start))
+    else Inside (index / most_nodes) (index % most_nodes)
     (column.first + (position - (column.start + column.width)))
 
 abbrev pub variable_at : ℕ → List Column → ℕ → Var
-variable_at cell [] position = By 0 0 0
-variable_at cell (column ∷ columns) position =
+variable_at index [] position = By 0 0 0
+variable_at index (column ∷ columns) position =
     if nat_lt position (column.start + column.width + column.stays)
-    then variable_in cell column position
-    else variable_at (cell + 1) columns position
+    then variable_in index column position
+    else variable_at (index + 1) columns position
 
 -- one after the other, from a position up to another
 abbrev pub AreInLine : ℕ → List Column → ℕ → Type 0
@@ -129,7 +129,7 @@ column_at flights box flight node start =
     column_in (box flight node).window (if (box flight node).must then 1 else 0)
     (stays_from (slice_get flights flight) (box flight) node) start
 
--- the columns of the first so many cells
+-- the columns of the first so many indices
 pub record AreColumnsTo (flights : List Flight) (box : Box) (count : ℕ) (numbering : Numbering)
     : Type 0 where
   pub length : length numbering.columns ≡ count

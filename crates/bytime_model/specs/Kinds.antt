@@ -24,20 +24,20 @@ row_kinds =
     ∷ of.Connections ∷ []
 
 -- the position of a name's kind in the list, cuts last, and its numbers, 0 for one that it hasn't
-abbrev pub Key : Type 0
-Key = ℕ × ℕ × ℕ × ℕ
+abbrev pub SortKey : Type 0
+SortKey = ℕ × ℕ × ℕ × ℕ
 
-abbrev pub key_of : RowName → Key
-key_of (Mono f n t) = (0, f, n, t)
-key_of (Top f n) = (1, f, n, 0)
-key_of (Dep p t) = (2, p, t, 0)
-key_of (Arr p t) = (3, p, t, 0)
-key_of (Sector p t) = (4, p, t, 0)
-key_of (Occupy f n t) = (5, f, n, t)
-key_of (Enter f n t) = (6, f, n, t)
-key_of (Leave f n) = (7, f, n, 0)
-key_of (Connect c t) = (8, c, t, 0)
-key_of (Cut i) = (length row_kinds, i, 0, 0)
+abbrev pub sort_key : RowName → SortKey
+sort_key (Mono f n t) = (0, f, n, t)
+sort_key (Top f n) = (1, f, n, 0)
+sort_key (Dep p t) = (2, p, t, 0)
+sort_key (Arr p t) = (3, p, t, 0)
+sort_key (Sector p t) = (4, p, t, 0)
+sort_key (Occupy f n t) = (5, f, n, t)
+sort_key (Enter f n t) = (6, f, n, t)
+sort_key (Leave f n) = (7, f, n, 0)
+sort_key (Connect c t) = (8, c, t, 0)
+sort_key (Cut i) = (length row_kinds, i, 0, 0)
 
 -- and back: the name of a kind that has these numbers
 abbrev pub node_name : NodeKind → ℕ → ℕ → ℕ → RowName
@@ -59,7 +59,7 @@ name_at of.Connections c t none = Connect c t
 
 -- the position of a kind in the list, by any of its names
 abbrev pub rank : RowKind → ℕ
-rank kind = (key_of (name_at kind 0 0 0)).0
+rank kind = (sort_key (name_at kind 0 0 0)).0
 
 -- how many flights, places or connections the rows of a kind are of: so many first numbers
 abbrev pub part_count : Parts → RowKind → ℕ

@@ -1,9 +1,10 @@
 //! The names of all rows of a day, together or part by part.
-ghost use Rattle.std.specs.Prelude.{◌≡◌, ◌++◌, ◌↔◌, true, AllPairs, IfOk, OnOk};
+ghost use Rattle.std.specs.Prelude.{◌≡◌, ◌<◌, ◌++◌, ◌↔◌, true, AllPairs, IfOk, OnOk};
 ghost use Rattle.std.specs.List.{Any};
 ghost use Rattle.flow_types.specs.Scenario.{parts_of};
 ghost use Rattle.bytime_model.specs.declared.names.RowName.{RowName};
 ghost use Rattle.bytime_model.specs.AllRows.{kind_rows, kinds_rows, part_rows, rows_of, third_rows};
+ghost use Rattle.bytime_model.specs.Kinds.{part_count};
 ghost use Rattle.bytime_model.specs.Order.{IsBefore};
 ghost use Rattle.bytime_model.specs.Rows.{is_row};
 
@@ -27,15 +28,16 @@ pub fn rows_of(alloc: Global, s: &Scenario) -> Result<RowNames, OutOfMemory>
     Ok(names)
 }
 
-/// The names of this kind that are of the flight, place or connection at the position. Those of
-/// all, one after the other, kind by kind, are `rows_of`. It takes 12 bytes for each name, or up to
-/// twice that, since the list grows. There are 16,384 at the most.
+/// The names of this kind that are of the flight, place or connection at the position, of which
+/// there are `part_count`. Those of all, one after the other, kind by kind, are `rows_of`. It takes
+/// 12 bytes for each name, or up to twice that, since the list grows. There are 16,384 at the most.
 pub fn part_rows(
     alloc: Global,
     s: &Scenario,
     kind: RowKind,
     position: u32,
 ) -> Result<RowNames, OutOfMemory>
+    requires { position < part_count (parts_of s.now) kind }
     ensures { IfOk result (λ names. names ≡ part_rows (parts_of s.now) kind position) }
 {
     let mut names = RowNames::empty(alloc);

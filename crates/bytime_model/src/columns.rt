@@ -109,8 +109,8 @@ impl Columns {
     fn column(&self, flight: u32, node: u16) -> Column
         ensures { result ≡ slice_index_or self.now.columns (flight * most_nodes + node) no_column }
     {
-        let cell = flight as usize * MOST_NODES + usize::from(node);
-        match self.columns.get(cell) {
+        let index = flight as usize * MOST_NODES + usize::from(node);
+        match self.columns.get(index) {
             None => NO_COLUMN,
             Some(column) => *column,
         }
@@ -118,15 +118,15 @@ impl Columns {
 
     // Adds the column of the next node.
     #[tactic(auto, using(crate::proofs::ColumnFacts::one_more))]
-    fn add(&mut self, s: &Scenario, boxes: &Boxes, cell: usize) -> Result<(), OutOfMemory>
+    fn add(&mut self, s: &Scenario, boxes: &Boxes, index: usize) -> Result<(), OutOfMemory>
         requires made { IsMadeFor (parts_of s.now) boxes.now }
-        requires cell { cell < 2 ^ 32 }
-        requires before { AreColumnsTo (parts_of s.now).flights (box_of boxes.now) cell self.old }
+        requires index { index < 2 ^ 32 }
+        requires before { AreColumnsTo (parts_of s.now).flights (box_of boxes.now) index self.old }
         ensures { OnOk result (AreColumnsTo (parts_of s.now).flights (box_of boxes.now)
-            (cell + 1) self.new) }
+            (index + 1) self.new) }
     {
-        let flight = (cell / MOST_NODES) as u32;
-        let node = (cell % MOST_NODES) as u16;
+        let flight = (index / MOST_NODES) as u32;
+        let node = (index % MOST_NODES) as u16;
         let column = column_at(s, boxes, flight, node, self.count);
         self.columns.push(column)?;
         self.count += column.width as usize + column.stays as usize;
@@ -141,13 +141,13 @@ fn columns_of(alloc: Global, s: &Scenario, boxes: &Boxes) -> Result<Columns, Out
     ensures { IfOk result (AreColumnsTo (parts_of s.now).flights (box_of boxes.now)
         (length (parts_of s.now).flights * most_nodes)) }
 {
-    let cells = s.flights().len() * MOST_NODES;
+    let count = s.flights().len() * MOST_NODES;
     let mut columns = Columns {
-        columns: Vec::with_capacity(alloc, cells)?,
+        columns: Vec::with_capacity(alloc, count)?,
         count: 0,
     };
-    for cell in 0..cells {
-        columns.add(s, boxes, cell)?;
+    for index in 0..count {
+        columns.add(s, boxes, index)?;
     }
     Ok(columns)
 }

@@ -2,7 +2,7 @@
 ghost use Rattle.std.specs.Prelude.{◌≡◌, ◌≤◌, false, if◌then◌else◌};
 ghost use Rattle.flow_types.specs.Scenario.{flight_at, parts_of};
 ghost use Rattle.bytime_model.specs.declared.names.RowName.{RowName};
-ghost use Rattle.bytime_model.specs.Kinds.{capacity_name, key_of, name_at, node_name, node_thirds, part_count, row_kinds, second_count, thirds, up_to};
+ghost use Rattle.bytime_model.specs.Kinds.{capacity_name, sort_key, name_at, node_name, node_thirds, part_count, row_kinds, second_count, thirds, up_to};
 ghost use Rattle.bytime_model.specs.Order.{IsBefore, is_before, is_less, is_less_or};
 ghost use Rattle.bytime_model.specs.Rows.{node_count};
 
@@ -80,10 +80,10 @@ pub fn row_kinds() -> [RowKind; 9]
 
 // The position of the kind in `row_kinds`, cuts last, and the numbers, 0 for one that the name
 // hasn't.
-type Key = (u8, u32, u32, u32);
+type SortKey = (u8, u32, u32, u32);
 
-fn key_of(name: RowName) -> Key
-    ensures { result ≡ key_of name }
+fn sort_key(name: RowName) -> SortKey
+    ensures { result ≡ sort_key name }
 {
     match name {
         RowName::Mono { flight, node, time } => (0, flight, u32::from(node), u32::from(time)),
@@ -229,12 +229,12 @@ impl RowName {
     pub fn is_before(self, other: RowName) -> bool
         ensures { result ≡ is_before self other }
     {
-        is_less(key_of(self), key_of(other))
+        is_less(sort_key(self), sort_key(other))
     }
 }
 
 // Whether the first is less, by the first number in which they differ.
-fn is_less(a: Key, b: Key) -> bool
+fn is_less(a: SortKey, b: SortKey) -> bool
     ensures { result ≡ is_less a b }
 {
     if a.0 != b.0 {

@@ -23,10 +23,10 @@ impl RowBuffer {
     ghost use Rattle.bytime_model.specs.Visits.{AreVisitsOf};
 
     /// Holds the row of the name, if there is one, and no terms else. Tells whether there is. A cut
-    /// has no row here. No plan that keeps every rule breaks the row, no two of its terms are of one
-    /// variable, and no factor is 0. It takes no memory. A row of departures or arrivals takes time
-    /// for each flight of the day, that of a sector for each node of each flight and each leg of
-    /// those that have a node there, and any other for each leg of its flight.
+    /// has no row here. No plan that keeps every rule breaks the row, no two of its terms are of
+    /// one variable, and no factor is 0. It takes no memory. A row of departures or arrivals takes
+    /// time for each flight of the day, that of a sector for each node of each flight and each leg
+    /// of those that have a node there, and any other for each leg of its flight.
     pub fn fill(&mut self, s: &Scenario, name: RowName) -> bool
         ensures told { result ≡ is_row (parts_of s.now) name }
         ensures row { result ≡ true → self.new ≡ row_of (parts_of s.now) name }

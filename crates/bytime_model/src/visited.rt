@@ -77,8 +77,8 @@ fn put_visited(
     put_visits(buffer, s, visits.at(place), kind, time);
 }
 
-/// Adds what all flights put into the row of the place: by the visits where they are known, and else
-/// flight by flight.
+/// Adds what all flights put into the row of the place: by the visits where they are known, and
+/// else flight by flight.
 pub fn put_taken(
     buffer: &mut RowBuffer,
     s: &Scenario,

@@ -31,7 +31,7 @@ use Rattle.bytime_model.specs.declared.names.RowName.TheVariants.{Arr, Connect, 
 use Rattle.bytime_model.specs.Rows.{is_capacity}
 use Rattle.dual_leaf.specs.declared.fault.LeafFault.{LeafFault}
 use Rattle.dual_leaf.specs.Lag.{ArePricedBy, IsFirstUnpriceable, IsSetBy, is_key, is_priceable, set_by, set_on}
-use Rattle.dual_leaf.specs.Leaf.{IsTableSaid}
+use Rattle.dual_leaf.specs.Leaf.{IsTableAnswer}
 use Rattle.dual_leaf.specs.PriceRows.{key_of}
 use Rattle.time_windows.specs.Plans.{IsBoundIn}
 
@@ -178,7 +178,7 @@ priced-small parts rows table is few = λ at there.
 -- what a table says is true of all plans in the box
 pub table-sound : (parts : Parts) (box : Box) (weight : ℕ) (table : PriceTable)
     (answer : Result Bound LeafFault) → IsScenario parts
-    → IsTableSaid parts box weight table answer → IfOk answer (IsBoundIn parts box)
+    → IsTableAnswer parts box weight table answer → IfOk answer (IsBoundIn parts box)
 table-sound parts box weight table answer valid (inl lack) =
     subst (λ z. IfOk z (IsBoundIn parts box)) (sym lack.none) (λ plan kept.
     none-inside parts box lack.lacks.number plan lack.lacks.within lack.lacks.none kept.feasible
@@ -187,11 +187,11 @@ table-sound parts box weight table (Err fault) valid (inr is) = tt
 table-sound parts box weight table (Ok NoPlan) valid (inr is) = λ plan kept.
     let le = value-below parts box weight table is.value plan valid is.priced kept.feasible
     kept.inside in
-    let zero_of = ap (λ w. pos w *ℤ plan_cost parts.tables parts.flights plan) is.said.0
+    let zero_of = ap (λ w. pos w *ℤ plan_cost parts.tables parts.flights plan) is.answered.0
     ∙ zero-*ℤ (plan_cost parts.tables parts.flights plan) in
-    omega (arith, ints, le, zero_of, is.said.1)
+    omega (arith, ints, le, zero_of, is.answered.1)
 table-sound parts box weight table (Ok (AtLeast least)) valid (inr is) = λ plan kept.
     let le = value-below parts box weight table is.value plan valid is.priced kept.feasible
     kept.inside in
     let turned = *ℤ_comm (pos weight) (plan_cost parts.tables parts.flights plan) in
-    is.said.1.below (plan_cost parts.tables parts.flights plan) (omega (arith, ints, le, turned))
+    is.answered.1.below (plan_cost parts.tables parts.flights plan) (omega (arith, ints, le, turned))

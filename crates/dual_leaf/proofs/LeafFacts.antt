@@ -59,7 +59,7 @@ dual_bound parts box weight rows bound valid made (inr fault) = absurd fault
 lag_bound : (parts : Parts) (box : Box) (weight : ℕ) (rows : List Multiplier) (bound : Bound)
     → IsScenario parts → IsLagAnswer parts box weight rows (Ok bound) → IsBoundIn parts box bound
 lag_bound parts box weight rows bound valid (inl is) =
-    table-sound parts box weight is.table (Ok bound) valid is.said
+    table-sound parts box weight is.table (Ok bound) valid is.answered
 lag_bound parts box weight rows bound valid (inr fault) = absurd fault
 
 pub leaf_bounds : (parts : Parts) (box : Box) (leaf : Leaf) (bound : Bound) → IsScenario parts

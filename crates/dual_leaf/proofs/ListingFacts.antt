@@ -12,20 +12,20 @@ use Rattle.flow_types.specs.declared.parts.Parts.{Parts}
 use Rattle.flow_types.specs.declared.place.CapKind.TheVariants as cap
 use Rattle.flow_types.specs.Valid.{IsScenario}
 use Rattle.flight_routes.specs.Prices.{PriceTable, key_in, kind_number, price_at, row_count}
-use Rattle.priced_plans.specs.Keys.{ArePlaced, IsKeyFor, has_limit, is_limited}
+use Rattle.priced_plans.specs.Keys.{ArePlaced, IsKeyFor, has_limit, row_has_limit}
 use Rattle.priced_plans.proofs.KeyFacts.{itself, key_at, row_within}
 use Rattle.bytime_model.specs.Order.{IsBefore}
 use Rattle.bytime_model.specs.declared.multiplier.Multiplier.{Multiplier}
 use Rattle.dual_leaf.specs.Lag.{is_key, is_priceable, set_by, set_on}
 use Rattle.dual_leaf.proofs.LagFacts.{set-more}
-use Rattle.dual_leaf.specs.PriceRows.{key_of, row_at, row_of}
+use Rattle.dual_leaf.specs.PriceRows.{key_of, name_at, name_of}
 use Rattle.dual_leaf.specs.Listing.{IsListed, IsNamedBelow, is_listed, most_listed}
 
-named : (k : PriceKey) → key_of (row_of k) ≡ Some k
+named : (k : PriceKey) → key_of (name_of k) ≡ Some k
 named k = by k.kind k.row k.period
   where
     by : (kind : PriceKind) (row period : ℕ)
-        → key_of (row_at kind row period) ≡ Some (key_in kind row period)
+        → key_of (name_at kind row period) ≡ Some (key_in kind row period)
     by (Capacity cap.Dep) row period = refl
     by (Capacity cap.Arr) row period = refl
     by (Capacity cap.Sector) row period = refl
@@ -48,20 +48,20 @@ limited parts table k placed within some = by (has_limit parts k) refl where
   by false is = absurd (let none = placed k within is in omega (arith, some, none))
 
 priceable : (parts : Parts) (k : PriceKey) → IsKeyFor parts k → has_limit parts k ≡ true
-    → is_priceable parts (row_of k) ≡ true
+    → is_priceable parts (name_of k) ≡ true
 priceable parts k within limit = by k.kind k.row k.period within.0 within.1 limit
   where
     by : (kind : PriceKind) (row period : ℕ) → row < row_count parts kind
-        → period < parts.day.periods → is_limited parts kind row ≡ true
-        → is_priceable parts (row_at kind row period) ≡ true
+        → period < parts.day.periods → row_has_limit parts kind row ≡ true
+        → is_priceable parts (name_at kind row period) ≡ true
     by (Capacity cap.Dep) row period there in_day has =
-        and_true (is_limited parts (Capacity cap.Dep) row) (nat_lt period parts.day.periods) has
+        and_true (row_has_limit parts (Capacity cap.Dep) row) (nat_lt period parts.day.periods) has
         (is_less period parts.day.periods in_day)
     by (Capacity cap.Arr) row period there in_day has =
-        and_true (is_limited parts (Capacity cap.Arr) row) (nat_lt period parts.day.periods) has
+        and_true (row_has_limit parts (Capacity cap.Arr) row) (nat_lt period parts.day.periods) has
         (is_less period parts.day.periods in_day)
     by (Capacity cap.Sector) row period there in_day has =
-        and_true (is_limited parts (Capacity cap.Sector) row) (nat_lt period parts.day.periods)
+        and_true (row_has_limit parts (Capacity cap.Sector) row) (nat_lt period parts.day.periods)
         has (is_less period parts.day.periods in_day)
     by Connected row period there in_day has =
         and_true (nat_lt row (length parts.connections)) (nat_lt period parts.day.periods)
@@ -124,12 +124,12 @@ never_before : {A : Type 0} → false ≡ true → A
 never_before is = absurd (let e : false ≡ true = is in cc)
 
 rows_before : (j k : PriceKey) → is_listed (kind_number k.kind) k.row k.period j ≡ true
-    → IsBefore (row_of j) (row_of k)
+    → IsBefore (name_of j) (name_of k)
 rows_before j k before = by j.kind k.kind j.row j.period k.row k.period before
   where
     by : (a b : PriceKind) (p u q t : ℕ)
         → is_listed (kind_number b) q t (key_in a p u) ≡ true
-        → IsBefore (row_at a p u) (row_at b q t)
+        → IsBefore (name_at a p u) (name_at b q t)
     by (Capacity cap.Dep) (Capacity cap.Dep) p u q t before = less p u q t before
     by (Capacity cap.Dep) (Capacity cap.Arr) p u q t before = refl
     by (Capacity cap.Dep) (Capacity cap.Sector) p u q t before = refl
@@ -303,7 +303,7 @@ module _ (parts : Parts) (table : PriceTable) where
     pub listed-more : (rows : List Multiplier) (value : ℕ) → ArePlaced parts table
         → IsKeyFor parts k → value ≡ price_at table k → 0 < value → value < 2 ^ 62
         → IsListed parts table n r t rows
-        → IsListed parts table n r (t + 1) (rows ++ record { row = row_of k; value = value } ∷ [])
+        → IsListed parts table n r (t + 1) (rows ++ record { row = name_of k; value = value } ∷ [])
     listed-more rows value placed within_day is some low before = record {
       priceable = λ i multiplier at. fine i multiplier at;
       each = λ other within. set-more rows m other 0
@@ -315,7 +315,7 @@ module _ (parts : Parts) (table : PriceTable) where
       positive = All-push (λ x. 0 < x.value) rows m before.positive some;
       ascending = all_pairs_push (λ x y. IsBefore x.row y.row) rows m before.ascending
           (λ i d within. let below = before.named i d within in
-          subst (λ z. IsBefore z (row_of k)) (sym below.is)
+          subst (λ z. IsBefore z (name_of k)) (sym below.is)
           (rows_before below.key k below.listed));
       named = All-push (IsNamedBelow parts n r (t + 1)) rows m (further rows before.named) (record {
         key = k;
@@ -330,7 +330,7 @@ module _ (parts : Parts) (table : PriceTable) where
     }
       where
         m : Multiplier
-        m = record { row = row_of k; value = value }
+        m = record { row = name_of k; value = value }
 
         fine : (i : ℕ) (multiplier : Multiplier)
             → slice_get (rows ++ m ∷ []) i ≡ Some multiplier

@@ -10,7 +10,7 @@ use Rattle.flow_types.specs.Valid.{IsScenario}
 use Rattle.flight_routes.specs.Prices.{PriceTable}
 use Rattle.time_windows.specs.declared.access.Access.{Access}
 use Rattle.time_windows.specs.Boxes.{Box, IsClosedMust, options_of}
-use Rattle.time_windows.specs.Tight.{IsEarlierNode, IsFirstClosed}
+use Rattle.time_windows.specs.Tight.{IsEarlierNode, IsFirstClosed, IsLive}
 use Rattle.priced_plans.proofs.KeyFacts.{key_of}
 use Rattle.priced_plans.proofs.OnceFacts.{lacks_none, least_once}
 use Rattle.priced_plans.proofs.SameFacts.{AreSame, rounded_same, value_same}
@@ -21,7 +21,7 @@ use Rattle.valid_cuts.specs.Dual.{IsChoice, IsFirstUnknown, dual_at}
 use Rattle.dual_leaf.specs.declared.fault.LeafFault.{LeafFault}
 use Rattle.dual_leaf.specs.declared.fault.LeafFault.TheVariants.{Closed, NotEmpty, NotUnit, UnknownRow, Useless}
 use Rattle.dual_leaf.specs.Lag.{ArePricedBy, IsFirstUnpriceable}
-use Rattle.dual_leaf.specs.Leaf.{IsCostIn, IsDualAnswer, IsDualFault, IsEmptyBound, IsFirstOther, IsLagAnswer, IsLagFault, IsLeafBound, IsLive, IsNotUnit, IsSaid, IsTableSaid, IsUnitBound, IsUnitBox}
+use Rattle.dual_leaf.specs.Leaf.{IsCostIn, IsDualAnswer, IsDualFault, IsEmptyBound, IsFirstOther, IsLagAnswer, IsLagFault, IsLeafBound, IsNotUnit, IsAnswerOf, IsTableAnswer, IsUnitBound, IsUnitBox}
 use Rattle.dual_leaf.proofs.LeafFacts.{same_plan}
 
 abbrev Answer : Type 0
@@ -106,18 +106,18 @@ module _ (box : Box) where
   no_row_fault First x live none (inr (k, is, alive, p)) = none k p
 
 -- what a value says is one
-said_one : (weight : ℕ) (value : ℤ) (x y : Answer) → IsSaid weight value x
-    → IsSaid weight value y → x ≡ y
-said_one weight value (Ok (AtLeast a)) (Ok (AtLeast b)) p q =
+answer_one : (weight : ℕ) (value : ℤ) (x y : Answer) → IsAnswerOf weight value x
+    → IsAnswerOf weight value y → x ≡ y
+answer_one weight value (Ok (AtLeast a)) (Ok (AtLeast b)) p q =
     ap (λ (z : ℤ). Ok (AtLeast z)) (rounded_same value weight a b p.1 q.1)
-said_one weight value (Ok (AtLeast a)) (Ok NoPlan) p q = absurd (omega (arith, p.0, q.0))
-said_one weight value (Ok (AtLeast a)) (Err e) p q = absurd (omega (arith, p.0, q.0))
-said_one weight value (Ok NoPlan) (Ok (AtLeast b)) p q = absurd (omega (arith, p.0, q.0))
-said_one weight value (Ok NoPlan) (Ok NoPlan) p q = refl
-said_one weight value (Ok NoPlan) (Err e) p q = absurd (omega (arith, ints, p.1, q.1))
-said_one weight value (Err d) (Ok (AtLeast b)) p q = absurd (omega (arith, p.0, q.0))
-said_one weight value (Err d) (Ok NoPlan) p q = absurd (omega (arith, ints, p.1, q.1))
-said_one weight value (Err d) (Err e) p q = ap Err (p.2 ∙ sym q.2)
+answer_one weight value (Ok (AtLeast a)) (Ok NoPlan) p q = absurd (omega (arith, p.0, q.0))
+answer_one weight value (Ok (AtLeast a)) (Err e) p q = absurd (omega (arith, p.0, q.0))
+answer_one weight value (Ok NoPlan) (Ok (AtLeast b)) p q = absurd (omega (arith, p.0, q.0))
+answer_one weight value (Ok NoPlan) (Ok NoPlan) p q = refl
+answer_one weight value (Ok NoPlan) (Err e) p q = absurd (omega (arith, ints, p.1, q.1))
+answer_one weight value (Err d) (Ok (AtLeast b)) p q = absurd (omega (arith, p.0, q.0))
+answer_one weight value (Err d) (Ok NoPlan) p q = absurd (omega (arith, ints, p.1, q.1))
+answer_one weight value (Err d) (Err e) p q = ap Err (p.2 ∙ sym q.2)
 
 module _ (parts : Parts) (box : Box) where
   cost_one : (a b : Bound) → IsScenario parts → IsUnitBox box → IsCostIn parts box a
@@ -161,10 +161,10 @@ module _ (parts : Parts) (box : Box) where
     dual_one : (x y : Answer) → IsDualAnswer parts box weight rows x
         → IsDualAnswer parts box weight rows y → x ≡ y
     dual_one x y (inl p) (inl q) =
-        said_one weight p.value x y p.said
-        (subst (λ v. IsSaid weight v y)
+        answer_one weight p.value x y p.answered
+        (subst (λ v. IsAnswerOf weight v y)
         (least_once (IsChoice parts.flights box) (dual_at parts weight rows) q.value p.value
-        q.least p.least) q.said)
+        q.least p.least) q.answered)
     dual_one x y (inl p) (inr q) =
         absurd (no_row_fault box (IsFirstUnknown parts rows) y p.live
         (λ k first. clash _ (p.known k first.multiplier first.here) first.unknown)
@@ -203,23 +203,23 @@ module _ (parts : Parts) (box : Box) where
         ∙ sym (q.each at (key_of parts b at q.size within))
 
     table_one : (a b : PriceTable) (x y : Answer) → IsScenario parts → AreSame parts a b
-        → IsTableSaid parts box weight a x → IsTableSaid parts box weight b y → x ≡ y
+        → IsTableAnswer parts box weight a x → IsTableAnswer parts box weight b y → x ≡ y
     table_one a b x y valid same (inl p) (inl q) = p.none ∙ sym q.none
     table_one a b x y valid same (inl p) (inr q) =
         absurd (lacks_none parts box weight b q.value p.lacks q.priced)
     table_one a b x y valid same (inr p) (inl q) =
         absurd (lacks_none parts box weight a p.value q.lacks p.priced)
     table_one a b x y valid same (inr p) (inr q) =
-        said_one weight p.value x y p.said
-        (subst (λ v. IsSaid weight v y)
+        answer_one weight p.value x y p.answered
+        (subst (λ v. IsAnswerOf weight v y)
         (sym (value_same parts valid a b same box weight p.value q.value p.priced q.priced))
-        q.said)
+        q.answered)
 
     lag_one : (x y : Answer) → IsScenario parts → IsLagAnswer parts box weight rows x
         → IsLagAnswer parts box weight rows y → x ≡ y
     lag_one x y valid (inl p) (inl q) =
         table_one p.table q.table x y valid (priced_same p.table q.table p.prices q.prices)
-        p.said q.said
+        p.answered q.answered
     lag_one x y valid (inl p) (inr q) =
         absurd (no_row_fault box (IsFirstUnpriceable parts rows) y p.live
         (λ k first. clash _ (p.priceable k first.multiplier first.here) first.unpriceable)

@@ -25,7 +25,8 @@ use Rattle.bytime_model.proofs.ValidFacts.{flown}
 use Rattle.bytime_model.specs.declared.multiplier.Multiplier.{Multiplier}
 use Rattle.plan_rules.proofs.CountFacts.{stays_at-once}
 use Rattle.valid_cuts.specs.Dual.{AreKnown, IsChoice, IsDualValue, dual_at, excess, excesses}
-use Rattle.dual_leaf.specs.Leaf.{IsDualBound, IsLive, IsSaid}
+use Rattle.time_windows.specs.Tight.{IsLive}
+use Rattle.dual_leaf.specs.Leaf.{IsDualBound, IsAnswerOf}
 use Rattle.time_windows.specs.Plans.{IsBoundIn}
 use Rattle.dual_leaf.specs.declared.fault.LeafFault.{LeafFault}
 use Rattle.valid_cuts.proofs.TimesFacts.{times-down}
@@ -92,23 +93,23 @@ dual_sound parts box weight rows NoPlan scenario made is = λ plan kept.
     (plan_is parts scenario box made plan kept.feasible kept.inside) in
     let cost = dual_le parts scenario box made plan kept.feasible kept.inside weight rows is.known
     in
-    let zero_of = ap (λ w. pos w *ℤ plan_cost parts.tables parts.flights plan) is.said.0
+    let zero_of = ap (λ w. pos w *ℤ plan_cost parts.tables parts.flights plan) is.answered.0
     ∙ zero-*ℤ (plan_cost parts.tables parts.flights plan) in
-    absurd (omega (arith, ints, le, cost, zero_of, is.said.1))
+    absurd (omega (arith, ints, le, cost, zero_of, is.answered.1))
 dual_sound parts box weight rows (AtLeast least) scenario made is = λ plan kept.
     let le = is.least.below (value_at parts.flights plan)
     (plan_is parts scenario box made plan kept.feasible kept.inside) in
     let cost = dual_le parts scenario box made plan kept.feasible kept.inside weight rows is.known
     in
     let turned = *ℤ_comm (pos weight) (plan_cost parts.tables parts.flights plan) in
-    is.said.1.below (plan_cost parts.tables parts.flights plan)
+    is.answered.1.below (plan_cost parts.tables parts.flights plan)
     (omega (arith, ints, le, cost, turned))
 
 pub if_sound : (parts : Parts) (box : Box) (weight : ℕ) (rows : List Multiplier)
     (answer : Result Bound LeafFault) → IsScenario parts → IsBoxOf parts box → IsLive box
     → AreKnown parts rows → (value : ℤ) → IsDualValue parts box weight rows value
-    → IsSaid weight value answer → IfOk answer (IsBoundIn parts box)
-if_sound parts box weight rows (Ok bound) scenario made live known value least said =
+    → IsAnswerOf weight value answer → IfOk answer (IsBoundIn parts box)
+if_sound parts box weight rows (Ok bound) scenario made live known value least answered =
     dual_sound parts box weight rows bound scenario made
-    (record { live = live; known = known; value = value; least = least; said = said })
-if_sound parts box weight rows (Err fault) scenario made live known value least said = tt
+    (record { live = live; known = known; value = value; least = least; answered = answered })
+if_sound parts box weight rows (Err fault) scenario made live known value least answered = tt

@@ -12,7 +12,7 @@ use Rattle.time_windows.specs.Boxes.{Box}
 use Rattle.branch_tree.specs.declared.leaf.Leaf.{Leaf}
 use Rattle.branch_tree.specs.declared.leaf.Leaf.TheVariants.{Lag}
 use Rattle.bytime_model.specs.declared.multiplier.Multiplier.{Multiplier}
-use Rattle.dual_leaf.specs.Leaf.{IsLeafBound, IsTableSaid}
+use Rattle.dual_leaf.specs.Leaf.{IsLeafBound, IsTableAnswer}
 use Rattle.dual_leaf.specs.PriceLeaf.{Closes, IsLagOf, TellsAs}
 use Rattle.dual_leaf.specs.Listing.{IsListed, is_listed}
 
@@ -39,11 +39,11 @@ lag-of parts weight table rows are listed = record {
   };
 }
 
-said : (parts : Parts) (box : Box) (weight : ℕ) (table : PriceTable) (bound : Bound) → 0 < weight
-    → IsPricedBound parts box weight table bound → IsTableSaid parts box weight table (Ok bound)
-said parts box weight table NoPlan some told = inl (record { lacks = told; none = refl })
-said parts box weight table (AtLeast least) some (value, priced, rounded) =
-    inr (record { value = value; priced = priced; said = (some, rounded) })
+answered : (parts : Parts) (box : Box) (weight : ℕ) (table : PriceTable) (bound : Bound) → 0 < weight
+    → IsPricedBound parts box weight table bound → IsTableAnswer parts box weight table (Ok bound)
+answered parts box weight table NoPlan some told = inl (record { lacks = told; none = refl })
+answered parts box weight table (AtLeast least) some (value, priced, rounded) =
+    inr (record { value = value; priced = priced; answered = (some, rounded) })
 
 pub tells : (parts : Parts) (weight : ℕ) (table : PriceTable) (leaf : Leaf) → 0 < weight
     → IsLagOf parts weight table leaf → TellsAs parts weight table leaf
@@ -53,7 +53,7 @@ tells parts weight table leaf some is = λ box bound live told.
       priceable = is.priceable;
       table = table;
       prices = is.priced;
-      said = said parts box weight table bound some told;
+      answered = answered parts box weight table bound some told;
     }))
 
 pub closes : (parts : Parts) (table : PriceTable) (leaf : Leaf) → IsLagOf parts 0 table leaf
@@ -64,5 +64,5 @@ closes parts table leaf is = λ box value live priced above.
       priceable = is.priceable;
       table = table;
       prices = is.priced;
-      said = inr (record { value = value; priced = priced; said = (refl, above) });
+      answered = inr (record { value = value; priced = priced; answered = (refl, above) });
     }))

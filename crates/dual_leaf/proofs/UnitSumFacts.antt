@@ -12,7 +12,7 @@ use Rattle.flow_types.specs.declared.plan.Stop.{Stop}
 use Rattle.flow_types.specs.Costs.{plan_cost, trip_cost_at}
 use Rattle.flow_types.specs.Feasible.{IsFeasible}
 use Rattle.flow_types.specs.Valid.{IsScenario}
-use Rattle.plan_rules.specs.Cells.{Tally}
+use Rattle.plan_rules.specs.Tally.{Tally}
 use Rattle.plan_rules.specs.Loads.{AreLoads, IsTripAt, no_trips}
 use Rattle.plan_rules.proofs.TripFacts.{AreTrips-length}
 use Rattle.time_windows.specs.Boxes.{Box, IsInBox}

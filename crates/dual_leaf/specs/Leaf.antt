@@ -21,10 +21,6 @@ use Rattle.dual_leaf.specs.declared.fault.LeafFault.TheVariants.{Closed, NotEmpt
 use Rattle.valid_cuts.specs.Dual.{AreKnown, IsDualValue, IsFirstUnknown}
 use Rattle.dual_leaf.specs.Lag.{ArePriceable, ArePricedBy, IsFirstUnpriceable}
 
--- no node that must be entered is closed
-abbrev pub IsLive : Box → Type 0
-IsLive box = (f n : ℕ) → IsClosedMust (box f n) → ⊥
-
 abbrev pub IsEmptyBound : Box → Result Bound LeafFault → Type 0
 IsEmptyBound box (Ok bound) = (bound ≡ NoPlan) × ((f : ℕ) × (n : ℕ) × IsClosedMust (box f n))
 IsEmptyBound box (Err fault) = (fault ≡ NotEmpty) × IsLive box
@@ -54,10 +50,10 @@ IsUnitBound parts box (Err fault) =
     (flight : ℕ) × (node : ℕ) × (fault ≡ NotUnit flight node) × IsNotUnit box flight node
 
 -- what a value says by its weight: that, divided by it and rounded up
-abbrev pub IsSaid : ℕ → ℤ → Result Bound LeafFault → Type 0
-IsSaid weight value (Ok (AtLeast least)) = (0 < weight) × IsRoundedUp value weight least
-IsSaid weight value (Ok NoPlan) = (weight ≡ 0) × (pos 1 ≤ℤ value)
-IsSaid weight value (Err fault) = (weight ≡ 0) × (value ≤ℤ pos 0) × (fault ≡ Useless value)
+abbrev pub IsAnswerOf : ℕ → ℤ → Result Bound LeafFault → Type 0
+IsAnswerOf weight value (Ok (AtLeast least)) = (0 < weight) × IsRoundedUp value weight least
+IsAnswerOf weight value (Ok NoPlan) = (weight ≡ 0) × (pos 1 ≤ℤ value)
+IsAnswerOf weight value (Err fault) = (weight ≡ 0) × (value ≤ℤ pos 0) × (fault ≡ Useless value)
 
 -- The box is live and all rows are there: what the value says.
 pub record IsDualBound (parts : Parts) (box : Box) (weight : ℕ) (rows : List Multiplier)
@@ -66,7 +62,7 @@ pub record IsDualBound (parts : Parts) (box : Box) (weight : ℕ) (rows : List M
   pub known : AreKnown parts rows
   pub value : ℤ
   pub least : IsDualValue parts box weight rows value
-  pub said : IsSaid weight value answer
+  pub answered : IsAnswerOf weight value answer
 
 -- or it has no value: the first node that must be entered and is closed, or, in a live box, the
 -- first row that isn't there
@@ -84,20 +80,20 @@ IsDualAnswer parts box weight rows answer =
     IsDualBound parts box weight rows answer ⊎ IsDualFault parts box rows answer
 
 -- some flight has no trip in the box, whatever the weight
-pub record IsLackSaid (parts : Parts) (box : Box) (answer : Result Bound LeafFault) : Type 0 where
+pub record IsLackAnswer (parts : Parts) (box : Box) (answer : Result Bound LeafFault) : Type 0 where
   pub lacks : LacksTrip parts box
   pub none : answer ≡ Ok NoPlan
 
 -- or what the value of the prices says
-pub record IsPriceSaid (parts : Parts) (box : Box) (weight : ℕ) (table : PriceTable)
+pub record IsPriceAnswer (parts : Parts) (box : Box) (weight : ℕ) (table : PriceTable)
     (answer : Result Bound LeafFault) : Type 0 where
   pub value : ℤ
   pub priced : IsPricedValue parts box weight table value
-  pub said : IsSaid weight value answer
+  pub answered : IsAnswerOf weight value answer
 
-abbrev pub IsTableSaid : Parts → Box → ℕ → PriceTable → Result Bound LeafFault → Type 0
-IsTableSaid parts box weight table answer =
-    IsLackSaid parts box answer ⊎ IsPriceSaid parts box weight table answer
+abbrev pub IsTableAnswer : Parts → Box → ℕ → PriceTable → Result Bound LeafFault → Type 0
+IsTableAnswer parts box weight table answer =
+    IsLackAnswer parts box answer ⊎ IsPriceAnswer parts box weight table answer
 
 -- The box is live and all rows may have a price: what the prices say.
 pub record IsLagBound (parts : Parts) (box : Box) (weight : ℕ) (rows : List Multiplier)
@@ -106,7 +102,7 @@ pub record IsLagBound (parts : Parts) (box : Box) (weight : ℕ) (rows : List Mu
   pub priceable : ArePriceable parts rows
   pub table : PriceTable
   pub prices : ArePricedBy parts rows table
-  pub said : IsTableSaid parts box weight table answer
+  pub answered : IsTableAnswer parts box weight table answer
 
 -- or there are none: the first node that must be entered and is closed, or, in a live box, the
 -- first row that may have no price

@@ -4,5 +4,6 @@ pub mod Listing
 pub mod Options
 pub mod PriceLeaf
 pub mod PriceRows
+pub mod Trees
 pub mod UnitSums
 pub mod Work

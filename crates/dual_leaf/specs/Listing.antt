@@ -7,7 +7,7 @@ use Rattle.flight_routes.specs.Prices.{PriceTable, kind_number, price_at}
 use Rattle.priced_plans.specs.Keys.{IsKeyFor}
 use Rattle.bytime_model.specs.declared.multiplier.Multiplier.{Multiplier}
 use Rattle.dual_leaf.specs.Lag.{ArePriceable, set_by}
-use Rattle.dual_leaf.specs.PriceRows.{row_of}
+use Rattle.dual_leaf.specs.PriceRows.{name_of}
 use Rattle.bytime_model.specs.Multipliers.{AreAscending, ArePositive}
 
 -- the key comes before this kind, row and period
@@ -22,7 +22,7 @@ pub record IsNamedBelow (parts : Parts) (kind row period : ℕ) (multiplier : Mu
     : Type 0 where
   pub key : PriceKey
   pub there : IsKeyFor parts key
-  pub is : multiplier.row ≡ row_of key
+  pub is : multiplier.row ≡ name_of key
   pub listed : is_listed kind row period key ≡ true
 
 -- no fewer than come before

@@ -12,7 +12,8 @@ use Rattle.branch_tree.specs.declared.leaf.Leaf.{Leaf}
 use Rattle.branch_tree.specs.declared.leaf.Leaf.TheVariants.{Lag}
 use Rattle.bytime_model.specs.declared.multiplier.Multiplier.{Multiplier}
 use Rattle.dual_leaf.specs.Lag.{ArePriceable, ArePricedBy}
-use Rattle.dual_leaf.specs.Leaf.{IsLeafBound, IsLive}
+use Rattle.time_windows.specs.Tight.{IsLive}
+use Rattle.dual_leaf.specs.Leaf.{IsLeafBound}
 
 -- the Lag leaf of this weight whose multipliers are the prices
 pub record IsLagOf (parts : Parts) (weight : ℕ) (table : PriceTable) (leaf : Leaf) : Type 0 where

@@ -8,14 +8,14 @@ use Rattle.flight_routes.specs.Prices.{key_in}
 use Rattle.bytime_model.specs.declared.names.RowName.{RowName}
 use Rattle.bytime_model.specs.declared.names.RowName.TheVariants.{Arr, Connect, Dep, Sector}
 
-abbrev pub row_at : PriceKind → ℕ → ℕ → RowName
-row_at (Capacity cap.Dep) row period = Dep row period
-row_at (Capacity cap.Arr) row period = Arr row period
-row_at (Capacity cap.Sector) row period = Sector row period
-row_at Connection row period = Connect row period
+abbrev pub name_at : PriceKind → ℕ → ℕ → RowName
+name_at (Capacity cap.Dep) row period = Dep row period
+name_at (Capacity cap.Arr) row period = Arr row period
+name_at (Capacity cap.Sector) row period = Sector row period
+name_at Connection row period = Connect row period
 
-abbrev pub row_of : PriceKey → RowName
-row_of key = row_at key.kind key.row key.period
+abbrev pub name_of : PriceKey → RowName
+name_of key = name_at key.kind key.row key.period
 
 -- rows that aren't of a capacity or a connection have no price
 abbrev pub key_of : RowName → Option PriceKey

@@ -3,7 +3,7 @@ use Rattle.std.specs.Prelude.{◌≡◌, length}
 use Rattle.flow_types.specs.declared.parts.Parts.{Parts}
 use Rattle.flight_routes.specs.Prices.{ArePricesOf, PriceTable}
 use Rattle.flight_routes.specs.Work.{IsWorkFor, Worked}
-use Rattle.plan_rules.specs.Cells.{Tally}
+use Rattle.plan_rules.specs.Tally.{Tally}
 use Rattle.plan_rules.specs.Loads.{IsMadeFor as AreLoadsFor}
 use Rattle.bytime_model.specs.declared.table.Table.{Table}
 use Rattle.bytime_model.specs.Table.{IsTableFor}

@@ -7,10 +7,11 @@ ghost use Rattle.priced_plans.specs.Valuing.{AreSmall};
 ghost use Rattle.time_windows.specs.Held.{IsMadeFor, box_of};
 ghost use Rattle.bytime_model.specs.Multipliers.{HasRange};
 ghost use Rattle.dual_leaf.specs.Lag.{ArePriceable, ArePricedBy, IsFirstUnpriceable, IsSetBy, is_priceable};
-ghost use Rattle.dual_leaf.specs.Leaf.{IsLagAnswer, IsLive, IsNearPriced, IsTableSaid};
+ghost use Rattle.time_windows.specs.Tight.{IsLive};
+ghost use Rattle.dual_leaf.specs.Leaf.{IsLagAnswer, IsNearPriced, IsTableAnswer};
 ghost use Rattle.time_windows.specs.Plans.{IsBoundIn};
 
-use crate::bound::said;
+use crate::bound::answer_of;
 use crate::fault::LeafFault;
 use crate::price_rows::{is_priceable, key_of};
 use bytime_model::Multiplier;
@@ -59,7 +60,7 @@ fn set_prices(s: &Scenario, prices: &mut Prices, rows: &[Multiplier])
 }
 
 // What the prices say of the box.
-fn table_said(
+fn table_answer(
     work: &mut Work,
     s: &Scenario,
     boxes: &Boxes,
@@ -71,20 +72,20 @@ fn table_said(
     requires weight { weight < 2 ^ 62 }
     requires prices { ArePricesOf (parts_of s.now) prices.now }
     requires small { AreSmall prices.now }
-    ensures said { IsTableSaid (parts_of s.now) (box_of boxes.now) weight prices.now result }
+    ensures answered { IsTableAnswer (parts_of s.now) (box_of boxes.now) weight prices.now result }
     ensures near { IfOk result IsNearPriced }
     ensures work { IsWorkFor (parts_of s.now) work.new }
 {
     match priced_value(work, s, boxes, weight, prices) {
         None => Ok(Bound::NoPlan),
-        Some(value) => said(value, weight),
+        Some(value) => answer_of(value, weight),
     }
 }
 
 /// What a Lag leaf of these multipliers says of a box in which every node that must be entered is
 /// open; or the position of the first whose row may have no price. The work, the prices and the box
 /// are of the scenario. It takes no memory.
-pub fn lag_said(
+pub fn lag_answer(
     work: &mut Work,
     prices: &mut Prices,
     s: &Scenario,
@@ -108,5 +109,5 @@ pub fn lag_said(
     }
     prices.clear();
     set_prices(s, prices, rows);
-    table_said(work, s, boxes, weight, prices)
+    table_answer(work, s, boxes, weight, prices)
 }

@@ -7,7 +7,7 @@ ghost use Rattle.branch_tree.specs.Leaves.{IsInRange};
 ghost use Rattle.dual_leaf.specs.PriceLeaf.{Closes, IsLagOf, TellsAs};
 ghost use Rattle.dual_leaf.specs.Listing.{IsListed};
 
-use crate::price_rows::row_of;
+use crate::price_rows::name_of;
 use branch_tree::Leaf;
 use bytime_model::{Multiplier, Multipliers};
 use flight_routes::Prices;
@@ -32,7 +32,7 @@ fn list_price(
 {
     let value = prices.get(key);
     if value > 0 {
-        let row = row_of(key);
+        let row = name_of(key);
         rows.add(Multiplier { row, value })?;
     }
     Ok(())
@@ -117,9 +117,9 @@ pub fn lag_leaf(
     Ok(Leaf::Lag { weight, rows })
 }
 
-/// The Lag leaf of weight 0 whose multipliers are the prices, each by its row, in the order of rows.
-/// In any box in which every node is open that must be entered, and in which the value of the prices
-/// at this weight is above 0, its bound is that there is no plan.
+/// The Lag leaf of weight 0 whose multipliers are the prices, each by its row, in the order of
+/// rows. In any box in which every node is open that must be entered, and in which the value of the
+/// prices at this weight is above 0, its bound is that there is no plan.
 ///
 /// The prices are as `lag_leaf` wants them, and the leaf takes what that one takes.
 pub fn closing_leaf(alloc: Global, s: &Scenario, prices: &Prices) -> Result<Leaf, OutOfMemory>

@@ -3,8 +3,8 @@ ghost use Rattle.std.specs.Prelude.{◌≤◌, ◌<◌, ◌↔◌, ℕ, IsTrue, 
 ghost use Rattle.flow_types.specs.Limits.{most_nodes};
 ghost use Rattle.flow_types.specs.Scenario.{parts_of};
 ghost use Rattle.time_windows.specs.Held.{IsMadeFor, box_of};
-ghost use Rattle.time_windows.specs.Tight.{IsFirstClosed};
-ghost use Rattle.dual_leaf.specs.Leaf.{IsFirstOther, IsLive, IsUnitBox};
+ghost use Rattle.time_windows.specs.Tight.{IsFirstClosed, IsLive};
+ghost use Rattle.dual_leaf.specs.Leaf.{IsFirstOther, IsUnitBox};
 ghost use Rattle.dual_leaf.specs.Options.{HasNone, HasNoneIn, IsFirstIn, IsFirstOf, IsOfKind};
 
 use flow_types::Scenario;

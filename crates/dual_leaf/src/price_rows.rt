@@ -2,14 +2,14 @@
 ghost use Rattle.std.specs.Prelude.{◌≡◌};
 ghost use Rattle.flow_types.specs.Scenario.{parts_of};
 ghost use Rattle.dual_leaf.specs.Lag.{is_priceable};
-ghost use Rattle.dual_leaf.specs.PriceRows.{key_of, row_of};
+ghost use Rattle.dual_leaf.specs.PriceRows.{key_of, name_of};
 
 use bytime_model::{RowName, is_row};
 use flow_types::{CapKind, PriceKey, PriceKind, Scenario};
 
 /// The row that a price is put on.
-pub fn row_of(key: PriceKey) -> RowName
-    ensures { result ≡ row_of key }
+pub fn name_of(key: PriceKey) -> RowName
+    ensures { result ≡ name_of key }
 {
     let PriceKey { kind, row, period } = key;
     match kind {

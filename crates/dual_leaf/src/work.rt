@@ -12,9 +12,9 @@ ghost use Rattle.dual_leaf.specs.Leaf.{IsDualAnswer, IsLagAnswer, IsNearPriced};
 ghost use Rattle.time_windows.specs.Plans.{IsBoundIn};
 ghost use Rattle.flow_types.specs.Bounds.{IsNearBound};
 
-use crate::bound::said;
+use crate::bound::answer_of;
 use crate::fault::LeafFault;
-use crate::lag::lag_said;
+use crate::lag::lag_answer;
 use crate::options::first_closed;
 use crate::plain::{empty_bound, unit_bound};
 use branch_tree::Leaf;
@@ -178,7 +178,7 @@ fn dual_bound(
     }
     match dual_value(sums, buffer, columns, visits, s, boxes, weight, rows) {
         Err(position) => Err(LeafFault::UnknownRow(position)),
-        Ok(value) => said(value, weight),
+        Ok(value) => answer_of(value, weight),
     }
 }
 
@@ -203,6 +203,6 @@ fn lag_bound(
 {
     match first_closed(s, boxes) {
         Some(closed) => Err(LeafFault::Closed(closed.flight, closed.node)),
-        None => lag_said(work, prices, s, boxes, weight, rows),
+        None => lag_answer(work, prices, s, boxes, weight, rows),
     }
 }

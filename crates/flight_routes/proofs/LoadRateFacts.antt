@@ -14,7 +14,7 @@ use Rattle.flow_types.specs.Limits.{most_nodes, most_periods}
 use Rattle.flow_types.specs.Routes.{is_airport, is_sector}
 use Rattle.flow_types.specs.Trips.{arrival_of, departure_of, place_at}
 use Rattle.flow_types.specs.Valid.{IsConnection, IsFlight, IsScenario}
-use Rattle.plan_rules.specs.Cells.{Tally}
+use Rattle.plan_rules.specs.Tally.{Tally}
 use Rattle.plan_rules.specs.Loads.{AreLoads, arrival_at, departure_at}
 use Rattle.exact_sums.proofs.ItemFacts.{All-item}
 use Rattle.time_windows.specs.declared.access.Access.{Access}

@@ -1,6 +1,6 @@
 -- The periods that the connections of a flight leave it, beside the flights that are there.
 use Rattle.std.specs.Prelude.{◌≡◌, ℕ, ◌+◌, ◌≤◌, Some}
-use Rattle.plan_rules.specs.Cells.{Tally}
+use Rattle.plan_rules.specs.Tally.{Tally}
 use Rattle.plan_rules.specs.Loads.{arrival_at, departure_at}
 use Rattle.time_windows.specs.declared.turns.Turn.{Turn}
 

@@ -59,7 +59,8 @@ pub fn value_count(tables: &[CostTable], table: u32) -> usize
     }
 }
 
-/// The capacity of the place in the period, 0 where there is none of this kind.
+/// The capacity of the place in the period, where it has one of this kind (`has_kind`), and else
+/// what the place's other list has there. 0 where there is no such place or period.
 pub fn capacity_at(places: &[Place], kind: CapKind, place: u32, period: u16) -> u32
     ensures { result ≡ capacity_of places.now kind place period }
 {

@@ -21,7 +21,7 @@ use Rattle.flight_routes.specs.Fits.{FitsAs, HasRoom, KeepsOwnTurn}
 use Rattle.flight_routes.specs.Inside.{IsTripIn}
 use Rattle.plan_rules.proofs.CountFacts.{counted-none, counted-set}
 use Rattle.time_windows.specs.Boxes.{Box}
-use Rattle.plan_rules.specs.Cells.{Tally}
+use Rattle.plan_rules.specs.Tally.{Tally}
 use Rattle.plan_rules.specs.Loads.{AreLoads, IsTripAt, no_trips}
 use Rattle.greedy_plan.specs.Greedy.{AreChosen, IsChosen, IsGreedy, IsOneMore, with_rest}
 

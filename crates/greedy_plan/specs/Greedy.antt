@@ -8,7 +8,7 @@ use Rattle.flow_types.specs.declared.plan.Stop.{Stop}
 use Rattle.flow_types.specs.Costs.{trip_cost_at}
 use Rattle.flight_routes.specs.Fits.{IsTripThatFits}
 use Rattle.flight_routes.specs.TripOrder.{IsNoLater}
-use Rattle.plan_rules.specs.Cells.{Tally}
+use Rattle.plan_rules.specs.Tally.{Tally}
 use Rattle.plan_rules.specs.Loads.{AreLoads}
 use Rattle.time_windows.specs.Boxes.{Box}
 use Rattle.greedy_plan.specs.declared.first.Greedy.{Greedy}

@@ -8,7 +8,7 @@ use Rattle.flow_types.specs.declared.parts.Parts.{Parts}
 use Rattle.flow_types.specs.declared.plan.Stop.{Stop}
 use Rattle.flow_types.specs.Valid.{IsScenario}
 use Rattle.flight_routes.specs.Prices.{AreFree, ArePricesOf, PriceTable, price_at}
-use Rattle.plan_rules.specs.Cells.{Tally}
+use Rattle.plan_rules.specs.Tally.{Tally}
 use Rattle.time_windows.specs.Boxes.{Box}
 use Rattle.priced_plans.specs.Keys.{ArePlaced, has_limit}
 use Rattle.priced_plans.specs.Usage.{limit, traffic_of, used}

@@ -24,7 +24,7 @@ use Rattle.flight_routes.proofs.TripFacts.{in_day}
 use Rattle.time_windows.specs.Boxes.{Box}
 use Rattle.priced_plans.specs.Values.{IsPricedSum}
 use Rattle.exact_sums.specs.Sums.{plus}
-use Rattle.plan_rules.specs.Cells.{Tally}
+use Rattle.plan_rules.specs.Tally.{Tally}
 use Rattle.plan_rules.specs.Loads.{AreLoads, no_trips}
 use Rattle.priced_plans.specs.Keys.{IsKeyFor}
 use Rattle.priced_plans.proofs.NodeFacts.{place_there}

@@ -3,7 +3,7 @@ use Rattle.std.proofs.Common.{◌≡◌, ℕ, true, if◌then◌else◌, List, l
 use Rattle.flow_types.specs.declared.parts.Parts.{Parts}
 use Rattle.flow_types.specs.declared.plan.Stop.{Stop}
 use Rattle.flight_routes.specs.Prices.{PriceTable, price_at}
-use Rattle.plan_rules.specs.Cells.{Tally}
+use Rattle.plan_rules.specs.Tally.{Tally}
 use Rattle.plan_rules.specs.Loads.{AreLoads}
 use Rattle.priced_plans.specs.Keys.{has_limit}
 use Rattle.priced_plans.specs.Usage.{traffic_in}

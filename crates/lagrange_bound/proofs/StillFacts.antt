@@ -8,7 +8,7 @@ use Rattle.flow_types.specs.declared.bound.PriceKey.{PriceKey}
 use Rattle.flow_types.specs.declared.parts.Parts.{Parts}
 use Rattle.flow_types.specs.Valid.{IsScenario}
 use Rattle.flight_routes.specs.Prices.{ArePricesOf, PriceTable, price_at}
-use Rattle.plan_rules.specs.Cells.{Tally}
+use Rattle.plan_rules.specs.Tally.{Tally}
 use Rattle.priced_plans.specs.Keys.{has_limit}
 use Rattle.priced_plans.specs.Usage.{Traffic, limit, traffic_in, used}
 use Rattle.time_windows.specs.Boxes.{Box}

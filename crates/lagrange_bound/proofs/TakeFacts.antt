@@ -9,7 +9,7 @@ use Rattle.flow_types.specs.declared.plan.Stop.{Stop}
 use Rattle.flow_types.specs.Trips.{IsTrip}
 use Rattle.flight_routes.specs.Inside.{IsTripIn}
 use Rattle.flight_routes.specs.Prices.{PriceTable}
-use Rattle.plan_rules.specs.Cells.{Tally}
+use Rattle.plan_rules.specs.Tally.{Tally}
 use Rattle.plan_rules.specs.Loads.{AreLoads, IsTripAt, no_trips}
 use Rattle.plan_rules.proofs.CountFacts.{AreTripsOrNone-length}
 use Rattle.time_windows.specs.Boxes.{Box}

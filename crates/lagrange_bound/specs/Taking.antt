@@ -4,7 +4,7 @@ use Rattle.flow_types.specs.declared.parts.Parts.{Parts}
 use Rattle.flow_types.specs.declared.plan.Stop.{Stop}
 use Rattle.flight_routes.specs.Prices.{PriceTable}
 use Rattle.exact_sums.specs.Near.{IsNear}
-use Rattle.plan_rules.specs.Cells.{Tally}
+use Rattle.plan_rules.specs.Tally.{Tally}
 use Rattle.plan_rules.specs.Loads.{AreLoads}
 use Rattle.time_windows.specs.Boxes.{Box}
 use Rattle.priced_plans.specs.Values.{IsPricedSum}

@@ -6,7 +6,7 @@ use Rattle.flow_types.specs.declared.bound.PriceKey.{PriceKey}
 use Rattle.flow_types.specs.declared.parts.Parts.{Parts}
 use Rattle.flight_routes.specs.Prices.{ArePricesOf, PriceTable, price_at}
 use Rattle.flight_routes.specs.Work.{IsWorkFor, Worked}
-use Rattle.plan_rules.specs.Cells.{Tally}
+use Rattle.plan_rules.specs.Tally.{Tally}
 use Rattle.plan_rules.specs.Loads.{IsMadeFor}
 use Rattle.time_windows.specs.Boxes.{Box}
 use Rattle.lagrange_bound.specs.Best.{IsMostOfRounds, IsOneOfRounds}

@@ -17,7 +17,7 @@ impl Model for FewNumbers {
 }
 
 impl FewNumbers {
-    ghost use Rattle.std.specs.Prelude.{◌≡◌, ◌↔◌, ◌<◌, ◌≤◌, ℕ, MatchOption};
+    ghost use Rattle.std.specs.Prelude.{◌≡◌, ◌↔◌, ◌<◌, ◌≤◌, ℕ, MatchOption, None};
     ghost use Rattle.number_set.specs.Few.{IsAdded, IsIn, IsTaken, bit_in};
 
     /// Those below the count.
@@ -41,11 +41,12 @@ impl FewNumbers {
         self.words[word] = with_bit(self.words[word], number % 64);
     }
 
-    /// Takes one of them away, the first; nothing where there is none.
+    /// Takes one of them away, the first; where there is none the set is as before.
     #[tactic(auto, using(crate::proofs::FewFacts::none_in, crate::proofs::FewFacts::bit_taken))]
     pub fn pop_first(&mut self) -> Option<u32>
         ensures { MatchOption result ((k : ℕ) → bit_in self.old k ≡ 0)
             (λ number. IsTaken number self.old self.new) }
+        ensures kept { result ≡ None → self.new ≡ self.old }
     {
         let at = first_some(&self.words)?;
         let bit = lowest_bit(self.words[at]);

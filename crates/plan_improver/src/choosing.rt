@@ -3,16 +3,16 @@ ghost use Rattle.std.specs.Prelude.{◌≡◌, ◌<◌, ◌^◌, length};
 ghost use Rattle.flow_types.specs.Scenario.{parts_of};
 ghost use Rattle.plan_rules.specs.Loads.{IsMadeFor};
 
-use crate::cells::{Cell, Times, add_full_cells, meets, span_of, times_of};
 use crate::draft::Choice;
 use crate::generator::Generator;
+use crate::hotspots::{Hotspot, Times, add_hotspots, meets, span_of, times_of};
 use flow_types::{Flight, OutOfMemory, Scenario, Stop};
 use plan_rules::Loads;
 use std::alloc::Global;
 use time_windows::{Boxes, End, Turn};
 
 // How many full capacities a choice looks at.
-const MOST_CELLS: usize = 4;
+const MOST_HOTSPOTS: usize = 4;
 
 // With how many flights beside the delayed one it begins.
 const MOST_OTHERS: usize = 8;
@@ -26,7 +26,7 @@ const MOST_CHOSEN: usize = 24;
 pub struct Chosen {
     generator: Generator,
     delayed: Vec<u32>,
-    cells: Vec<Cell>,
+    hotspots: Vec<Hotspot>,
     others: Vec<u32>,
     flights: Vec<u32>,
 }
@@ -37,7 +37,7 @@ impl Chosen {
         Chosen {
             generator: Generator::new(),
             delayed: Vec::new(alloc),
-            cells: Vec::new(alloc),
+            hotspots: Vec::new(alloc),
             others: Vec::new(alloc),
             flights: Vec::new(alloc),
         }
@@ -81,7 +81,7 @@ impl Chosen {
             return Ok(false);
         }
         let flight = self.delayed[self.generator.below(self.delayed.len())];
-        self.list_cells(s, loads, choices, flight)?;
+        self.list_hotspots(s, loads, choices, flight)?;
         self.list_others(s, boxes, loads, choices, flight)?;
         self.choose_one(flight)?;
         add_with_partners(&mut self.flights, boxes, &self.others)?;
@@ -90,7 +90,7 @@ impl Chosen {
     }
 
     // Lists some full capacities that the flight would have to pass to be earlier.
-    fn list_cells(
+    fn list_hotspots(
         &mut self,
         s: &Scenario,
         loads: &Loads,
@@ -100,7 +100,7 @@ impl Chosen {
         requires loads { IsMadeFor (parts_of s.now) loads.now }
         requires count { length choices.now ≡ length (parts_of s.now).flights }
     {
-        self.cells.clear();
+        self.hotspots.clear();
         let Some(choice) = choices.get(flight as usize) else {
             return Ok(());
         };
@@ -109,9 +109,9 @@ impl Chosen {
         };
         let details = &s.flights()[flight as usize];
         let late = late_times(details, choice.trip.items());
-        add_full_cells(&mut self.cells, s, loads, details, early, late)?;
-        self.generator.mix(&mut self.cells);
-        self.cells.truncate(MOST_CELLS);
+        add_hotspots(&mut self.hotspots, s, loads, details, early, late)?;
+        self.generator.mix(&mut self.hotspots);
+        self.hotspots.truncate(MOST_HOTSPOTS);
         Ok(())
     }
 
@@ -136,7 +136,7 @@ impl Chosen {
             &mut self.others,
             boxes.turns().of_flight(flight, End::Departure),
         )?;
-        add_meeting(&mut self.others, s, loads, choices, &self.cells, flight)?;
+        add_meeting(&mut self.others, s, loads, choices, &self.hotspots, flight)?;
         self.generator.mix(&mut self.others);
         self.others.truncate(1 + self.generator.below(MOST_OTHERS));
         Ok(())
@@ -173,20 +173,20 @@ fn add_meeting(
     s: &Scenario,
     loads: &Loads,
     choices: &[Choice],
-    cells: &[Cell],
+    hotspots: &[Hotspot],
     flight: u32,
 ) -> Result<(), OutOfMemory>
     requires loads { IsMadeFor (parts_of s.now) loads.now }
     requires count { length choices.now ≡ length (parts_of s.now).flights }
 {
-    let Some(span) = span_of(cells) else {
+    let Some(span) = span_of(hotspots) else {
         return Ok(());
     };
     for number in 0..choices.len() {
         let other = number as u32;
         if other != flight
             && is_under_way(loads, other, span)
-            && meets_any(&s.flights()[number], choices[number].trip.items(), cells)
+            && meets_any(&s.flights()[number], choices[number].trip.items(), hotspots)
         {
             add_once(flights, other)?;
         }
@@ -206,8 +206,10 @@ fn is_under_way(loads: &Loads, flight: u32, span: Times) -> bool
 }
 
 // Whether the trip of the flight counts for one of the capacities.
-fn meets_any(flight: &Flight, stops: &[Stop], cells: &[Cell]) -> bool {
-    cells.iter().any(|cell| meets(flight, stops, *cell))
+fn meets_any(flight: &Flight, stops: &[Stop], hotspots: &[Hotspot]) -> bool {
+    hotspots
+        .iter()
+        .any(|hotspot| meets(flight, stops, *hotspot))
 }
 
 // Adds each of these flights, and those that it has connections with.

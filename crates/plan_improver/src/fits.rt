@@ -3,7 +3,7 @@ ghost use Rattle.std.specs.Prelude.{◌<◌, length};
 ghost use Rattle.flow_types.specs.Scenario.{parts_of};
 ghost use Rattle.plan_rules.specs.Loads.{IsMadeFor};
 
-use crate::cells::{Times, times_of};
+use crate::hotspots::{Times, times_of};
 use flow_types::{CapKind, Flight, Scenario, Stop, has_kind, place_at};
 use plan_rules::Loads;
 use time_windows::{Boxes, End, Turn};

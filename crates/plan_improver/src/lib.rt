@@ -35,11 +35,11 @@
 //! that is enough.
 #![tactic(auto)]
 
-mod cells;
 mod choosing;
 mod draft;
 mod fits;
 mod generator;
+mod hotspots;
 mod improver;
 mod inside;
 

@@ -22,7 +22,7 @@ use Rattle.plan_rules.specs.Judge.{first_broken_load}
 use Rattle.plan_rules.specs.Loads.{AreLoads, arrival_at, departure_at, load_at}
 use Rattle.plan_rules.specs.declared.broken.Broken.{Broken}
 use Rattle.plan_rules.specs.declared.broken.Broken.TheVariants as broken
-use Rattle.plan_rules.specs.Cells.{Tally}
+use Rattle.plan_rules.specs.Tally.{Tally}
 use Rattle.plan_rules.proofs.BrokenTrips.{trips_from, trips_to}
 use Rattle.plan_rules.proofs.FirstFacts.{first_along-at, first_along-none, first_along-same, first_below-at, first_below-none, first_below-same, or_none, or_nones, unless_none, unless_true}
 use Rattle.plan_rules.proofs.TripFacts.{AreTrips-length}

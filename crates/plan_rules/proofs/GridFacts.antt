@@ -6,7 +6,7 @@ use Rattle.std.proofs.lemmas.List.{get_or-set_same, get_or-set_other, get_or_rea
 use Rattle.std.proofs.lemmas.Nat.{same_from_place}
 use Rattle.flow_types.specs.Counts.{one_if}
 use Rattle.plan_rules.specs.Grid.{Adds, Takes, count_at}
-use Rattle.plan_rules.specs.Cells.{Cells}
+use Rattle.plan_rules.specs.Tally.{CountGrid}
 
 one_more_by : (xs : List ℕ) (w a b k t : ℕ) → b < w → t < w → a * w + b < length xs
     → get_or xs (k * w + t) 0 + one_if ((a == k) && (b == t)) < 2 ^ 32
@@ -38,7 +38,7 @@ one_more xs w a b k t old b_in t_in within is fits =
     ∙ one_more_by xs w a b k t b_in t_in within fits (cases_eq (a * w + b) (k * w + t))
 
 -- one after the other
-pub adds_then : (m n : ℕ → ℕ → ℕ) (old mid new : Cells) → Adds m old mid → Adds n mid new
+pub adds_then : (m n : ℕ → ℕ → ℕ) (old mid new : CountGrid) → Adds m old mid → Adds n mid new
     → Adds (λ k t. m k t + n k t) old new
 adds_then m n old mid new first second = record {
   places = second.places ∙ first.places;
@@ -53,7 +53,7 @@ adds_then m n old mid new first second = record {
 }
 
 -- equal counts, said otherwise
-pub adds_same : (m n : ℕ → ℕ → ℕ) (old new : Cells)
+pub adds_same : (m n : ℕ → ℕ → ℕ) (old new : CountGrid)
     → ((k t : ℕ) → k < old.places → t < old.periods → m k t ≡ n k t) → Adds m old new
     → Adds n old new
 adds_same m n old new same adds = record {
@@ -67,8 +67,8 @@ adds_same m n old new same adds = record {
 }
 
 -- nothing
-pub adds_none : (cells : Cells) → Adds (λ k t. 0) cells cells
-adds_none cells = record { places = refl; periods = refl; each = λ k t k_in t_in fits. omega arith }
+pub adds_none : (grid : CountGrid) → Adds (λ k t. 0) grid grid
+adds_none grid = record { places = refl; periods = refl; each = λ k t k_in t_in fits. omega arith }
 
 one_less_by : (xs : List ℕ) (w a b k t : ℕ) → b < w → t < w → a * w + b < length xs
     → (a * w + b ≡ k * w + t) ⊎ (a * w + b ≡ k * w + t → ⊥)
@@ -97,7 +97,7 @@ one_less xs w a b k t old b_in t_in within is =
     ∙ one_less_by xs w a b k t b_in t_in within (cases_eq (a * w + b) (k * w + t))
 
 -- one taken after the other
-pub takes_then : (m n : ℕ → ℕ → ℕ) (old mid new : Cells) → Takes m old mid → Takes n mid new
+pub takes_then : (m n : ℕ → ℕ → ℕ) (old mid new : CountGrid) → Takes m old mid → Takes n mid new
     → Takes (λ k t. m k t + n k t) old new
 takes_then m n old mid new first second = record {
   places = second.places ∙ first.places;
@@ -110,7 +110,7 @@ takes_then m n old mid new first second = record {
 }
 
 -- equal counts that are taken, said otherwise
-pub takes_same : (m n : ℕ → ℕ → ℕ) (old new : Cells)
+pub takes_same : (m n : ℕ → ℕ → ℕ) (old new : CountGrid)
     → ((k t : ℕ) → k < old.places → t < old.periods → m k t ≡ n k t) → Takes m old new
     → Takes n old new
 takes_same m n old new same takes = record {
@@ -123,8 +123,8 @@ takes_same m n old new same takes = record {
 }
 
 -- nothing is taken
-pub takes_none : (cells : Cells) → Takes (λ k t. 0) cells cells
-takes_none cells = record { places = refl; periods = refl; each = λ k t k_in t_in. omega arith }
+pub takes_none : (grid : CountGrid) → Takes (λ k t. 0) grid grid
+takes_none grid = record { places = refl; periods = refl; each = λ k t k_in t_in. omega arith }
 
 -- the periods of a stay so far, and one more
 pub stay_more : (a b k t now : ℕ) → b ≤ now

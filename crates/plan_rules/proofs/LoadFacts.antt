@@ -9,17 +9,17 @@ use Rattle.flow_types.specs.Counts.{departs_at, arrives_at, stays_at, counted}
 use Rattle.flow_types.specs.Limits.{most_flights}
 use Rattle.flow_types.specs.Trips.{IsTrip, departure_of, arrival_of}
 use Rattle.plan_rules.specs.Loads.{AddsTrip, AreLoads, AreTripsOrNone, HasSize, IsClear, IsMadeFor, IsTripOrNone, TakesTrip, no_trips}
-use Rattle.plan_rules.specs.Cells.{Cells, Tally}
+use Rattle.plan_rules.specs.Tally.{CountGrid, Tally}
 use Rattle.plan_rules.specs.Grid.{Adds, IsEmpty, Takes, count_at}
 use Rattle.plan_rules.proofs.CountFacts.{counted-none, counted-put, counted-le, departs_at-le, arrives_at-le, stays_at-le, AreTripsOrNone-set, AreTripsOrNone-none, AreTripsOrNone-length, none_at}
 
 -- an empty grid counts no trips
-empty_counts : (parts : Parts) (cells : Cells) (count : ℕ → ℕ → Flight → List Stop → ℕ)
+empty_counts : (parts : Parts) (grid : CountGrid) (count : ℕ → ℕ → Flight → List Stop → ℕ)
     → ((k t : ℕ) (flight : Flight) → count k t flight [] ≡ 0)
-    → HasSize (length parts.places) parts.day.periods cells → IsEmpty cells
+    → HasSize (length parts.places) parts.day.periods grid → IsEmpty grid
     → (k t : ℕ) → k < length parts.places → t < parts.day.periods
-    → count_at cells k t ≡ counted (count k t) parts.flights (no_trips parts)
-empty_counts parts cells count none size empty k t k_in t_in =
+    → count_at grid k t ≡ counted (count k t) parts.flights (no_trips parts)
+empty_counts parts grid count none size empty k t k_in t_in =
     empty k t (omega (arith, size.wide)) (omega (arith, size.long))
     ∙ sym (counted-none (count k t) (none k t) parts.flights)
 
@@ -89,7 +89,7 @@ module _ (parts : Parts) (few : length parts.flights ≤ most_flights) (trips : 
       → ((k t : ℕ) (f : Flight) → count k t f [] ≡ 0)
       → ((k t : ℕ) (f : Flight) (s : List Stop) → IsTripOrNone parts.day.periods f s
       → count k t f s ≤ 1)
-      → (old new : Cells) → HasSize (length parts.places) parts.day.periods old
+      → (old new : CountGrid) → HasSize (length parts.places) parts.day.periods old
       → Adds (λ k t. count k t flight stops) old new
       → ((k t : ℕ) → k < length parts.places → t < parts.day.periods
       → count_at old k t ≡ counted (count k t) parts.flights trips)
@@ -108,7 +108,7 @@ module _ (parts : Parts) (few : length parts.flights ≤ most_flights) (trips : 
   -- a grid counts one trip less
   one_trip_less : stops ≡ [] → (count : ℕ → ℕ → Flight → List Stop → ℕ)
       → ((k t : ℕ) (f : Flight) → count k t f [] ≡ 0)
-      → (old new : Cells) → HasSize (length parts.places) parts.day.periods old
+      → (old new : CountGrid) → HasSize (length parts.places) parts.day.periods old
       → Takes (λ k t. count k t flight before) old new
       → ((k t : ℕ) → k < length parts.places → t < parts.day.periods
       → count_at old k t ≡ counted (count k t) parts.flights trips)

@@ -1,5 +1,5 @@
 -- What is known of loads without a look at their counts.
-use Rattle.plan_rules.specs.Cells.{Tally}
+use Rattle.plan_rules.specs.Tally.{Tally}
 use Rattle.plan_rules.specs.Loads.{IsClear}
 use Rattle.plan_rules.specs.declared.loads.Contents.{Contents}
 use Rattle.plan_rules.specs.declared.loads.Contents.TheVariants.{Nothing, Trips}

@@ -5,7 +5,7 @@ use Rattle.flow_types.specs.declared.flight.Leg.{Leg}
 use Rattle.flow_types.specs.declared.parts.Parts.{Parts}
 use Rattle.flow_types.specs.declared.place.CapKind.TheVariants as kind
 use Rattle.flow_types.specs.declared.plan.Stop.{Stop}
-use Rattle.plan_rules.specs.Cells.{Tally}
+use Rattle.plan_rules.specs.Tally.{Tally}
 use Rattle.plan_rules.specs.FirstBroken.{broken_turn, first_along, first_over}
 use Rattle.plan_rules.specs.Loads.{arrival_at, departure_at, load_at}
 use Rattle.plan_rules.specs.declared.broken.Broken.{Broken}

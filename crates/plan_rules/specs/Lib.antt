@@ -1,5 +1,5 @@
 pub mod BrokenRules
-pub mod Cells
+pub mod Tally
 pub mod Contents
 pub mod FirstBroken
 pub mod Grid

@@ -7,18 +7,18 @@ use Rattle.flow_types.specs.declared.place.CapKind.TheVariants as kind
 use Rattle.flow_types.specs.declared.plan.Stop.{Stop}
 use Rattle.flow_types.specs.Counts.{departs_at, arrives_at, stays_at, departures_at, arrivals_at, occupancy_at}
 use Rattle.flow_types.specs.Trips.{IsTrip, departure_of, arrival_of}
-use Rattle.plan_rules.specs.Cells.{Cells, Tally}
+use Rattle.plan_rules.specs.Tally.{CountGrid, Tally}
 use Rattle.plan_rules.specs.Grid.{Adds, IsEmpty, Takes, count_at}
 
 -- the counts of one kind
-abbrev pub cells_of : Tally → CapKind → Cells
-cells_of loads kind.Dep = loads.departures
-cells_of loads kind.Arr = loads.arrivals
-cells_of loads kind.Sector = loads.inside
+abbrev pub grid_of : Tally → CapKind → CountGrid
+grid_of loads kind.Dep = loads.departures
+grid_of loads kind.Arr = loads.arrivals
+grid_of loads kind.Sector = loads.inside
 
 -- how many flights depart from, arrive at or are inside the place in the period
 abbrev pub load_at : Tally → CapKind → ℕ → ℕ → ℕ
-load_at loads kind place period = count_at (cells_of loads kind) place period
+load_at loads kind place period = count_at (grid_of loads kind) place period
 
 -- when a flight that is there departs and arrives
 abbrev pub departure_at : Tally → ℕ → Option ℕ
@@ -28,9 +28,9 @@ abbrev pub arrival_at : Tally → ℕ → Option ℕ
 arrival_at loads flight = slice_index_or loads.arrives flight None
 
 -- the place and the period are among those that are counted
-pub record IsCell (cells : Cells) (k t : ℕ) : Type 0 where
-  pub place : k < cells.places
-  pub period : t < cells.periods
+pub record IsInGrid (grid : CountGrid) (k t : ℕ) : Type 0 where
+  pub place : k < grid.places
+  pub period : t < grid.periods
 
 -- nothing is counted, and no flight is there
 pub record IsClear (loads : Tally) : Type 0 where
@@ -41,9 +41,9 @@ pub record IsClear (loads : Tally) : Type 0 where
   pub arrives : (f : ℕ) → arrival_at loads f ≡ None
 
 -- as many places and periods
-pub record HasSize (places periods : ℕ) (cells : Cells) : Type 0 where
-  pub wide : cells.places ≡ places
-  pub long : cells.periods ≡ periods
+pub record HasSize (places periods : ℕ) (grid : CountGrid) : Type 0 where
+  pub wide : grid.places ≡ places
+  pub long : grid.periods ≡ periods
 
 -- the loads have room for the scenario's places, periods and flights
 pub record IsMadeFor (parts : Parts) (loads : Tally) : Type 0 where

@@ -14,9 +14,9 @@ pub struct Grid {
 
 impl Model for Grid {
     ghost use Rattle.std.specs.Prelude.{◌≡◌, ◌*◌, vec_len};
-    ghost use Rattle.plan_rules.specs.Cells.{Cells};
+    ghost use Rattle.plan_rules.specs.Tally.{CountGrid};
 
-    ghost Value = { Cells };
+    ghost Value = { CountGrid };
 
     ghost view = { λ a. record {
       places = a.places;

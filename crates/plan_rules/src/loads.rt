@@ -33,7 +33,7 @@ pub struct Loads {
 }
 
 impl Model for Loads {
-    ghost use Rattle.plan_rules.specs.Cells.{Tally};
+    ghost use Rattle.plan_rules.specs.Tally.{Tally};
 
     ghost Value = { Tally };
 
@@ -61,7 +61,7 @@ impl Loads {
     ghost use Rattle.flow_types.specs.declared.parts.Parts.{Parts};
     ghost use Rattle.flow_types.specs.declared.plan.Stop.{Stop};
     ghost use Rattle.flow_types.specs.Scenario.{parts_of};
-    ghost use Rattle.plan_rules.specs.Loads.{AddsTrip, AreLoads, IsCell, IsMadeFor, IsTripAt, TakesTrip, arrival_at, cells_of, departure_at, load_at, no_trips};
+    ghost use Rattle.plan_rules.specs.Loads.{AddsTrip, AreLoads, IsInGrid, IsMadeFor, IsTripAt, TakesTrip, arrival_at, grid_of, departure_at, load_at, no_trips};
 
     /// Loads of a scenario, with no trips.
     pub fn new(alloc: Global, s: &Scenario) -> Result<Loads, OutOfMemory>
@@ -155,7 +155,7 @@ impl Loads {
     /// How many flights depart from, arrive at or are inside the place in the period. Both are of
     /// the scenario that the loads were made for.
     pub fn load(&self, kind: CapKind, place: u32, period: u16) -> u32
-        requires { IsCell (cells_of self.now kind) place period }
+        requires { IsInGrid (grid_of self.now kind) place period }
         ensures { result ≡ load_at self.now kind place period }
     {
         match kind {
@@ -167,9 +167,9 @@ impl Loads {
 
     /// How many flights depart from, arrive at or are inside the place, by period.
     pub fn row(&self, kind: CapKind, place: u32) -> &[u32]
-        requires { place < (cells_of self.now kind).places }
-        ensures length { length result.now ≡ (cells_of self.now kind).periods }
-        ensures loads { (t : ℕ) → t < (cells_of self.now kind).periods
+        requires { place < (grid_of self.now kind).places }
+        ensures length { length result.now ≡ (grid_of self.now kind).periods }
+        ensures loads { (t : ℕ) → t < (grid_of self.now kind).periods
             → slice_index result.now t ≡ load_at self.now kind place t }
     {
         match kind {

@@ -193,8 +193,8 @@ pub fn program(
 }
 
 /// The program of a box, as `program` gives it, for a run that has room for so many entries.
-/// `Refused::Wide` comes only where the first tableau has more. It comes as soon as that is seen, so the program takes no more than one
-/// that has just room.
+/// `Refused::Wide` comes only where the first tableau has more. It comes as soon as that is seen,
+/// so the program takes no more than one that has just room.
 pub fn program_within(
     alloc: Global,
     s: &Scenario,

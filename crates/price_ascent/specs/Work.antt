@@ -3,7 +3,7 @@ use Rattle.std.specs.Prelude.{ℕ, ◌^◌, Bool, false, List, Option, None, Som
 use Rattle.flow_types.specs.declared.parts.Parts.{Parts}
 use Rattle.flight_routes.specs.Prices.{PriceTable}
 use Rattle.flight_routes.specs.Work.{IsWorkFor, Worked}
-use Rattle.plan_rules.specs.Cells.{Tally}
+use Rattle.plan_rules.specs.Tally.{Tally}
 use Rattle.plan_rules.specs.Loads.{IsMadeFor}
 use Rattle.priced_plans.specs.Values.{IsPricedValue}
 use Rattle.time_windows.specs.Boxes.{Box}

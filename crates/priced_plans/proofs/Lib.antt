@@ -1,6 +1,6 @@
 pub mod KeyFacts
 pub mod RangeFacts
-pub mod CellFacts
+pub mod PlaceFacts
 pub mod TurnFacts
 pub mod PayFacts
 pub mod ValueFacts

@@ -20,7 +20,7 @@ use Rattle.flow_types.specs.Valid.{IsFlight, IsScenario}
 use Rattle.flight_routes.specs.Prices.{PriceTable, price_in, stay_price, stays_price, summed, turns_back, turns_paid}
 use Rattle.flight_routes.proofs.TripFacts.{in_day, step_up}
 use Rattle.priced_plans.specs.Values.{arrives_in, counts_price, leaves_in, limit_price, loads_price, plan_price, price_of, turns_price}
-use Rattle.priced_plans.proofs.CellFacts.{prices-alone, prices-both, prices-none, prices-same, prices-within}
+use Rattle.priced_plans.proofs.PlaceFacts.{prices-alone, prices-both, prices-none, prices-same, prices-within}
 use Rattle.priced_plans.proofs.RangeFacts.{summed-at, summed-between, times_none}
 use Rattle.priced_plans.proofs.TurnFacts.{over_plan, turns-are, turns-kept}
 

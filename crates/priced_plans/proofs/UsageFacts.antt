@@ -10,7 +10,7 @@ use Rattle.flow_types.specs.declared.place.CapKind.TheVariants as cap
 use Rattle.flow_types.specs.declared.plan.Stop.{Stop}
 use Rattle.flow_types.specs.Trips.{arrival_of, departure_of}
 use Rattle.flight_routes.specs.Prices.{row_count}
-use Rattle.plan_rules.specs.Cells.{Tally}
+use Rattle.plan_rules.specs.Tally.{Tally}
 use Rattle.plan_rules.specs.Loads.{AreLoads, arrival_at, departure_at}
 use Rattle.plan_rules.proofs.CountFacts.{AreTripsOrNone-length}
 use Rattle.priced_plans.specs.Usage.{is_by, left_by, limit_at, ready_by, traffic_in, traffic_of, used_at}

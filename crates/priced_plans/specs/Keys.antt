@@ -22,12 +22,12 @@ is_at kind row period key =
     nat_eq (kind_number key.kind) kind && (nat_eq key.row row && nat_eq key.period period)
 
 -- what a price may be put on: a capacity that is there, or a connection
-abbrev pub is_limited : Parts → PriceKind → ℕ → Bool
-is_limited parts (Capacity kind) row = has_kind kind (slice_get parts.places row)
-is_limited parts Connection row = true
+abbrev pub row_has_limit : Parts → PriceKind → ℕ → Bool
+row_has_limit parts (Capacity kind) row = has_kind kind (slice_get parts.places row)
+row_has_limit parts Connection row = true
 
 abbrev pub has_limit : Parts → PriceKey → Bool
-has_limit parts key = is_limited parts key.kind key.row
+has_limit parts key = row_has_limit parts key.kind key.row
 
 -- nothing else has a price
 abbrev pub ArePlaced : Parts → PriceTable → Type 0

@@ -11,7 +11,7 @@ use Rattle.flow_types.specs.declared.plan.Stop.{Stop}
 use Rattle.flow_types.specs.Capacities.{capacity_of}
 use Rattle.flow_types.specs.Counts.{arrivals_at, departures_at, occupancy_at, one_if}
 use Rattle.flow_types.specs.Trips.{arrival_of, departure_of}
-use Rattle.plan_rules.specs.Cells.{Tally}
+use Rattle.plan_rules.specs.Tally.{Tally}
 use Rattle.plan_rules.specs.Loads.{arrival_at, departure_at, load_at}
 
 -- how many flights depart, arrive or are inside, by place and period; and when each flight departs

@@ -27,15 +27,15 @@ plan_price table parts number (flight ∷ flights) (trip ∷ plan) =
     +ℤ plan_price table parts (number + 1) flights plan
 
 -- a number of each place and period of the day, added up
-abbrev pub over_cells : Parts → (ℕ → ℕ → ℕ) → ℕ
-over_cells parts amount =
+abbrev pub over_places : Parts → (ℕ → ℕ → ℕ) → ℕ
+over_places parts amount =
     sum_by (λ k. sum_by (amount k) (range_with_len 0 parts.day.periods))
     (range_with_len 0 (length parts.places))
 
 -- the prices of a block times the capacities of a kind
 abbrev pub capacity_price : Parts → CapKind → Block → ℕ
 capacity_price parts kind block =
-    over_cells parts (λ k t. price_in block k t * capacity_of parts.places kind k t)
+    over_places parts (λ k t. price_in block k t * capacity_of parts.places kind k t)
 
 -- what all departures, arrivals and flights inside sectors that there is room for would pay
 abbrev pub limit_price : Parts → PriceTable → ℕ
@@ -51,7 +51,7 @@ price_of parts kind block k t =
 -- these prices times a count of each place and period
 abbrev pub counts_price : Parts → CapKind → Block → (ℕ → ℕ → ℕ) → ℕ
 counts_price parts kind block count =
-    over_cells parts (λ k t. price_of parts kind block k t * count k t)
+    over_places parts (λ k t. price_of parts kind block k t * count k t)
 
 -- what departures, arrivals and flights inside sectors pay, by how many there are
 abbrev pub loads_price : PriceTable → Parts → List (List Stop) → ℕ

@@ -8,7 +8,7 @@ use Rattle.scaled_simplex.specs.declared.end.End.{End}
 use Rattle.scaled_simplex.specs.declared.end.End.TheVariants.{Cut, Infeasible, Limit, Optimal, Wide}
 use Rattle.scaled_simplex.specs.Fractions.{HasPoint}
 use Rattle.scaled_simplex.specs.LastPoint.{IsBelow}
-use Rattle.scaled_simplex.specs.Multipliers.{AreMultipliers, IsTold, multipliers_of}
+use Rattle.scaled_simplex.specs.Multipliers.{AreMultipliers, IsJustified, multipliers_of}
 use Rattle.scaled_simplex.specs.Points.{point_cost}
 use Rattle.scaled_simplex.specs.Program.{Problem}
 use Rattle.scaled_simplex.specs.Run.{Outcome, is_infeasible, simplex_run, value_in, weight_in}
@@ -62,7 +62,7 @@ module _ (parts : Parts) (box : Box) (cutoff : Option ℤ) (outcome : Outcome) w
 
   -- the run's point is one of the relaxation, and cheap
   cheap_point : IsScenario parts → IsBoxOf parts box → IsTight parts box
-      → IsTold program outcome → is_infeasible outcome.end ≡ false → HasPoint program outcome
+      → IsJustified program outcome → is_infeasible outcome.end ≡ false → HasPoint program outcome
       → IsBelow program cutoff outcome → IsCheapPoint parts box cutoff
   cheap_point valid made tight told isnt point below =
       let here = point.is.point in
@@ -86,14 +86,14 @@ module _ (parts : Parts) (box : Box) (cutoff : Option ℤ) (outcome : Outcome) w
 
   module _ (is : StaysBelow parts box (unsigned_abs (weight_in program outcome)) rows cutoff) where
     -- a refutation reaches any cutoff
-    not_infeasible : IsTold program outcome → is_infeasible outcome.end ≡ true → ⊥
+    not_infeasible : IsJustified program outcome → is_infeasible outcome.end ≡ true → ⊥
     not_infeasible told infeasible =
         let none = ap unsigned_abs (told.refutation infeasible).weight in
         let some = is.weighed in
         omega (arith, some, none)
 
     -- and so does the leaf of a run that was cut
-    not_cut : IsTold program outcome → is_infeasible outcome.end ≡ false
+    not_cut : IsJustified program outcome → is_infeasible outcome.end ≡ false
         → IsBelowLeaf parts box program (kept_of parts box) → HasReached program cutoff outcome → ⊥
     not_cut told isnt promise reached = by cutoff reached is.below
       where
@@ -120,7 +120,7 @@ module _ (parts : Parts) (box : Box) (cutoff : Option ℤ) (outcome : Outcome) w
 
 pub licensed : (parts : Parts) (box : Box) (limits : Limits) (cutoff : Option ℤ)
     → IsScenario parts → IsBoxOf parts box → IsTight parts box
-    → IsTold (program_of parts box)
+    → IsJustified (program_of parts box)
     (simplex_run (program_of parts box) limits.pivots limits.cells cutoff)
     → IsWorthOf (program_of parts box) cutoff
     (simplex_run (program_of parts box) limits.pivots limits.cells cutoff)

@@ -3,7 +3,7 @@ use Rattle.std.proofs.Common.{◌≡◌, ℕ, Bool, true, false, Option, List, �
 use Rattle.std.proofs.lemmas.Int.{ints}
 use Rattle.flow_types.specs.declared.parts.Parts.{Parts}
 use Rattle.flow_types.specs.Valid.{IsScenario}
-use Rattle.scaled_simplex.specs.Multipliers.{AreMultipliers, IsTold, multipliers_of}
+use Rattle.scaled_simplex.specs.Multipliers.{AreMultipliers, IsJustified, multipliers_of}
 use Rattle.scaled_simplex.specs.Program.{IsProblem, Problem}
 use Rattle.scaled_simplex.specs.Run.{Outcome, is_infeasible, value_in, weight_in}
 use Rattle.scaled_simplex.proofs.RunLaw.{run_tells}
@@ -20,7 +20,7 @@ use Rattle.relaxed_bound.specs.Relaxed.{TellsNoLess, relaxed_leaf, run_of}
 use Rattle.relaxed_bound.proofs.LicenceFacts.{positive_is}
 
 module _ (parts : Parts) (box : Box) (outcome : Outcome)
-    (told : IsTold (program_of parts box) outcome)
+    (told : IsJustified (program_of parts box) outcome)
     (promise : IsBelowLeaf parts box (program_of parts box) (kept_of parts box)) where
   abbrev program : Problem
   program = program_of parts box

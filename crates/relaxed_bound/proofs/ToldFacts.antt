@@ -10,7 +10,7 @@ use Rattle.flow_types.specs.declared.parts.Parts.{Parts}
 use Rattle.flow_types.specs.Valid.{IsScenario}
 use Rattle.row_arena.specs.Rows.{most_entry}
 use Rattle.scaled_simplex.specs.declared.solver.Weights.{Weights}
-use Rattle.scaled_simplex.specs.Multipliers.{IsTold, multipliers_of}
+use Rattle.scaled_simplex.specs.Multipliers.{IsJustified, multipliers_of}
 use Rattle.scaled_simplex.specs.Program.{IsProblem, Problem, most_indices}
 use Rattle.scaled_simplex.specs.Run.{Outcome, is_infeasible, simplex_run, value_in, weight_in}
 use Rattle.scaled_simplex.specs.declared.end.End.{End}
@@ -75,7 +75,7 @@ rows_few (name ∷ names) (multiplier ∷ multipliers) =
     )
 
 -- how many multipliers are told
-told_few : (problem : Problem) (outcome : Outcome) → IsProblem problem → IsTold problem outcome
+told_few : (problem : Problem) (outcome : Outcome) → IsProblem problem → IsJustified problem outcome
     → length (multipliers_of problem outcome) ≤ most_indices
 told_few problem outcome valid told = by (is_infeasible outcome.end) refl
   where
@@ -117,7 +117,7 @@ module _ (parts : Parts) (box : Box) (outcome : Outcome) where
       (rows_each (λ name. is_row parts name ≡ true) (kept_of parts box)
       (multipliers_of program outcome) (kept_are parts box)) at
 
-  module _ (told : IsTold program outcome)
+  module _ (told : IsJustified program outcome)
       (promise : IsBelowLeaf parts box program (kept_of parts box)) where
     -- with the weight 0 the value is above 0
     positive : weight ≡ 0 → (choice : Var → ℕ) → IsChoice parts.flights box choice
@@ -182,8 +182,8 @@ module _ (parts : Parts) (box : Box) (presolved : Presolved)
       ∙ ap (ran_leaf presolved.kept) whole.program
       ∙ ap (λ names. ran_leaf names (program_of parts box)) whole.kept
 
-  told : IsTold (program_of parts box) (ended (program_of parts box))
-  told = subst (λ p. IsTold p (ended p)) whole.program run.told
+  told : IsJustified (program_of parts box) (ended (program_of parts box))
+  told = subst (λ p. IsJustified p (ended p)) whole.program run.told
 
   promise : IsBelowLeaf parts box (program_of parts box) (kept_of parts box)
   promise =

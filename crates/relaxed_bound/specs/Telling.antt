@@ -5,7 +5,7 @@ use Rattle.scaled_simplex.specs.declared.solver.Weights.{Weights}
 use Rattle.scaled_simplex.specs.declared.end.End.TheVariants.{Optimal}
 use Rattle.scaled_simplex.specs.Fractions.{HasPoint}
 use Rattle.scaled_simplex.specs.LastPoint.{IsBelow}
-use Rattle.scaled_simplex.specs.Multipliers.{IsTold, multipliers_of}
+use Rattle.scaled_simplex.specs.Multipliers.{IsJustified, multipliers_of}
 use Rattle.scaled_simplex.specs.Program.{IsProblem, Problem}
 use Rattle.scaled_simplex.specs.Run.{Outcome, weight_in}
 use Rattle.bytime_model.specs.declared.names.RowName.{RowName}
@@ -26,7 +26,7 @@ pub record AreWeights (problem : Problem) (cutoff : Option ℤ) (outcome : Outco
   pub near : nat_abs weights.weight ≤ most_entry
   pub rows_near : All (λ multiplier. nat_abs multiplier ≤ most_entry) weights.rows
   pub valid : IsProblem problem
-  pub told : IsTold problem outcome
+  pub told : IsJustified problem outcome
   pub worth : IsWorthOf problem cutoff outcome
 
 -- what a run of a program gives, whose first rows have these names
@@ -34,5 +34,5 @@ pub record IsRunLeaf (problem : Problem) (names : List RowName) (cutoff : Option
     (outcome : Outcome) (leaf : Leaf) : Type 0 where
   pub is : leaf ≡ told_leaf names (weight_in problem outcome) (multipliers_of problem outcome)
   pub range : IsInRange leaf
-  pub told : IsTold problem outcome
+  pub told : IsJustified problem outcome
   pub worth : IsWorthOf problem cutoff outcome

@@ -4,10 +4,10 @@ use Rattle.row_arena.specs.declared.entry.Entry.{Entry}
 use Rattle.row_arena.specs.declared.wide.Wide.{Wide}
 use Rattle.row_arena.specs.Arena.{live, row_at}
 use Rattle.scaled_simplex.specs.declared.end.End.TheVariants.{Cut, Infeasible, Limit, Optimal, Wide as TooWide}
-use Rattle.scaled_simplex.specs.declared.turn.Turn.{Turn}
-use Rattle.scaled_simplex.specs.declared.turn.Turn.TheVariants.{Ends, Pivots}
+use Rattle.scaled_simplex.specs.declared.iteration.Iteration.{Iteration}
+use Rattle.scaled_simplex.specs.declared.iteration.Iteration.TheVariants.{Ends, Pivots}
 use Rattle.scaled_simplex.specs.Program.{Problem}
-use Rattle.scaled_simplex.specs.Run.{Outcome, cost_at, entering, is_cut, leaving, pivoted, run_ended, run_from, run_on, run_pivoted, simplex_run, turn_entering, turn_leaving, turn_of, value_in, weight_in}
+use Rattle.scaled_simplex.specs.Run.{Outcome, cost_at, entering, is_cut, leaving, pivoted, run_ended, run_from, run_on, run_pivoted, simplex_run, iteration_entering, iteration_leaving, iteration_of, value_in, weight_in}
 use Rattle.scaled_simplex.specs.Tableau.{Tableau, bare_row, first_tableau, right_side, weight_index}
 use Rattle.scaled_simplex.proofs.Products.{less_is}
 
@@ -20,18 +20,18 @@ abbrev pub IsReachedWhereCut : Problem → Option ℤ → Outcome → Type 0
 IsReachedWhereCut problem cutoff outcome = outcome.end ≡ Cut → HasReached problem cutoff outcome
 
 module _ (problem : Problem) (cutoff : Option ℤ) where
-  abbrev IsReachedAt : Tableau → Turn → Type 0
+  abbrev IsReachedAt : Tableau → Iteration → Type 0
   IsReachedAt tableau (Ends end row) =
       IsReachedWhereCut problem cutoff (record { end = end; row = row_at tableau.rows row })
   IsReachedAt tableau (Pivots leaves enters) = Unit {0}
 
   entering_reached : (tableau : Tableau) (leaves : ℕ) (o : Option ℕ)
-      → IsReachedAt tableau (turn_entering leaves o)
+      → IsReachedAt tableau (iteration_entering leaves o)
   entering_reached tableau leaves None = λ e. absurd (let other : Infeasible ≡ Cut = e in cc)
   entering_reached tableau leaves (Some enters) = tt
 
   leaving_reached : (tableau : Tableau) (o : Option ℕ)
-      → IsReachedAt tableau (turn_leaving problem tableau o)
+      → IsReachedAt tableau (iteration_leaving problem tableau o)
   leaving_reached tableau None = λ e. absurd (let other : Optimal ≡ Cut = e in cc)
   leaving_reached tableau (Some leaves) =
       entering_reached tableau leaves (entering problem tableau (row_at tableau.rows leaves))
@@ -44,17 +44,17 @@ module _ (problem : Problem) (cutoff : Option ℤ) where
       less_is ((limit -ℤ pos 1) *ℤ cost_at problem tableau (weight_index problem))
       (cost_at problem tableau (right_side problem)) is
 
-  turn_reached : (tableau : Tableau) → IsReachedAt tableau (turn_of problem cutoff tableau)
-  turn_reached tableau = by (is_cut problem cutoff tableau) refl
+  iteration_reached : (tableau : Tableau) → IsReachedAt tableau (iteration_of problem cutoff tableau)
+  iteration_reached tableau = by (is_cut problem cutoff tableau) refl
     where
       by : (b : Bool) → is_cut problem cutoff tableau ≡ b
           → IsReachedAt tableau (if b then Ends Cut (length problem.constraints)
-          else turn_leaving problem tableau (leaving problem tableau))
+          else iteration_leaving problem tableau (leaving problem tableau))
       by true cut = λ _. cut_reached tableau cutoff cut
       by false uncut = leaving_reached tableau (leaving problem tableau)
 
-  ended_reached : (cells : ℕ) (tableau : Tableau) (turn : Turn) → IsReachedAt tableau turn
-      → IsReachedWhereCut problem cutoff (run_ended problem cells cutoff tableau turn)
+  ended_reached : (cells : ℕ) (tableau : Tableau) (iteration : Iteration) → IsReachedAt tableau iteration
+      → IsReachedWhereCut problem cutoff (run_ended problem cells cutoff tableau iteration)
   ended_reached cells tableau (Ends end row) reached = reached
   ended_reached cells tableau (Pivots leaves enters) reached =
       λ e. absurd (let other : Limit ≡ Cut = e in cc)
@@ -70,8 +70,8 @@ module _ (problem : Problem) (cutoff : Option ℤ) where
     pivoted_reached tableau leaves enters (Ok rows) =
         reached_after (record { rows = rows; basis = set tableau.basis leaves enters })
 
-    on_reached : (tableau : Tableau) (turn : Turn) → IsReachedAt tableau turn
-        → IsReachedWhereCut problem cutoff (run_on problem cells cutoff rest tableau turn)
+    on_reached : (tableau : Tableau) (iteration : Iteration) → IsReachedAt tableau iteration
+        → IsReachedWhereCut problem cutoff (run_on problem cells cutoff rest tableau iteration)
     on_reached tableau (Ends end row) reached = reached
     on_reached tableau (Pivots leaves enters) reached =
         pivoted_reached tableau leaves enters (pivoted problem cells tableau leaves enters)
@@ -79,10 +79,10 @@ module _ (problem : Problem) (cutoff : Option ℤ) where
   from_reached : (cells pivots : ℕ) (tableau : Tableau)
       → IsReachedWhereCut problem cutoff (run_from problem cells cutoff pivots tableau)
   from_reached cells zero tableau =
-      ended_reached cells tableau (turn_of problem cutoff tableau) (turn_reached tableau)
+      ended_reached cells tableau (iteration_of problem cutoff tableau) (iteration_reached tableau)
   from_reached cells (suc pivots) tableau =
       on_reached cells (λ next. run_from problem cells cutoff pivots next)
-      (from_reached cells pivots) tableau (turn_of problem cutoff tableau) (turn_reached tableau)
+      (from_reached cells pivots) tableau (iteration_of problem cutoff tableau) (iteration_reached tableau)
 
   pub run_reached : (pivots cells : ℕ)
       → IsReachedWhereCut problem cutoff (simplex_run problem pivots cells cutoff)

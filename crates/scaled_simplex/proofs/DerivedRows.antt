@@ -5,10 +5,10 @@ use Rattle.row_arena.specs.Arena.{row_at}
 use Rattle.row_arena.specs.Combining.{cleared}
 use Rattle.row_arena.specs.Rows.{entry_at, negated}
 use Rattle.scaled_simplex.specs.Derived.{AreSolved, IsDerived, row_with}
-use Rattle.scaled_simplex.specs.declared.turn.Turn.TheVariants.{Pivots}
-use Rattle.scaled_simplex.specs.LastTableau.{tableau_next, tableau_pivoted, tableau_turned}
+use Rattle.scaled_simplex.specs.declared.iteration.Iteration.TheVariants.{Pivots}
+use Rattle.scaled_simplex.specs.LastTableau.{tableau_next, tableau_pivoted, tableau_after}
 use Rattle.scaled_simplex.specs.Program.{IsProblem, Problem}
-use Rattle.scaled_simplex.specs.Run.{entering, leaving, pivoted, turn_entering, turn_leaving, turn_of}
+use Rattle.scaled_simplex.specs.Run.{entering, leaving, pivoted, iteration_entering, iteration_leaving, iteration_of}
 use Rattle.scaled_simplex.specs.Tableau.{Tableau, first_tableau, weight_index}
 use Rattle.scaled_simplex.proofs.Choices.{entering_positive, leaving_within}
 use Rattle.scaled_simplex.proofs.ClearedRows.{cleared_zero}
@@ -89,8 +89,8 @@ module _ (problem : Problem) (tableau : Tableau)
       (derived.weightless k small) turned_weightless)
       (λ _ _. derived.weightless k small)
 
-  turn_is : turn_of problem None tableau ≡ Pivots leaves enters
-  turn_is = ap (turn_leaving problem tableau) leaving_is ∙ ap (turn_entering leaves) entering_is
+  iteration_is : iteration_of problem None tableau ≡ Pivots leaves enters
+  iteration_is = ap (iteration_leaving problem tableau) leaving_is ∙ ap (iteration_entering leaves) entering_is
 
   -- a pivot keeps it so
   pub pivot_derived : IsDerived problem cells
@@ -99,7 +99,7 @@ module _ (problem : Problem) (tableau : Tableau)
     reached = record {
       pivots = suc derived.reached.pivots;
       is = ap (tableau_next problem cells) derived.reached.is
-          ∙ ap (tableau_turned problem cells tableau) turn_is
+          ∙ ap (tableau_after problem cells tableau) iteration_is
           ∙ ap (tableau_pivoted problem cells tableau leaves enters) done;
     };
     weightless = weightless_after;

@@ -7,7 +7,7 @@ use Rattle.scaled_simplex.specs.declared.end.End.{End}
 use Rattle.scaled_simplex.specs.declared.end.End.TheVariants.{Optimal}
 use Rattle.scaled_simplex.specs.declared.fractions.Fractions.{Fractions}
 use Rattle.scaled_simplex.specs.declared.fractions.Fractions.TheVariants.{Point, TooWide}
-use Rattle.scaled_simplex.specs.declared.told.Told.{Told}
+use Rattle.scaled_simplex.specs.declared.ending.Ending.{Ending}
 use Rattle.scaled_simplex.specs.Board.{IsBasic}
 use Rattle.scaled_simplex.specs.BoardOf.{tableau_of}
 use Rattle.scaled_simplex.specs.Derived.{IsDerived, IsLast}
@@ -91,53 +91,53 @@ module _ (problem : Problem) (valid : IsProblem problem) (tableau : Tableau)
           (slice_index_or numerators k (pos 0)) (are.are.each k small))
           (ended end) (held_worth end held.0 held.1 held.2)
 
-module _ (problem : Problem) (board : Board) (told : Told)
-    (is : IsRan problem (Some board) told) (optimal : told.end ≡ Optimal) where
+module _ (problem : Problem) (board : Board) (ending : Ending)
+    (is : IsRan problem (Some board) ending) (optimal : ending.end ≡ Optimal) where
   last : IsLast problem board
   last = (is.last optimal).0
 
   -- the row that tells is the cost row
   by_costs : (P : Outcome → Type 0)
-      → P (record { end = told.end; row = last_row problem (tableau_of board) })
-      → P (outcome_in problem (Some board) told)
+      → P (record { end = ending.end; row = last_row problem (tableau_of board) })
+      → P (outcome_in problem (Some board) ending)
   by_costs P holds =
-      subst (λ n. P (record { end = told.end; row = row_at board.arena.rows n }))
+      subst (λ n. P (record { end = ending.end; row = row_at board.arena.rows n }))
       (sym (is.last optimal).1) holds
 
   above : pos 0 <ℤ cost_at problem (tableau_of board) (weight_index problem)
   above =
       subst (λ n. pos 0 <ℤ weight_in problem
-      (record { end = told.end; row = row_at board.arena.rows n })) (is.last optimal).1
-      (weight_above problem (outcome_in problem (Some board) told) is.told_is
+      (record { end = ending.end; row = row_at board.arena.rows n })) (is.last optimal).1
+      (weight_above problem (outcome_in problem (Some board) ending) is.justified
       (ap is_infeasible optimal))
 
-  board_point : HasPoint problem (outcome_in problem (Some board) told)
+  board_point : HasPoint problem (outcome_in problem (Some board) ending)
   board_point =
       by_costs (HasPoint problem)
       (tableau_point problem is.valid (tableau_of board) last.board_is.basis
-      last.board_is.indices last.basic board.arena.cells last.derived last.none above told.end)
+      last.board_is.indices last.basic board.arena.cells last.derived last.none above ending.end)
 
   board_worth : (fractions : Fractions) → AreFractions problem (tableau_of board) fractions
-      → AreWorth problem (outcome_in problem (Some board) told) fractions
+      → AreWorth problem (outcome_in problem (Some board) ending) fractions
   board_worth fractions are =
       by_costs (λ outcome. AreWorth problem outcome fractions)
       (tableau_worth problem is.valid (tableau_of board) last.board_is.basis
-      last.board_is.indices last.basic board.arena.cells last.derived last.none above told.end
+      last.board_is.indices last.basic board.arena.cells last.derived last.none above ending.end
       fractions are)
 
 -- of a run that ended so
-pub ran_point : (problem : Problem) (board : Option Board) (told : Told)
-    → IsRan problem board told → told.end ≡ Optimal
-    → HasPoint problem (outcome_in problem board told)
-ran_point problem None told is optimal = absurd (is.last optimal)
-ran_point problem (Some board) told is optimal = board_point problem board told is optimal
+pub ran_point : (problem : Problem) (board : Option Board) (ending : Ending)
+    → IsRan problem board ending → ending.end ≡ Optimal
+    → HasPoint problem (outcome_in problem board ending)
+ran_point problem None ending is optimal = absurd (is.last optimal)
+ran_point problem (Some board) ending is optimal = board_point problem board ending is optimal
 
-pub ran_worth : (problem : Problem) (held : Option Board) (told : Told) (board : Board)
-    (result : Result Fractions OutOfMemory) → held ≡ Some board → IsRan problem held told
-    → told.end ≡ Optimal → IfOk result (AreFractions problem (tableau_of board))
-    → IfOk result (AreWorth problem (outcome_in problem held told))
-ran_worth problem held told board (Err fault) there is optimal are = tt
-ran_worth problem held told board (Ok fractions) there is optimal are =
-    subst (λ h. AreWorth problem (outcome_in problem h told) fractions) (sym there)
-    (board_worth problem board told (subst (λ h. IsRan problem h told) there is) optimal fractions
+pub ran_worth : (problem : Problem) (held : Option Board) (ending : Ending) (board : Board)
+    (result : Result Fractions OutOfMemory) → held ≡ Some board → IsRan problem held ending
+    → ending.end ≡ Optimal → IfOk result (AreFractions problem (tableau_of board))
+    → IfOk result (AreWorth problem (outcome_in problem held ending))
+ran_worth problem held ending board (Err fault) there is optimal are = tt
+ran_worth problem held ending board (Ok fractions) there is optimal are =
+    subst (λ h. AreWorth problem (outcome_in problem h ending) fractions) (sym there)
+    (board_worth problem board ending (subst (λ h. IsRan problem h ending) there is) optimal fractions
     are)

@@ -4,17 +4,17 @@ use Rattle.std.proofs.Common.{◌≡◌, ◌⊎◌, inl, inr, ℕ, zero, suc, �
 use Rattle.row_arena.specs.declared.entry.Entry.{Entry}
 use Rattle.row_arena.specs.declared.wide.Wide.{Wide}
 use Rattle.row_arena.specs.Arena.{combined, row_at}
-use Rattle.scaled_simplex.specs.declared.turn.Turn.{Turn}
-use Rattle.scaled_simplex.specs.declared.turn.Turn.TheVariants.{Ends, Pivots}
+use Rattle.scaled_simplex.specs.declared.iteration.Iteration.{Iteration}
+use Rattle.scaled_simplex.specs.declared.iteration.Iteration.TheVariants.{Ends, Pivots}
 use Rattle.scaled_simplex.specs.Board.{IsBasic}
-use Rattle.scaled_simplex.specs.LastTableau.{IsLastTableau, tableau_after, tableau_next, tableau_pivoted, tableau_turned}
+use Rattle.scaled_simplex.specs.LastTableau.{IsLastTableau, tableau_after, tableau_next, tableau_pivoted, tableau_after}
 use Rattle.scaled_simplex.specs.Program.{IsProblem, Problem}
-use Rattle.scaled_simplex.specs.Run.{entering, is_swept, leaving, pivoted, swept, swept_after, swept_at, turn_leaving, turn_of}
+use Rattle.scaled_simplex.specs.Run.{entering, is_swept, leaving, pivoted, swept, swept_after, swept_at, iteration_leaving, iteration_of}
 use Rattle.scaled_simplex.specs.Tableau.{Tableau, first_tableau}
 use Rattle.scaled_simplex.proofs.BasicRows.{first_basic, pivot_basic}
 use Rattle.scaled_simplex.proofs.FirstTableau.{first_lawful}
 use Rattle.scaled_simplex.proofs.Lawful.{IsLawful, pivot_lawful}
-use Rattle.scaled_simplex.proofs.RunLaw.{turn_pivots}
+use Rattle.scaled_simplex.proofs.RunLaw.{iteration_pivots}
 use Rattle.scaled_simplex.proofs.Sweeps.{combined_is}
 
 -- what is there isn't missing, and what was made didn't fail
@@ -83,9 +83,9 @@ module _ (problem : Problem) where
       let there : made 0 other ≡ second = cc in
       sym here ∙ ap (made 0) same ∙ there
 
-  turned_same : (one two : ℕ) (tableau first second : Tableau) (turn : Turn)
-      → tableau_turned problem one tableau turn ≡ Some first
-      → tableau_turned problem two tableau turn ≡ Some second → first ≡ second
+  turned_same : (one two : ℕ) (tableau first second : Tableau) (iteration : Iteration)
+      → tableau_after problem one tableau iteration ≡ Some first
+      → tableau_after problem two tableau iteration ≡ Some second → first ≡ second
   turned_same one two tableau first second (Ends end row) is_first is_second = missing is_first
   turned_same one two tableau first second (Pivots leaves enters) is_first is_second =
       pivoted_same one two tableau first second leaves enters
@@ -109,7 +109,7 @@ module _ (problem : Problem) where
       by None p is_o is_p same is_first is_second = missing is_first
       by (Some old) None is_o is_p same is_first is_second = missing is_second
       by (Some old) (Some other) is_o is_p same is_first is_second =
-          turned_same one two old first second (turn_of problem None old) is_first
+          turned_same one two old first second (iteration_of problem None old) is_first
           (subst (λ t. tableau_next problem two (Some t) ≡ Some second)
           (sym (same old other is_o is_p)) is_second)
 
@@ -120,7 +120,7 @@ module _ (problem : Problem) where
     next_none : (tableau : Tableau) → leaving problem tableau ≡ None
         → tableau_next problem cells (Some tableau) ≡ None
     next_none tableau none =
-        ap (λ o. tableau_turned problem cells tableau (turn_leaving problem tableau o)) none
+        ap (λ o. tableau_after problem cells tableau (iteration_leaving problem tableau o)) none
 
     -- a tableau that is reached was so by way of one after fewer pivots
     before : (k n : ℕ) (tableau : Tableau) → n < suc k
@@ -207,12 +207,12 @@ module _ (problem : Problem) where
             leaves enters cells rows leaves_is enters_is is;
       })
 
-  sound_turned : (cells : ℕ) (tableau next : Tableau) → IsSound tableau → (turn : Turn)
-      → turn_of problem None tableau ≡ turn
-      → tableau_turned problem cells tableau turn ≡ Some next → IsSound next
+  sound_turned : (cells : ℕ) (tableau next : Tableau) → IsSound tableau → (iteration : Iteration)
+      → iteration_of problem None tableau ≡ iteration
+      → tableau_after problem cells tableau iteration ≡ Some next → IsSound next
   sound_turned cells tableau next sound (Ends end row) is made = missing made
   sound_turned cells tableau next sound (Pivots leaves enters) is made =
-      let both = turn_pivots problem tableau sound.lawful None leaves enters is in
+      let both = iteration_pivots problem tableau sound.lawful None leaves enters is in
       sound_pivoted cells tableau next leaves enters sound both.0 both.1
       (pivoted problem cells tableau leaves enters) refl made
 
@@ -234,7 +234,7 @@ module _ (problem : Problem) where
           → IsSound tableau
       by None is_o next sound = missing next
       by (Some old) is_o next sound =
-          sound_turned cells old tableau (sound old is_o) (turn_of problem None old) refl next
+          sound_turned cells old tableau (sound old is_o) (iteration_of problem None old) refl next
 
   pub last_basic : (tableau : Tableau) → IsProblem problem → IsLastTableau problem tableau
       → IsBasic problem tableau

@@ -4,11 +4,11 @@ use Rattle.std.specs.List.{range_with_len}
 use Rattle.std.proofs.lemmas.List.FromFn.{map-range_with_len_more}
 use Rattle.scaled_simplex.specs.declared.board.Board.{Board}
 use Rattle.scaled_simplex.specs.declared.end.End.TheVariants.{Optimal, Wide}
-use Rattle.scaled_simplex.specs.declared.told.Told.{Told}
+use Rattle.scaled_simplex.specs.declared.ending.Ending.{Ending}
 use Rattle.scaled_simplex.specs.Board.{IsBasic}
 use Rattle.scaled_simplex.specs.BoardOf.{tableau_of}
 use Rattle.scaled_simplex.specs.Derived.{IsDerived}
-use Rattle.scaled_simplex.specs.Multipliers.{IsTold}
+use Rattle.scaled_simplex.specs.Multipliers.{IsJustified}
 use Rattle.scaled_simplex.specs.Program.{Problem}
 use Rattle.scaled_simplex.specs.Run.{Outcome, is_infeasible, multiplier_in, weight_in}
 use Rattle.scaled_simplex.specs.Solving.{IsFirst, IsRan, IsSolver}
@@ -26,7 +26,7 @@ module _ (problem : Problem) (cells : ℕ) (held : Option Board) (is : IsSolver 
     bare_ran row = record {
       valid = is.valid;
       within = tt;
-      told_is = bare_tells problem is.valid;
+      justified = bare_tells problem is.valid;
       last = λ e. let wide : Wide ≡ Optimal = e in cc;
     }
 
@@ -46,13 +46,13 @@ module _ (problem : Problem) (cells : ℕ) (held : Option Board) (is : IsSolver 
       first_is_lawful = subst (IsLawful problem) (sym first.1) (first_lawful problem is.valid)
 
       -- with one, as the run has it then
-      pub ran : (pivots : ℕ) (cutoff : Option ℤ) (new : Board) (told : Told)
-          → IsTelling problem board.arena.cells cutoff pivots (tableau_of board) new told
-          → IsRan problem (Some new) told
-      ran pivots cutoff new told telling = record {
+      pub ran : (pivots : ℕ) (cutoff : Option ℤ) (new : Board) (ending : Ending)
+          → IsTelling problem board.arena.cells cutoff pivots (tableau_of board) new ending
+          → IsRan problem (Some new) ending
+      ran pivots cutoff new ending telling = record {
         valid = is.valid;
         within = telling.within;
-        told_is = subst (IsTold problem) (sym telling.outcome)
+        justified = subst (IsJustified problem) (sym telling.outcome)
             (run_from_tells problem board.arena.cells cutoff pivots (tableau_of board)
             first_is_lawful);
         last = telling.last;
@@ -67,6 +67,6 @@ multipliers_more problem outcome k =
     sym (map-range_with_len_more (multiplier_in problem outcome) 0 k k (omega arith))
 
 -- the weight, where the run didn't end Infeasible
-pub weight_above : (problem : Problem) (outcome : Outcome) → IsTold problem outcome
+pub weight_above : (problem : Problem) (outcome : Outcome) → IsJustified problem outcome
     → is_infeasible outcome.end ≡ false → pos 0 <ℤ weight_in problem outcome
 weight_above problem outcome told isnt = (told.bound isnt).weight

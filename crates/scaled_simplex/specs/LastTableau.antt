@@ -3,10 +3,10 @@
 use Rattle.std.specs.Prelude.{◌≡◌, ℕ, zero, suc, List, set, Option, None, Some, Result, Ok, Err}
 use Rattle.row_arena.specs.declared.entry.Entry.{Entry}
 use Rattle.row_arena.specs.declared.wide.Wide.{Wide}
-use Rattle.scaled_simplex.specs.declared.turn.Turn.{Turn}
-use Rattle.scaled_simplex.specs.declared.turn.Turn.TheVariants.{Ends, Pivots}
+use Rattle.scaled_simplex.specs.declared.iteration.Iteration.{Iteration}
+use Rattle.scaled_simplex.specs.declared.iteration.Iteration.TheVariants.{Ends, Pivots}
 use Rattle.scaled_simplex.specs.Program.{Problem}
-use Rattle.scaled_simplex.specs.Run.{leaving, pivoted, turn_of}
+use Rattle.scaled_simplex.specs.Run.{leaving, pivoted, iteration_of}
 use Rattle.scaled_simplex.specs.Tableau.{Tableau, first_tableau}
 
 module _ (problem : Problem) (cells : ℕ) where
@@ -15,14 +15,14 @@ module _ (problem : Problem) (cells : ℕ) where
   tableau_pivoted tableau leaves enters (Ok rows) =
       Some (record { rows = rows; basis = set tableau.basis leaves enters })
 
-  abbrev pub tableau_turned : Tableau → Turn → Option Tableau
-  tableau_turned tableau (Ends end row) = None
-  tableau_turned tableau (Pivots leaves enters) =
+  abbrev pub tableau_after : Tableau → Iteration → Option Tableau
+  tableau_after tableau (Ends end row) = None
+  tableau_after tableau (Pivots leaves enters) =
       tableau_pivoted tableau leaves enters (pivoted problem cells tableau leaves enters)
 
   abbrev pub tableau_next : Option Tableau → Option Tableau
   tableau_next None = None
-  tableau_next (Some tableau) = tableau_turned tableau (turn_of problem None tableau)
+  tableau_next (Some tableau) = tableau_after tableau (iteration_of problem None tableau)
 
   -- the tableau after so many pivots, in room for so many entries
   abbrev pub tableau_after : ℕ → Option Tableau

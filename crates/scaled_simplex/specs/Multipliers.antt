@@ -44,6 +44,6 @@ pub record AreRefutation (problem : Problem) (outcome : Outcome) : Type 0 where
   pub positive : pos 0 <ℤ neg_ℤ (value_in problem outcome)
 
 -- what a run tells
-pub record IsTold (problem : Problem) (outcome : Outcome) : Type 0 where
+pub record IsJustified (problem : Problem) (outcome : Outcome) : Type 0 where
   pub bound : is_infeasible outcome.end ≡ false → AreBound problem outcome
   pub refutation : is_infeasible outcome.end ≡ true → AreRefutation problem outcome

@@ -9,8 +9,8 @@ use Rattle.row_arena.specs.Arena.{combined, live, row_at}
 use Rattle.row_arena.specs.Rows.{entry_at, negated}
 use Rattle.scaled_simplex.specs.declared.end.End.{End}
 use Rattle.scaled_simplex.specs.declared.end.End.TheVariants.{Cut, Infeasible, Limit, Optimal, Wide as TooWide}
-use Rattle.scaled_simplex.specs.declared.turn.Turn.{Turn}
-use Rattle.scaled_simplex.specs.declared.turn.Turn.TheVariants.{Ends, Pivots}
+use Rattle.scaled_simplex.specs.declared.iteration.Iteration.{Iteration}
+use Rattle.scaled_simplex.specs.declared.iteration.Iteration.TheVariants.{Ends, Pivots}
 use Rattle.scaled_simplex.specs.Program.{Problem, columns}
 use Rattle.scaled_simplex.specs.Search.{first_best}
 use Rattle.scaled_simplex.specs.Tableau.{Tableau, bare_row, first_tableau, right_side, weight_index}
@@ -29,9 +29,9 @@ is_infeasible Limit = false
 is_infeasible TooWide = false
 
 -- what comes next: the run ends, and which row tells why; or a row leaves and an index enters
-abbrev pub turn_entering : ℕ → Option ℕ → Turn
-turn_entering leaves None = Ends Infeasible leaves
-turn_entering leaves (Some enters) = Pivots leaves enters
+abbrev pub iteration_entering : ℕ → Option ℕ → Iteration
+iteration_entering leaves None = Ends Infeasible leaves
+iteration_entering leaves (Some enters) = Pivots leaves enters
 
 module _ (problem : Problem) where
   abbrev pub last_row : Tableau → List Entry
@@ -98,22 +98,22 @@ module _ (problem : Problem) where
       swept cells leaves enters 0 (length problem.constraints + 1)
       (set tableau.rows leaves (negated (row_at tableau.rows leaves)))
 
-  abbrev pub turn_leaving : Tableau → Option ℕ → Turn
-  turn_leaving tableau None = Ends Optimal (length problem.constraints)
-  turn_leaving tableau (Some leaves) =
-      turn_entering leaves (entering tableau (row_at tableau.rows leaves))
+  abbrev pub iteration_leaving : Tableau → Option ℕ → Iteration
+  iteration_leaving tableau None = Ends Optimal (length problem.constraints)
+  iteration_leaving tableau (Some leaves) =
+      iteration_entering leaves (entering tableau (row_at tableau.rows leaves))
 
-  abbrev pub turn_of : Option ℤ → Tableau → Turn
-  turn_of cutoff tableau =
+  abbrev pub iteration_of : Option ℤ → Tableau → Iteration
+  iteration_of cutoff tableau =
       if is_cut cutoff tableau then Ends Cut (length problem.constraints)
-      else turn_leaving tableau (leaving tableau)
+      else iteration_leaving tableau (leaving tableau)
 
   abbrev pub ended : End → Tableau → Outcome
   ended end tableau = record { end = end; row = last_row tableau }
 
   module _ (cells : ℕ) (cutoff : Option ℤ) where
     -- where no pivot is left
-    abbrev pub run_ended : Tableau → Turn → Outcome
+    abbrev pub run_ended : Tableau → Iteration → Outcome
     run_ended tableau (Ends end row) = record { end = end; row = row_at tableau.rows row }
     run_ended tableau (Pivots leaves enters) = ended Limit tableau
 
@@ -123,16 +123,16 @@ module _ (problem : Problem) where
     run_pivoted rest tableau leaves enters (Ok rows) =
         rest (record { rows = rows; basis = set tableau.basis leaves enters })
 
-    abbrev pub run_on : (Tableau → Outcome) → Tableau → Turn → Outcome
+    abbrev pub run_on : (Tableau → Outcome) → Tableau → Iteration → Outcome
     run_on rest tableau (Ends end row) = run_ended tableau (Ends end row)
     run_on rest tableau (Pivots leaves enters) =
         run_pivoted rest tableau leaves enters (pivoted cells tableau leaves enters)
 
-    -- turn by turn, with so many pivots left
+    -- iteration by iteration, with so many pivots left
     abbrev pub run_from : ℕ → Tableau → Outcome
-    run_from zero tableau = run_ended tableau (turn_of cutoff tableau)
+    run_from zero tableau = run_ended tableau (iteration_of cutoff tableau)
     run_from (suc pivots) tableau =
-        run_on (λ next. run_from pivots next) tableau (turn_of cutoff tableau)
+        run_on (λ next. run_from pivots next) tableau (iteration_of cutoff tableau)
 
   -- the run, with so many pivots at the most, and so many entries
   abbrev pub simplex_run : ℕ → ℕ → Option ℤ → Outcome

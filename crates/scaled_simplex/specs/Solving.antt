@@ -3,10 +3,10 @@ use Rattle.std.specs.Prelude.{◌≡◌, ℕ, ◌<◌, ◌≤◌, Option, None, 
 use Rattle.row_arena.specs.Arena.{live, row_at}
 use Rattle.scaled_simplex.specs.declared.board.Board.{Board}
 use Rattle.scaled_simplex.specs.declared.end.End.TheVariants.{Optimal}
-use Rattle.scaled_simplex.specs.declared.told.Told.{Told}
+use Rattle.scaled_simplex.specs.declared.ending.Ending.{Ending}
 use Rattle.scaled_simplex.specs.BoardOf.{IsBoard, tableau_of}
 use Rattle.scaled_simplex.specs.Derived.{IsLast}
-use Rattle.scaled_simplex.specs.Multipliers.{IsTold}
+use Rattle.scaled_simplex.specs.Multipliers.{IsJustified}
 use Rattle.scaled_simplex.specs.Program.{IsProblem, Problem}
 use Rattle.scaled_simplex.specs.Run.{Outcome}
 use Rattle.scaled_simplex.specs.Tableau.{bare_row, first_tableau}
@@ -33,25 +33,25 @@ pub record Ran : Type 0 where
   pub outcome : Outcome
 
 -- the row that tells: without a tableau, that of all columns at 0
-abbrev pub outcome_in : Problem → Option Board → Told → Outcome
-outcome_in problem None told = record { end = told.end; row = bare_row problem }
-outcome_in problem (Some board) told = record {
-  end = told.end;
-  row = row_at board.arena.rows told.row;
+abbrev pub outcome_in : Problem → Option Board → Ending → Outcome
+outcome_in problem None ending = record { end = ending.end; row = bare_row problem }
+outcome_in problem (Some board) ending = record {
+  end = ending.end;
+  row = row_at board.arena.rows ending.row;
 }
 
-abbrev pub IsWithin : Option Board → Told → Type 0
-IsWithin None told = Unit {0}
-IsWithin (Some board) told = told.row < length board.arena.rows
+abbrev pub IsWithin : Option Board → Ending → Type 0
+IsWithin None ending = Unit {0}
+IsWithin (Some board) ending = ending.row < length board.arena.rows
 
 -- the tableau that is kept after Optimal is the last one
-abbrev pub IsEnded : Problem → Option Board → Told → Type 0
-IsEnded problem None told = told.end ≡ Optimal → ⊥
-IsEnded problem (Some board) told =
-    told.end ≡ Optimal → IsLast problem board × (told.row ≡ length problem.constraints)
+abbrev pub IsEnded : Problem → Option Board → Ending → Type 0
+IsEnded problem None ending = ending.end ≡ Optimal → ⊥
+IsEnded problem (Some board) ending =
+    ending.end ≡ Optimal → IsLast problem board × (ending.row ≡ length problem.constraints)
 
-pub record IsRan (problem : Problem) (board : Option Board) (told : Told) : Type 0 where
+pub record IsRan (problem : Problem) (board : Option Board) (ending : Ending) : Type 0 where
   pub valid : IsProblem problem
-  pub within : IsWithin board told
-  pub told_is : IsTold problem (outcome_in problem board told)
-  pub last : IsEnded problem board told
+  pub within : IsWithin board ending
+  pub justified : IsJustified problem (outcome_in problem board ending)
+  pub last : IsEnded problem board ending

@@ -1,9 +1,9 @@
--- A run, turn by turn. No public clause cites these.
+-- A run, iteration by iteration. No public clause cites these.
 use Rattle.std.specs.Prelude.{◌≡◌, ℕ, ◌-◌, ◌<◌, Option, None, Some, length, ℤ}
 use Rattle.row_arena.specs.Arena.{row_at}
 use Rattle.scaled_simplex.specs.declared.board.Board.{Board}
 use Rattle.scaled_simplex.specs.declared.end.End.TheVariants.{Optimal}
-use Rattle.scaled_simplex.specs.declared.told.Told.{Told}
+use Rattle.scaled_simplex.specs.declared.ending.Ending.{Ending}
 use Rattle.scaled_simplex.specs.Board.{IsBasic}
 use Rattle.scaled_simplex.specs.BoardOf.{IsBoard, tableau_of}
 use Rattle.scaled_simplex.specs.Derived.{IsDerived, IsLast}
@@ -12,16 +12,16 @@ use Rattle.scaled_simplex.specs.Program.{Problem}
 use Rattle.scaled_simplex.specs.Run.{Outcome, run_from}
 use Rattle.scaled_simplex.specs.Tableau.{Tableau}
 
-abbrev pub outcome_of : Board → Told → Outcome
-outcome_of board told = record { end = told.end; row = row_at board.arena.rows told.row }
+abbrev pub outcome_of : Board → Ending → Outcome
+outcome_of board ending = record { end = ending.end; row = row_at board.arena.rows ending.row }
 
 -- it is how the run ends from the tableau on, with so many pivots left
 pub record IsTelling (problem : Problem) (cells : ℕ) (cutoff : Option ℤ) (left : ℕ)
-    (tableau : Tableau) (board : Board) (told : Told) : Type 0 where
-  pub outcome : outcome_of board told ≡ run_from problem cells cutoff left tableau
-  pub within : told.row < length board.arena.rows
-  pub last : told.end ≡ Optimal → IsLast problem board × (told.row ≡ length problem.constraints)
-  pub below : told.end ≡ Optimal → IsBelow problem cutoff (outcome_of board told)
+    (tableau : Tableau) (board : Board) (ending : Ending) : Type 0 where
+  pub outcome : outcome_of board ending ≡ run_from problem cells cutoff left tableau
+  pub within : ending.row < length board.arena.rows
+  pub last : ending.end ≡ Optimal → IsLast problem board × (ending.row ≡ length problem.constraints)
+  pub below : ending.end ≡ Optimal → IsBelow problem cutoff (outcome_of board ending)
 
 -- a pivot was made: the run goes on from the new tableau, with one pivot less
 pub record IsOnward (problem : Problem) (cutoff : Option ℤ) (left : ℕ) (old new : Board)
@@ -35,7 +35,7 @@ pub record IsOnward (problem : Problem) (cutoff : Option ℤ) (left : ℕ) (old 
   pub cells : new.arena.cells ≡ old.arena.cells
 
 -- either of the two
-abbrev pub IsStep : Problem → Option ℤ → ℕ → Board → Board → Option Told → Type 0
+abbrev pub IsStep : Problem → Option ℤ → ℕ → Board → Board → Option Ending → Type 0
 IsStep problem cutoff left old new None = IsOnward problem cutoff left old new
-IsStep problem cutoff left old new (Some told) =
-    IsTelling problem old.arena.cells cutoff left (tableau_of old) new told
+IsStep problem cutoff left old new (Some ending) =
+    IsTelling problem old.arena.cells cutoff left (tableau_of old) new ending

@@ -25,10 +25,10 @@
 //!
 //! Proved: `run` ends exactly as the defined run does, with its telling row; `multipliers` and
 //! `value` are exactly those of the definition. Whatever the end, the multipliers are 0 or more,
-//! and for each column the weighted cost plus what the constraints add to it is 0 or more (`told`).
-//! So no values of the columns that keep the constraints cost less than the value; after
-//! `Infeasible` the weight is 0 and the value is above 0, so there are none. After `Optimal` the
-//! point of the last tableau keeps the program and costs the value (`point` of `end`), and the
+//! and for each column the weighted cost plus what the constraints add to it is 0 or more
+//! (`justified`). So no values of the columns that keep the constraints cost less than the value;
+//! after `Infeasible` the weight is 0 and the value is above 0, so there are none. After `Optimal`
+//! the point of the last tableau keeps the program and costs the value (`point` of `end`), and the
 //! value is below the cutoff (`uncut` of `run`). `point` gives exactly that one, over the least
 //! denominator (`fractions`); it costs the value (`worth`), and hangs on the program alone
 //! (`points_are_one`). No product passes 128 bits.
@@ -46,8 +46,11 @@
 mod basis;
 mod board;
 mod end;
+mod ending;
 mod first;
 mod fractions;
+mod iteration;
+mod iterations;
 mod laws;
 mod listing;
 mod lists;
@@ -57,9 +60,6 @@ mod program;
 mod ratio;
 mod solver;
 mod steps;
-mod told;
-mod turn;
-mod turns;
 
 pub use end::End;
 pub use fractions::{Fractions, Numerators};

@@ -6,11 +6,11 @@ ghost use Rattle.scaled_simplex.specs.Tableau.{bare_row};
 
 use crate::board::Board;
 use crate::end::End;
+use crate::ending::Ending;
 use crate::first::first_board;
 use crate::fractions::{Fractions, fractions_of};
 use crate::program::Program;
 use crate::steps::run_from;
-use crate::told::Told;
 use flow_types::{OutOfMemory, Sequence};
 use row_arena::Refused;
 use std::alloc::Global;
@@ -41,7 +41,7 @@ impl<'a> Model for Solver<'a> {
 pub struct Run<'a> {
     program: &'a Program,
     board: Option<Board>,
-    told: Told,
+    ending: Ending,
 }
 
 impl<'a> Model for Run<'a> {
@@ -51,10 +51,10 @@ impl<'a> Model for Run<'a> {
 
     ghost view = { λ r. record {
       problem = r.program.now;
-      outcome = outcome_in r.program.now r.board r.told;
+      outcome = outcome_in r.program.now r.board r.ending;
     } };
 
-    ghost invariant = { λ r. IsRan r.program.now r.board r.told };
+    ghost invariant = { λ r. IsRan r.program.now r.board r.ending };
 }
 
 impl<'a> Solver<'a> {
@@ -101,17 +101,17 @@ impl<'a> Solver<'a> {
             None => Ok(Run {
                 program,
                 board: None,
-                told: Told {
+                ending: Ending {
                     end: End::Wide,
                     row: 0,
                 },
             }),
             Some(mut board) => {
-                let told = run_from(&mut board, alloc, program, pivots, cutoff)?;
+                let ending = run_from(&mut board, alloc, program, pivots, cutoff)?;
                 Ok(Run {
                     program,
                     board: Some(board),
-                    told,
+                    ending,
                 })
             }
         }
@@ -139,7 +139,7 @@ impl<'a> Run<'a> {
     ghost use Rattle.std.specs.Prelude.{◌≡◌, ◌<◌, ◌≤◌, ◌<ℤ◌, ◌++◌, ◌∷◌, [], All, IfOk, OnOk, false, length, nat_abs, pos};
     ghost use Rattle.row_arena.specs.Rows.{entry_at, most_entry};
     ghost use Rattle.scaled_simplex.specs.Fractions.{AreLast, AreWorth, HasPoint};
-    ghost use Rattle.scaled_simplex.specs.Multipliers.{IsTold, multipliers_of};
+    ghost use Rattle.scaled_simplex.specs.Multipliers.{IsJustified, multipliers_of};
     ghost use Rattle.scaled_simplex.specs.Program.{IsProblem};
     ghost use Rattle.scaled_simplex.specs.declared.end.End.TheVariants.{Optimal};
     ghost use Rattle.scaled_simplex.specs.Run.{is_infeasible, multiplier_in, value_in, weight_in};
@@ -149,10 +149,10 @@ impl<'a> Run<'a> {
     #[tactic(auto, using(crate::proofs::LastPoints::ran_point))]
     pub fn end(&self) -> End
         ensures end { result ≡ self.now.outcome.end }
-        ensures told { IsTold self.now.problem self.now.outcome }
+        ensures justified { IsJustified self.now.problem self.now.outcome }
         ensures point { result ≡ Optimal → HasPoint self.now.problem self.now.outcome }
     {
-        self.told.end
+        self.ending.end
     }
 
     /// What it tells of every constraint. With the weight above 0, no values of the columns that
@@ -168,7 +168,7 @@ impl<'a> Run<'a> {
         ensures rows_near { IfOk result (λ weights.
             All (λ multiplier. nat_abs multiplier ≤ most_entry) weights.rows) }
         ensures valid { IsProblem self.now.problem }
-        ensures told { IsTold self.now.problem self.now.outcome }
+        ensures justified { IsJustified self.now.problem self.now.outcome }
     {
         Ok(Weights {
             weight: self.entry(self.program.weight_index()),
@@ -219,7 +219,7 @@ impl<'a> Run<'a> {
     /// The point of the last tableau, which keeps the program and costs the value. A column that a
     /// row stands for has that row's right side divided by its entry there, every other column 0.
     /// It is given over the least common multiple of the columns' denominators in lowest terms; or,
-    /// where that passes `MOST_ENTRY`, it is told for how many first columns it does. It takes 16
+    /// where that passes `MOST_ENTRY`, it is ending for how many first columns it does. It takes 16
     /// bytes for each column, and for each the time of a greatest common divisor.
     #[tactic(auto, using(crate::proofs::LastPoints::ran_worth))]
     pub fn point(&self, alloc: Global) -> Result<Fractions, OutOfMemory>
@@ -240,7 +240,7 @@ impl<'a> Run<'a> {
     {
         match &self.board {
             None => bare_entry(self.program, index),
-            Some(board) => board.arena.entry(self.told.row, index),
+            Some(board) => board.arena.entry(self.ending.row, index),
         }
     }
 
@@ -251,7 +251,7 @@ impl<'a> Run<'a> {
         ensures near { nat_abs result ≤ most_entry }
     {
         let entry = self.entry(self.program.columns() + row);
-        signed(self.told.end, entry)
+        signed(self.ending.end, entry)
     }
 }
 

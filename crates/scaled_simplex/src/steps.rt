@@ -1,19 +1,19 @@
-//! A run, turn by turn.
+//! A run, iteration by iteration.
 ghost use Rattle.std.specs.Prelude.{◌≡◌, ◌<◌, IfOk, Some, length};
 ghost use Rattle.scaled_simplex.specs.Board.{IsBasic};
 ghost use Rattle.scaled_simplex.specs.BoardOf.{IsBoard, IsChosen, tableau_of};
 ghost use Rattle.scaled_simplex.specs.Derived.{IsDerived};
-ghost use Rattle.scaled_simplex.specs.Run.{turn_of};
+ghost use Rattle.scaled_simplex.specs.Run.{iteration_of};
 ghost use Rattle.scaled_simplex.specs.Steps.{IsStep, IsTelling};
-ghost use Rattle.scaled_simplex.specs.declared.turn.Turn.TheVariants.{Pivots};
+ghost use Rattle.scaled_simplex.specs.declared.iteration.Iteration.TheVariants.{Pivots};
 
 use crate::board::Board;
 use crate::end::End;
+use crate::ending::Ending;
+use crate::iteration::Iteration;
+use crate::iterations::iteration_of;
 use crate::pivots::{pivot, renew_lists};
 use crate::program::Program;
-use crate::told::Told;
-use crate::turn::Turn;
-use crate::turns::turn_of;
 use flow_types::OutOfMemory;
 use row_arena::Refused;
 use std::alloc::Global;
@@ -26,7 +26,7 @@ pub fn run_from(
     program: &Program,
     pivots: u64,
     cutoff: Option<i64>,
-) -> Result<Told, OutOfMemory>
+) -> Result<Ending, OutOfMemory>
     requires board { IsBoard program.now board.old }
     requires basic { IsBasic program.now (tableau_of board.old) }
     requires derived { IsDerived program.now board.old.arena.cells (tableau_of board.old) }
@@ -36,14 +36,14 @@ pub fn run_from(
     let mut todo = Vec::new(alloc);
     let mut left = pivots;
     loop {
-        if let Some(told) = step(board, alloc, program, &mut todo, left, cutoff)? {
-            return Ok(told);
+        if let Some(ending) = step(board, alloc, program, &mut todo, left, cutoff)? {
+            return Ok(ending);
         }
         left -= 1;
     }
 }
 
-// One turn: the run ends, or a pivot is made.
+// One iteration: the run ends, or a pivot is made.
 fn step(
     board: &mut Board,
     alloc: Global,
@@ -51,17 +51,17 @@ fn step(
     todo: &mut Vec<u32>,
     left: u64,
     cutoff: Option<i64>,
-) -> Result<Option<Told>, OutOfMemory>
+) -> Result<Option<Ending>, OutOfMemory>
     requires board { IsBoard program.now board.old }
     requires basic { IsBasic program.now (tableau_of board.old) }
     requires derived { IsDerived program.now board.old.arena.cells (tableau_of board.old) }
     ensures { IfOk result (IsStep program.now cutoff left board.old board.new) }
 {
-    match turn_of(board, program, cutoff) {
-        Turn::Ends { end, row } => Ok(Some(Told { end, row })),
-        Turn::Pivots { row, index } => {
+    match iteration_of(board, program, cutoff) {
+        Iteration::Ends { end, row } => Ok(Some(Ending { end, row })),
+        Iteration::Pivots { row, index } => {
             if left == 0 {
-                Ok(Some(Told {
+                Ok(Some(Ending {
                     end: End::Limit,
                     row: program.rows(),
                 }))
@@ -83,17 +83,17 @@ fn go_on(
     cutoff: Option<i64>,
     row: u32,
     index: u32,
-) -> Result<Option<Told>, OutOfMemory>
+) -> Result<Option<Ending>, OutOfMemory>
     requires board { IsBoard program.now board.old }
     requires basic { IsBasic program.now (tableau_of board.old) }
     requires derived { IsDerived program.now board.old.arena.cells (tableau_of board.old) }
-    requires turn { turn_of program.now cutoff (tableau_of board.old) ≡ Pivots row index }
+    requires iteration { iteration_of program.now cutoff (tableau_of board.old) ≡ Pivots row index }
     requires left { 0 < left }
     ensures { IfOk result (IsStep program.now cutoff left board.old board.new) }
 {
     match pivot(board, alloc, program, todo, row, index) {
         Ok(()) => Ok(None),
-        Err(Refused::Wide(_)) => Ok(Some(Told {
+        Err(Refused::Wide(_)) => Ok(Some(Ending {
             end: End::Wide,
             row: program.rows(),
         })),

@@ -11,11 +11,11 @@ use Rattle.time_windows.specs.Held.{AreLegGroupsOf}
 use Rattle.time_windows.specs.Steps.{legs_of}
 use Rattle.time_windows.proofs.RootFacts.{place_flight, place_node}
 
--- the groups of the cells so far
-pub record AreLegGroupsTo (flights : List Flight) (leg_groups : Grouped Leg) (cell : ℕ) : Type 0 where
+-- the groups of the indices so far
+pub record AreLegGroupsTo (flights : List Flight) (leg_groups : Grouped Leg) (index : ℕ) : Type 0 where
   pub pending : leg_groups.pending ≡ []
-  pub count : length leg_groups.closed ≡ cell
-  pub each : (k : ℕ) (flight : Flight) → k < cell → slice_get flights (k / 32) ≡ Some flight
+  pub count : length leg_groups.closed ≡ index
+  pub each : (k : ℕ) (flight : Flight) → k < index → slice_get flights (k / 32) ≡ Some flight
       → get_or leg_groups.closed k [] ≡ legs_of flight (k % 32)
 
 pub no_leg_groups : (flights : List Flight) → AreLegGroupsTo flights (record { closed = []; pending = [] }) 0
@@ -25,43 +25,43 @@ no_leg_groups flights = record {
   each = λ k flight below is. absurd (omega (arith, below));
 }
 
--- the legs of one more cell, added and closed
-pub leg_groups_more : (flights : List Flight) (old added new : Grouped Leg) (cell : ℕ) (flight : Flight)
-    → AreLegGroupsTo flights old cell → slice_get flights (cell / 32) ≡ Some flight
-    → added.closed ≡ old.closed → added.pending ≡ old.pending ++ legs_of flight (cell % 32)
+-- the legs of one more index, added and closed
+pub leg_groups_more : (flights : List Flight) (old added new : Grouped Leg) (index : ℕ) (flight : Flight)
+    → AreLegGroupsTo flights old index → slice_get flights (index / 32) ≡ Some flight
+    → added.closed ≡ old.closed → added.pending ≡ old.pending ++ legs_of flight (index % 32)
     → new.closed ≡ added.closed ++ added.pending ∷ [] → new.pending ≡ []
-    → AreLegGroupsTo flights new (cell + 1)
-leg_groups_more flights old added new cell flight so_far is kept legs closed empty =
-    let group : added.pending ≡ legs_of flight (cell % 32) =
-    legs ∙ ap (λ xs. xs ++ legs_of flight (cell % 32)) so_far.pending in
-    let now : new.closed ≡ old.closed ++ legs_of flight (cell % 32) ∷ [] =
+    → AreLegGroupsTo flights new (index + 1)
+leg_groups_more flights old added new index flight so_far is kept legs closed empty =
+    let group : added.pending ≡ legs_of flight (index % 32) =
+    legs ∙ ap (λ xs. xs ++ legs_of flight (index % 32)) so_far.pending in
+    let now : new.closed ≡ old.closed ++ legs_of flight (index % 32) ∷ [] =
     closed ∙ ap₂ (λ xs x. xs ++ x ∷ []) kept group in
     record {
       pending = empty;
-      count = ap length now ∙ length_push old.closed (legs_of flight (cell % 32))
+      count = ap length now ∙ length_push old.closed (legs_of flight (index % 32))
           ∙ ap (λ i. i + 1) so_far.count;
       each = λ k other below found. ap (λ xs. get_or xs k []) now
-          ∙ at k other below found (cases_eq k cell);
+          ∙ at k other below found (cases_eq k index);
     }
   where
-    at : (k : ℕ) (other : Flight) → k < cell + 1 → slice_get flights (k / 32) ≡ Some other
-        → (k ≡ cell) ⊎ (k ≡ cell → ⊥)
-        → get_or (old.closed ++ legs_of flight (cell % 32) ∷ []) k [] ≡ legs_of other (k % 32)
+    at : (k : ℕ) (other : Flight) → k < index + 1 → slice_get flights (k / 32) ≡ Some other
+        → (k ≡ index) ⊎ (k ≡ index → ⊥)
+        → get_or (old.closed ++ legs_of flight (index % 32) ∷ []) k [] ≡ legs_of other (k % 32)
     at k other below found (inl last) =
-        let there : slice_get flights (cell / 32) ≡ Some other =
+        let there : slice_get flights (index / 32) ≡ Some other =
         subst (λ i. slice_get flights (i / 32) ≡ Some other) last found in
         let same : flight ≡ other = cc in
-        rw last (get_or_push old.closed (legs_of flight (cell % 32)) [] cell so_far.count
-        ∙ ap (λ (f : Flight). legs_of f (cell % 32)) same)
+        rw last (get_or_push old.closed (legs_of flight (index % 32)) [] index so_far.count
+        ∙ ap (λ (f : Flight). legs_of f (index % 32)) same)
     at k other below found (inr apart) =
-        get_or_append_left old.closed (legs_of flight (cell % 32) ∷ []) [] k
+        get_or_append_left old.closed (legs_of flight (index % 32) ∷ []) [] k
         (omega (arith, so_far.count))
         ∙ so_far.each k other (omega arith) found
 
-pub all_leg_groups : (parts : Parts) (leg_groups : Grouped Leg) (cell : ℕ)
-    → length parts.flights * 32 ≤ cell → AreLegGroupsTo parts.flights leg_groups cell
+pub all_leg_groups : (parts : Parts) (leg_groups : Grouped Leg) (index : ℕ)
+    → length parts.flights * 32 ≤ index → AreLegGroupsTo parts.flights leg_groups index
     → AreLegGroupsOf parts leg_groups
-all_leg_groups parts leg_groups cell all so_far f n flight is few =
+all_leg_groups parts leg_groups index all so_far f n flight is few =
     let there : slice_get parts.flights ((f * 32 + n) / 32) ≡ Some flight =
     rw (place_flight f n few) is in
     let within = slice_get_within parts.flights f flight is in

@@ -8,7 +8,7 @@ pub mod SettleFacts
 pub mod TurnFacts
 pub mod ConnectionFacts
 pub mod LinkFacts
-pub mod CellFacts
+pub mod AccessFacts
 pub mod GroupFacts
 pub mod LegGroupFacts
 pub mod RootFacts

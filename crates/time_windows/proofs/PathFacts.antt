@@ -9,7 +9,7 @@ use Rattle.time_windows.specs.Held.{Held}
 use Rattle.time_windows.specs.Narrowing.{AreSound}
 use Rattle.time_windows.specs.Path.{Path, above_of, with_accesses}
 use Rattle.time_windows.specs.Trail.{IsSoundAccess}
-use Rattle.time_windows.proofs.CellFacts.{at_nodes, node_of_cell}
+use Rattle.time_windows.proofs.AccessFacts.{at_nodes, node_of_index}
 
 -- the last change comes first
 pub last_first : (log : List Change) (change : Change)
@@ -17,32 +17,32 @@ pub last_first : (log : List Change) (change : Change)
 last_first log change = reverse-append log (change ∷ [])
 
 -- an item is set, and then what it was
-set_back : (accesses : List Access) (cell : ℕ) (now default : Access)
-    → set (set accesses cell now) cell (get_or accesses cell default) ≡ accesses
-set_back [] cell now default = refl
+set_back : (accesses : List Access) (index : ℕ) (now default : Access)
+    → set (set accesses index now) index (get_or accesses index default) ≡ accesses
+set_back [] index now default = refl
 set_back (access ∷ accesses) zero now default = refl
-set_back (access ∷ accesses) (suc cell) now default =
-    ap (λ (l : List Access). access ∷ l) (set_back accesses cell now default)
+set_back (access ∷ accesses) (suc index) now default =
+    ap (λ (l : List Access). access ∷ l) (set_back accesses index now default)
 
 -- a change that is noted leaves the boxes above as they were
-pub noted : (held : Held) (accesses : List Access) (log : List Change) (cell : ℕ)
-    (before now : Access) → before ≡ get_or accesses cell before
-    → above_of (with_accesses held (set accesses cell now)) (reverse (log ++ Was cell before ∷ []))
+pub noted : (held : Held) (accesses : List Access) (log : List Change) (index : ℕ)
+    (before now : Access) → before ≡ get_or accesses index before
+    → above_of (with_accesses held (set accesses index now)) (reverse (log ++ Was index before ∷ []))
     ≡ above_of (with_accesses held accesses) (reverse log)
-noted held accesses log cell before now is =
-    ap (above_of (with_accesses held (set accesses cell now))) (last_first log (Was cell before))
+noted held accesses log index before now is =
+    ap (above_of (with_accesses held (set accesses index now))) (last_first log (Was index before))
     ∙ ap (λ (l : List Access). above_of (with_accesses held l) (reverse log))
-    (ap (λ (a : Access). set (set accesses cell now) cell a) is
-    ∙ set_back accesses cell now before)
+    (ap (λ (a : Access). set (set accesses index now) index a) is
+    ∙ set_back accesses index now before)
 
--- sound cells, and sound nodes
-pub cells_sound : (accesses : List Access) → AreSound accesses → All IsSoundAccess accesses
-cells_sound accesses sound k d within =
-    rw (get_or_default accesses k d closed within, ← node_of_cell accesses k)
+-- sound indices, and sound nodes
+pub accesses_sound : (accesses : List Access) → AreSound accesses → All IsSoundAccess accesses
+accesses_sound accesses sound k d within =
+    rw (get_or_default accesses k d closed within, ← node_of_index accesses k)
     (sound (k / 32) (k % 32))
 
-pub sound_cells : (accesses : List Access) → All IsSoundAccess accesses → AreSound accesses
-sound_cells accesses each =
+pub sound_accesses : (accesses : List Access) → All IsSoundAccess accesses → AreSound accesses
+sound_accesses accesses each =
     at_nodes IsSoundAccess accesses tt (λ k below. each k closed below)
 
 abbrev pub TakesBack : List Access → List Change → List Access → List Change → Type 0
@@ -92,8 +92,8 @@ descent held now accesses noted_accesses log pushed noted_log same rest pushes p
 deep : (held : Held) (log : List Change) → length (above_of held log) ≤ length log
 deep held [] = omega arith
 deep held (Descent ∷ log) = omega (arith, deep held log)
-deep held (Was cell access ∷ log) =
-    omega (arith, deep (with_accesses held (set held.accesses cell access)) log)
+deep held (Was index access ∷ log) =
+    omega (arith, deep (with_accesses held (set held.accesses index access)) log)
 
 pub few_above : (held : Held) (log : List Change)
     → length (above_of held (reverse log)) ≤ length log

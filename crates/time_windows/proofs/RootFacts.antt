@@ -68,37 +68,37 @@ root_sound parts k node valid (Some flight) is =
       must = (node == 0) || (node + 1 == length flight.nodes);
     }) closed (λ _. hours) (λ _. tt)
 
--- the list holds the root box as far as the cell
-pub record IsRootTo (parts : Parts) (accesses : List Access) (cell : ℕ) : Type 0 where
-  pub count : length accesses ≡ cell
-  pub each : (k : ℕ) → k < cell
+-- the list holds the root box as far as the index
+pub record IsRootTo (parts : Parts) (accesses : List Access) (index : ℕ) : Type 0 where
+  pub count : length accesses ≡ index
+  pub each : (k : ℕ) → k < index
       → get_or accesses k closed
       ≡ root_row parts.day.periods (slice_get parts.flights (k / 32)) (k % 32)
 
 pub root_none : (parts : Parts) → IsRootTo parts [] 0
 root_none parts = record { count = refl; each = λ k below. absurd (omega arith) }
 
-pub root_more : (parts : Parts) (accesses : List Access) (cell : ℕ) (flight : Flight)
-    → slice_get parts.flights (cell / 32) ≡ Some flight → IsRootTo parts accesses cell
+pub root_more : (parts : Parts) (accesses : List Access) (index : ℕ) (flight : Flight)
+    → slice_get parts.flights (index / 32) ≡ Some flight → IsRootTo parts accesses index
     → IsRootTo parts
-    (accesses ++ root_access parts.day.periods flight (cell % 32) ∷ []) (cell + 1)
-root_more parts accesses cell flight is so_far = record {
-  count = length_push accesses (root_access parts.day.periods flight (cell % 32))
+    (accesses ++ root_access parts.day.periods flight (index % 32) ∷ []) (index + 1)
+root_more parts accesses index flight is so_far = record {
+  count = length_push accesses (root_access parts.day.periods flight (index % 32))
       ∙ ap (λ i. i + 1) so_far.count;
-  each = λ k below. at k below (cases_eq k cell);
+  each = λ k below. at k below (cases_eq k index);
 }
   where
     now : List Access
-    now = accesses ++ root_access parts.day.periods flight (cell % 32) ∷ []
+    now = accesses ++ root_access parts.day.periods flight (index % 32) ∷ []
 
-    at : (k : ℕ) → k < cell + 1 → (k ≡ cell) ⊎ (k ≡ cell → ⊥)
-        → get_or (accesses ++ root_access parts.day.periods flight (cell % 32) ∷ []) k closed
+    at : (k : ℕ) → k < index + 1 → (k ≡ index) ⊎ (k ≡ index → ⊥)
+        → get_or (accesses ++ root_access parts.day.periods flight (index % 32) ∷ []) k closed
         ≡ root_row parts.day.periods (slice_get parts.flights (k / 32)) (k % 32)
     at k below (inl last) = rw (last, is)
-        (get_or_push accesses (root_access parts.day.periods flight (cell % 32)) closed cell
+        (get_or_push accesses (root_access parts.day.periods flight (index % 32)) closed index
         so_far.count)
     at k below (inr apart) =
-        get_or_append_left accesses (root_access parts.day.periods flight (cell % 32) ∷ []) closed k
+        get_or_append_left accesses (root_access parts.day.periods flight (index % 32) ∷ []) closed k
         (omega (arith, so_far.count)) ∙ so_far.each k (omega arith)
 
 pub place_flight : (f n : ℕ) → n < 32 → (f * 32 + n) / 32 ≡ f
@@ -123,10 +123,10 @@ root_past parts f n valid past (Some flight) is =
       must = (n == 0) || (n + 1 == length flight.nodes);
     }) closed (λ below. absurd (omega (arith, few))) (λ _. refl)
 
-pub root_all : (parts : Parts) (accesses : List Access) (cell : ℕ) → IsScenario parts
-    → cell ≡ length parts.flights * 32 → IsRootTo parts accesses cell
+pub root_all : (parts : Parts) (accesses : List Access) (index : ℕ) → IsScenario parts
+    → index ≡ length parts.flights * 32 → IsRootTo parts accesses index
     → (f n : ℕ) → access_at accesses f n ≡ root_box parts f n
-root_all parts accesses cell valid all so_far f n =
+root_all parts accesses index valid all so_far f n =
     if_lt (λ (a : Access). a ≡ root_box parts f n) n most_nodes
     (get_or accesses (f * most_nodes + n) closed) closed
     (λ few. at few (cases_lt f (length parts.flights)))
@@ -144,11 +144,11 @@ root_all parts accesses cell valid all so_far f n =
           get_or_past accesses (f * 32 + n) closed (omega (arith, so_far.count)),
         ) refl
 
-pub root_accesses : (parts : Parts) (accesses : List Access) (cell : ℕ) → IsScenario parts
-    → cell ≡ length parts.flights * 32 → IsRootTo parts accesses cell → AreAccesses accesses
-root_accesses parts accesses cell valid all so_far = record {
+pub root_accesses : (parts : Parts) (accesses : List Access) (index : ℕ) → IsScenario parts
+    → index ≡ length parts.flights * 32 → IsRootTo parts accesses index → AreAccesses accesses
+root_accesses parts accesses index valid all so_far = record {
   sound = λ f n. subst (λ (a : Access). IsSound a.window)
-      (sym (root_all parts accesses cell valid all so_far f n))
+      (sym (root_all parts accesses index valid all so_far f n))
       (root_sound parts f n valid (slice_get parts.flights f) refl);
   few = omega (arith, so_far.count, valid.flights.few);
 }

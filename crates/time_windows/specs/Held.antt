@@ -28,8 +28,8 @@ box_of held = access_at held.accesses
 
 -- the groups are those of the scenario's flights, the legs of one node in the order of the text
 abbrev pub AreLegGroupsOf : Parts → Grouped Leg → Type 0
-AreLegGroupsOf parts leg_groups = (f n : ℕ) (flight : Flight) → slice_get parts.flights f ≡ Some flight
-    → n < most_nodes
+AreLegGroupsOf parts leg_groups =
+    (f n : ℕ) (flight : Flight) → slice_get parts.flights f ≡ Some flight → n < most_nodes
     → get_or leg_groups.closed (f * most_nodes + n) [] ≡ filter (λ leg. leg.from == n) flight.legs
 
 -- The boxes are of the scenario: the groups are those of its flights and connections, and the box

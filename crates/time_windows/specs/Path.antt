@@ -31,5 +31,5 @@ with_accesses held accesses = record {
 abbrev pub above_of : Held → List Change → List Held
 above_of held [] = []
 above_of held (Descent ∷ changes) = held ∷ above_of held changes
-above_of held (Was cell access ∷ changes) =
-    above_of (with_accesses held (set held.accesses cell access)) changes
+above_of held (Was index access ∷ changes) =
+    above_of (with_accesses held (set held.accesses index access)) changes

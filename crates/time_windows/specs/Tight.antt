@@ -76,12 +76,16 @@ pub record IsTightened (parts : Parts) (outer inner : Box) : Type 0 where
 abbrev pub IsEarlierNode : ℕ → ℕ → ℕ → ℕ → Type 0
 IsEarlierNode f n flight node = (f < flight) ⊎ ((f ≡ flight) × (n < node))
 
+-- no node that must be entered is closed
+abbrev pub IsLive : Box → Type 0
+IsLive box = (f n : ℕ) → IsClosedMust (box f n) → ⊥
+
 -- the first node that must be entered and is closed
 pub record IsFirstClosed (box : Box) (flight node : ℕ) : Type 0 where
   pub here : IsClosedMust (box flight node)
   pub none_before : (f n : ℕ) → IsEarlierNode f n flight node → IsClosedMust (box f n) → ⊥
 
 -- what is told of a tight box
-abbrev pub IsTold : Box → Tight → Type 0
-IsTold box Live = (f n : ℕ) → IsClosedMust (box f n) → ⊥
-IsTold box (Empty flight node) = IsFirstClosed box flight node
+abbrev pub IsTightAnswer : Box → Tight → Type 0
+IsTightAnswer box Live = IsLive box
+IsTightAnswer box (Empty flight node) = IsFirstClosed box flight node

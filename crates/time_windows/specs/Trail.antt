@@ -11,10 +11,10 @@ use Rattle.time_windows.specs.Path.{above_of}
 abbrev pub IsSoundAccess : Access → Type 0
 IsSoundAccess access = IsSound access.window
 
--- a change of one of so many cells
+-- a change of one of so many indices
 abbrev pub IsChange : ℕ → Change → Type 0
 IsChange count Descent = Unit {0}
-IsChange count (Was cell access) = (cell < count) × IsSoundAccess access
+IsChange count (Was index access) = (index < count) × IsSoundAccess access
 
 pub record IsTrail (held : Held) (accesses : List Access) (log : List Change) (depth : ℕ)
     : Type 0 where

@@ -2,7 +2,7 @@
 ghost use Rattle.std.specs.Prelude.{◌≡◌};
 
 use crate::access::{Access, Window};
-use crate::cells::access_at;
+use crate::accesses::access_at;
 use crate::connections::tighten_all;
 use crate::groups::Groups;
 use crate::leg_groups::{leg_groups_of, legs_from};
@@ -54,7 +54,7 @@ impl Boxes {
     ghost use Rattle.time_windows.specs.Narrowing.{AreAccesses};
     ghost use Rattle.time_windows.specs.Path.{with_accesses};
     ghost use Rattle.time_windows.specs.Splits.{IsBranching, early_branch, late_branch};
-    ghost use Rattle.time_windows.specs.Tight.{IsTightened, IsTold};
+    ghost use Rattle.time_windows.specs.Tight.{IsTightened, IsTightAnswer};
 
     /// The root box: every plan of the scenario is in it. It isn't tight yet.
     pub fn root(alloc: Global, s: &Scenario) -> Result<Boxes, OutOfMemory>
@@ -65,9 +65,9 @@ impl Boxes {
         let flights = s.flights();
         let periods = s.day().periods;
         let mut accesses = Vec::with_capacity(alloc, flights.len() * MOST_NODES)?;
-        for cell in 0..flights.len() * MOST_NODES {
-            let node = (cell % MOST_NODES) as u16;
-            accesses.push(root_access(periods, &flights[cell / MOST_NODES], node))?;
+        for index in 0..flights.len() * MOST_NODES {
+            let node = (index % MOST_NODES) as u16;
+            accesses.push(root_access(periods, &flights[index / MOST_NODES], node))?;
         }
         Ok(Boxes {
             accesses,
@@ -157,9 +157,9 @@ impl Boxes {
         ensures rest { self.old ≡ with_accesses self.new self.old.accesses }
         ensures count { length self.new.accesses ≡ length self.old.accesses }
     {
-        let cell = flight as usize * MOST_NODES + usize::from(node);
-        self.accesses[cell] = Access {
-            window: until(self.accesses[cell].window, time),
+        let index = flight as usize * MOST_NODES + usize::from(node);
+        self.accesses[index] = Access {
+            window: until(self.accesses[index].window, time),
             must: true,
         };
     }
@@ -174,8 +174,8 @@ impl Boxes {
         ensures rest { self.old ≡ with_accesses self.new self.old.accesses }
         ensures count { length self.new.accesses ≡ length self.old.accesses }
     {
-        let cell = flight as usize * MOST_NODES + usize::from(node);
-        self.accesses[cell].window = after(self.accesses[cell].window, time);
+        let index = flight as usize * MOST_NODES + usize::from(node);
+        self.accesses[index].window = after(self.accesses[index].window, time);
     }
 
     /// Leaves the tight box: the widest one within this one, with the same marks, in which each
@@ -189,7 +189,7 @@ impl Boxes {
     pub fn tighten(&mut self, s: &Scenario) -> Tight
         requires { IsMadeFor (parts_of s.now) self.old }
         ensures tight { IsTightened (parts_of s.now) (box_of self.old) (box_of self.new) }
-        ensures told { IsTold (box_of self.new) result }
+        ensures told { IsTightAnswer (box_of self.new) result }
         ensures made { IsMadeFor (parts_of s.now) self.new }
         ensures rest { self.old ≡ with_accesses self.new self.old.accesses }
         ensures count { length self.new.accesses ≡ length self.old.accesses }

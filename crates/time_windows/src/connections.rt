@@ -12,7 +12,7 @@ ghost use Rattle.time_windows.specs.Turns.{AreTurnsOf, connection_at};
 ghost use Rattle.number_set.specs.Few.{IsIn};
 
 use crate::access::{Access, Window};
-use crate::cells::{set_window, window_at};
+use crate::accesses::{set_window, window_at};
 use crate::ends::End;
 use crate::groups::Groups;
 use crate::rows::{settle, settle_flights};

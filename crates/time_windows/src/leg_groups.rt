@@ -15,9 +15,9 @@ pub fn leg_groups_of(alloc: Global, s: &Scenario) -> Result<Groups<Leg>, OutOfMe
 {
     let flights = s.flights();
     let mut leg_groups = Groups::new(alloc);
-    for cell in 0..flights.len() * MOST_NODES {
-        let node = (cell % MOST_NODES) as u16;
-        add_legs(&mut leg_groups, &flights[cell / MOST_NODES], node)?;
+    for index in 0..flights.len() * MOST_NODES {
+        let node = (index % MOST_NODES) as u16;
+        add_legs(&mut leg_groups, &flights[index / MOST_NODES], node)?;
         leg_groups.close()?;
     }
     Ok(leg_groups)

@@ -49,8 +49,8 @@
 #![tactic(auto)]
 
 mod access;
+mod accesses;
 mod boxes;
-mod cells;
 mod connections;
 mod ends;
 mod groups;

@@ -3,7 +3,7 @@ ghost use Rattle.std.specs.Prelude.{◌≡◌, ◌↔◌, ◌<◌, ◌^◌, IsTr
 ghost use Rattle.std.specs.List.{Any};
 ghost use Rattle.time_windows.specs.Boxes.{IsClosedMust, options_of};
 ghost use Rattle.time_windows.specs.Held.{access_at};
-ghost use Rattle.time_windows.specs.Tight.{IsTold};
+ghost use Rattle.time_windows.specs.Tight.{IsTightAnswer};
 
 use crate::access::Access;
 use crate::tightening::Tight;
@@ -41,11 +41,11 @@ pub fn has_closed_must(accesses: &[Access]) -> bool
 /// The first node that must be entered and is closed.
 pub fn first_closed(accesses: &[Access]) -> Tight
     requires { length accesses.now < 2 ^ 32 }
-    ensures { IsTold (access_at accesses.now) result }
+    ensures { IsTightAnswer (access_at accesses.now) result }
 {
-    for cell in 0..accesses.len() {
-        if is_closed_must(accesses[cell]) {
-            return Tight::Empty((cell / MOST_NODES) as u32, (cell % MOST_NODES) as u16);
+    for index in 0..accesses.len() {
+        if is_closed_must(accesses[index]) {
+            return Tight::Empty((index / MOST_NODES) as u32, (index % MOST_NODES) as u16);
         }
     }
     Tight::Live

@@ -4,7 +4,7 @@ ghost use Rattle.flow_types.specs.Trips.{earliest_of, latest_of};
 ghost use Rattle.time_windows.specs.Boxes.{root_access};
 
 use crate::access::{Access, Window};
-use crate::cells::CLOSED;
+use crate::accesses::CLOSED;
 use flow_types::Flight;
 
 /// What the root box says of the flight's node.

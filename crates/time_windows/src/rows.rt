@@ -7,7 +7,7 @@ ghost use Rattle.time_windows.specs.Tight.{IsTight};
 ghost use Rattle.time_windows.specs.Steps.{latest_limit, with_entries};
 
 use crate::access::{Access, Window};
-use crate::cells::{set_window, window_at};
+use crate::accesses::{set_window, window_at};
 use crate::groups::Groups;
 use crate::leg_groups::legs_from;
 use crate::windows::{NEVER, below_limit, entry_of, from_entry, limit_of};

@@ -4,7 +4,7 @@ ghost use Rattle.flow_types.specs.Scenario.{parts_of};
 ghost use Rattle.time_windows.specs.Held.{Held, IsMadeFor, box_of};
 ghost use Rattle.time_windows.specs.Path.{above_of, branch_of, with_accesses};
 ghost use Rattle.time_windows.specs.Splits.{IsBranching};
-ghost use Rattle.time_windows.specs.Tight.{IsTightened, IsTold};
+ghost use Rattle.time_windows.specs.Tight.{IsTightened, IsTightAnswer};
 ghost use Rattle.time_windows.specs.Trail.{IsChange, IsSoundAccess};
 
 use crate::access::{Access, Window};
@@ -28,8 +28,8 @@ pub enum Side {
 enum Change {
     // To a side of a split: the changes after it lead from the box above.
     Descent,
-    // What the cell's access was.
-    Was { cell: u32, access: Access },
+    // What the index's access was.
+    Was { index: u32, access: Access },
 }
 
 /// A path of boxes, from a first one down to the present one, each the tight box of a side of a
@@ -67,7 +67,7 @@ impl Trail {
     ghost use Rattle.time_windows.specs.Held.{Held, IsMadeFor, box_of};
     ghost use Rattle.time_windows.specs.Path.{branch_of};
     ghost use Rattle.time_windows.specs.Splits.{IsBranching};
-    ghost use Rattle.time_windows.specs.Tight.{IsTightened, IsTold};
+    ghost use Rattle.time_windows.specs.Tight.{IsTightened, IsTightAnswer};
 
     /// The path of this box alone. It takes the box in any case.
     pub fn new(alloc: Global, boxes: Boxes) -> Result<Trail, OutOfMemory>
@@ -114,7 +114,7 @@ impl Trail {
         ensures tight { OnOk result (IsTightened (parts_of s.now)
             (branch_of side flight node time (box_of self.old.present))
             (box_of self.new.present)) }
-        ensures told { IfOk result (IsTold (box_of self.new.present)) }
+        ensures told { IfOk result (IsTightAnswer (box_of self.new.present)) }
         ensures made { IsMadeFor (parts_of s.now) self.new.present }
         ensures err { OnErr result (self.new ≡ self.old) }
     {
@@ -150,7 +150,7 @@ fn narrow(boxes: &mut Boxes, s: &Scenario, flight: u32, node: u16, time: u16, si
     requires branching { IsBranching (box_of boxes.old flight node) time }
     ensures tight { IsTightened (parts_of s.now)
         (branch_of side flight node time (box_of boxes.old)) (box_of boxes.new) }
-    ensures told { IsTold (box_of boxes.new) result }
+    ensures told { IsTightAnswer (box_of boxes.new) result }
     ensures made { IsMadeFor (parts_of s.now) boxes.new }
     ensures rest { boxes.old ≡ with_accesses boxes.new boxes.old.accesses }
     ensures count { length boxes.new.accesses ≡ length boxes.old.accesses }
@@ -182,25 +182,25 @@ fn note_changes(
     ensures sound { All IsSoundAccess accesses.new.items }
     ensures changes { All (IsChange (length accesses.new.items)) log.new.items }
 {
-    for cell in 0..now.len() {
-        note_change(accesses, log, cell, now[cell])?;
+    for index in 0..now.len() {
+        note_change(accesses, log, index, now[index])?;
     }
     Ok(())
 }
 
-// Notes the cell's access, and what it was where it was another one.
+// Notes the index's access, and what it was where it was another one.
 fn note_change(
     accesses: &mut Vec<Access>,
     log: &mut Vec<Change>,
-    cell: usize,
+    index: usize,
     now: Access,
 ) -> Result<(), OutOfMemory>
-    requires cell { cell < length accesses.old.items }
+    requires index { index < length accesses.old.items }
     requires few { length accesses.old.items < 2 ^ 32 }
     requires known { IsSoundAccess now }
     requires sound { All IsSoundAccess accesses.old.items }
     requires changes { All (IsChange (length accesses.old.items)) log.old.items }
-    ensures noted { OnOk result (accesses.new.items ≡ set accesses.old.items cell now) }
+    ensures noted { OnOk result (accesses.new.items ≡ set accesses.old.items index now) }
     ensures path { (held : Held)
         → above_of (with_accesses held accesses.new.items) (reverse log.new.items)
         ≡ above_of (with_accesses held accesses.old.items) (reverse log.old.items) }
@@ -208,15 +208,15 @@ fn note_change(
     ensures sound { All IsSoundAccess accesses.new.items }
     ensures changes { All (IsChange (length accesses.new.items)) log.new.items }
 {
-    let before = accesses[cell];
+    let before = accesses[index];
     if is_same(before, now) {
         return Ok(());
     }
     log.push(Change::Was {
-        cell: cell as u32,
+        index: index as u32,
         access: before,
     })?;
-    accesses[cell] = now;
+    accesses[index] = now;
     Ok(())
 }
 
@@ -253,7 +253,7 @@ fn take_back(accesses: &mut Vec<Access>, log: &mut Vec<Change>)
     while let Some(change) = log.pop() {
         match change {
             Change::Descent => return,
-            Change::Was { cell, access } => accesses[cell as usize] = access,
+            Change::Was { index, access } => accesses[index as usize] = access,
         }
     }
 }

@@ -11,13 +11,12 @@ use Rattle.flow_types.specs.Limits.{most_nodes}
 use Rattle.flow_types.specs.Valid.{IsScenario}
 use Rattle.time_windows.specs.Boxes.{Box, IsBoxOf}
 use Rattle.time_windows.specs.Splits.{early_branch, late_branch}
-use Rattle.time_windows.specs.Tight.{IsTight}
+use Rattle.time_windows.specs.Tight.{IsLive, IsTight}
 use Rattle.branch_tree.specs.declared.leaf.Leaf.{Leaf as LeafKind}
 use Rattle.branch_tree.specs.declared.leaf.Leaf.TheVariants.{Dual, Empty, Lag, Unit as UnitLeaf}
 use Rattle.branch_tree.specs.declared.tree.TreeNode.{TreeNode}
 use Rattle.branch_tree.specs.declared.tree.TreeNode.TheVariants.{Leaf, Split}
 use Rattle.branch_tree.specs.Forests.{AreSides, Leads}
-use Rattle.dual_leaf.specs.Leaf.{IsLive}
 use Rattle.flow_types.specs.Bounds.{is_reached}
 use Rattle.tree_search.specs.declared.found.Budget.{Budget}
 use Rattle.tree_search.specs.Nodes.{HasChoice, IsLeafNode, IsNodeAt, cutoff_after}

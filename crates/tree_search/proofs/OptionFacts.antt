@@ -13,10 +13,9 @@ use Rattle.time_windows.specs.declared.access.Access.{Access}
 use Rattle.time_windows.specs.declared.access.Window.{Window}
 use Rattle.time_windows.specs.Boxes.{Box, IsBoxOf, IsProper, IsWindowWithin, IsWithin, closed, options_of, root_access, root_box, root_row, width_of}
 use Rattle.time_windows.specs.Splits.{IsBranching, after, until}
-use Rattle.time_windows.specs.Tight.{IsTight}
+use Rattle.time_windows.specs.Tight.{IsLive, IsTight}
 use Rattle.time_windows.proofs.RootFacts.{flight_in}
 use Rattle.time_windows.proofs.WindowFacts.{if_lt, width_within}
-use Rattle.dual_leaf.specs.Leaf.{IsLive}
 use Rattle.tree_search.specs.Nodes.{HasChoice}
 
 -- a node that is open, or needn't be entered, has an option

@@ -14,7 +14,8 @@ use Rattle.branch_tree.specs.declared.leaf.Leaf.{Leaf}
 use Rattle.branch_tree.specs.declared.leaf.Leaf.TheVariants.{Dual, Empty, Lag, Unit as UnitLeaf}
 use Rattle.dual_leaf.specs.declared.fault.LeafFault.{LeafFault}
 use Rattle.dual_leaf.specs.declared.fault.LeafFault.TheVariants.{Closed, NotEmpty, NotUnit, UnknownRow, Useless}
-use Rattle.dual_leaf.specs.Leaf.{IsDualBound, IsDualFault, IsLeafBound, IsLive}
+use Rattle.time_windows.specs.Tight.{IsLive}
+use Rattle.dual_leaf.specs.Leaf.{IsDualBound, IsDualFault, IsLeafBound}
 use Rattle.relaxed_bound.specs.Licence.{IsBelowCutoff, IsUnreached, StaysBelow}
 use Rattle.flow_types.specs.Bounds.{is_reached}
 use Rattle.relaxed_bound.specs.Relaxed.{HasBound, SaysSome}
@@ -34,8 +35,8 @@ module _ (parts : Parts) (box : Box) where
 
     useful : (fault : LeafFault) → IsDualBound parts box weight rows (Err fault) → ⊥
     useful fault bound =
-        let above = some.positive bound.said.0 bound.value bound.least in
-        omega (arith, ints, above, bound.said.1)
+        let above = some.positive bound.answered.0 bound.value bound.least in
+        omega (arith, ints, above, bound.answered.1)
 
   -- on a live box the leaf has a bound
   pub leaf_has : (leaf : Leaf) → HasBound parts box leaf → IsLive box
@@ -64,10 +65,10 @@ module _ (parts : Parts) (box : Box) where
       → StaysBelow parts box weight rows cutoff
   stays cutoff weight rows NoPlan is unreached = absurd (let e : true ≡ false = unreached in cc)
   stays cutoff weight rows (AtLeast least) is unreached = record {
-    weighed = is.said.0;
+    weighed = is.answered.0;
     value = is.value;
     least = is.least;
-    below = below_by cutoff weight is.value least is.said.1.reached unreached;
+    below = below_by cutoff weight is.value least is.answered.1.reached unreached;
   }
 
   -- its value is below the cutoff where its bound is

@@ -9,7 +9,7 @@ use Rattle.flow_types.specs.declared.parts.Parts.{Parts}
 use Rattle.time_windows.specs.declared.access.Access.{Access}
 use Rattle.time_windows.specs.Boxes.{Box, IsBoxOf, options_of, width_of}
 use Rattle.time_windows.specs.Splits.{IsBranching}
-use Rattle.time_windows.specs.Tight.{IsTight}
+use Rattle.time_windows.specs.Tight.{IsLive, IsTight}
 use Rattle.flight_routes.specs.Prices.{PriceTable}
 use Rattle.lagrange_bound.specs.Best.{IsMostOfRounds}
 use Rattle.flow_types.specs.Bounds.{IsAtMost, IsNearBound, is_reached}
@@ -18,7 +18,7 @@ use Rattle.branch_tree.specs.declared.leaf.Leaf.{Leaf}
 use Rattle.branch_tree.specs.Leaves.{IsInRange}
 use Rattle.dual_leaf.specs.PriceLeaf.{IsLagOf}
 use Rattle.dual_leaf.specs.declared.fault.LeafFault.{LeafFault}
-use Rattle.dual_leaf.specs.Leaf.{IsLeafBound, IsLive, IsNearOf, IsUnitBound, IsUnitBox}
+use Rattle.dual_leaf.specs.Leaf.{IsLeafBound, IsNearOf, IsUnitBound, IsUnitBox}
 use Rattle.flow_types.specs.Bounds.{IsNearBound}
 use Rattle.relaxed_bound.specs.Licence.{IsLicensed, IsUnreached}
 use Rattle.relaxed_bound.specs.Relaxed.{HasBound, relaxed_leaf}

@@ -17,7 +17,7 @@ use Rattle.tree_search.specs.declared.found.Budget.{Budget}
 use Rattle.tree_search.specs.declared.found.Found.{Found}
 use Rattle.tree_search.specs.Nodes.{IsNodeOf}
 use Rattle.tree_search.specs.Records.{IsSearchRecord}
-use Rattle.tree_search.specs.Trees.{IsLeafBoundAt}
+use Rattle.dual_leaf.specs.Trees.{IsLeafBoundAt}
 
 module _ (parts : Parts) (budget : Budget) (plans : List (List (List Stop))) (counts : List ℕ) where
   -- what is known of a node says that a leaf has its bound

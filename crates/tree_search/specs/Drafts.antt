@@ -48,14 +48,16 @@ pub record IsSameTree (old new : RecordDraft) : Type 0 where
   pub bounds : new.bounds ≡ old.bounds
 
 -- a plan that is cheaper than the best is kept
-pub record IsPlanAdded (parts : Parts) (plan : List (List Stop)) (old new : RecordDraft) : Type 0 where
+pub record IsPlanAdded (parts : Parts) (plan : List (List Stop)) (old new : RecordDraft)
+    : Type 0 where
   pub cheaper : is_reached old.best (AtLeast (plan_cost parts.tables parts.flights plan)) ≡ false
   pub plans : new.plans ≡ old.plans ++ plan ∷ []
   pub best : new.best ≡ Some (plan_cost parts.tables parts.flights plan)
   pub tree : IsSameTree old new
 
 -- and no other
-pub record IsLeftOut (parts : Parts) (plan : List (List Stop)) (old new : RecordDraft) : Type 0 where
+pub record IsLeftOut (parts : Parts) (plan : List (List Stop)) (old new : RecordDraft)
+    : Type 0 where
   pub dearer : is_reached old.best (AtLeast (plan_cost parts.tables parts.flights plan)) ≡ true
   pub same : new ≡ old
 

@@ -5,6 +5,5 @@ pub mod Records
 pub mod Rooms
 pub mod Searching
 pub mod Seen
-pub mod Trees
 pub mod Visits
 pub mod Paths

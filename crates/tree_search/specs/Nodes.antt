@@ -16,7 +16,8 @@ use Rattle.branch_tree.specs.declared.tree.TreeNode.{TreeNode}
 use Rattle.branch_tree.specs.declared.tree.TreeNode.TheVariants.{Leaf, Split}
 use Rattle.branch_tree.specs.Lawful.{IsLawfulAt, IsOwnBound}
 use Rattle.branch_tree.specs.Leaves.{IsInRange}
-use Rattle.dual_leaf.specs.Leaf.{IsLeafBound, IsLive}
+use Rattle.time_windows.specs.Tight.{IsLive}
+use Rattle.dual_leaf.specs.Leaf.{IsLeafBound}
 use Rattle.bytime_model.specs.Multipliers.{AreAscending, ArePositive}
 use Rattle.relaxed_bound.specs.Licence.{IsLicensed}
 use Rattle.relaxed_bound.specs.Relaxed.{relaxed_leaf}

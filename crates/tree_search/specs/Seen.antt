@@ -5,7 +5,7 @@ use Rattle.flow_types.specs.declared.parts.Parts.{Parts}
 use Rattle.time_windows.specs.Boxes.{Box, options_of}
 use Rattle.time_windows.specs.Splits.{IsBranching}
 use Rattle.branch_tree.specs.declared.leaf.Leaf.{Leaf as LeafKind}
-use Rattle.dual_leaf.specs.Leaf.{IsLive}
+use Rattle.time_windows.specs.Tight.{IsLive}
 use Rattle.flow_types.specs.Bounds.{IsNearBound, is_reached}
 use Rattle.tree_search.specs.declared.found.Budget.{Budget}
 use Rattle.tree_search.specs.declared.seeing.Seen.{Seen}

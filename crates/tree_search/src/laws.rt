@@ -9,7 +9,7 @@ ghost use Rattle.branch_tree.specs.Lawful.{IsTreeBound};
 ghost use Rattle.tree_search.specs.Budgets.{options_in};
 ghost use Rattle.tree_search.specs.Records.{IsClosed, IsSearchRecord};
 ghost use Rattle.tree_search.specs.declared.found.Budget.{Budget};
-ghost use Rattle.tree_search.specs.Trees.{IsLeafBoundAt};
+ghost use Rattle.dual_leaf.specs.Trees.{IsLeafBoundAt};
 ghost use Rattle.tree_search.specs.declared.found.Found.{Found};
 
 /// The record of a search proves its bound, whatever the search was let to spend and whoever wrote

@@ -1,6 +1,7 @@
 //! What prices tell of a box.
 ghost use Rattle.std.specs.Prelude.{IfOk, Ok};
-ghost use Rattle.dual_leaf.specs.Leaf.{IsLeafBound, IsLive};
+ghost use Rattle.time_windows.specs.Tight.{IsLive};
+ghost use Rattle.dual_leaf.specs.Leaf.{IsLeafBound};
 ghost use Rattle.flow_types.specs.declared.bound.Bound.{Bound};
 ghost use Rattle.flow_types.specs.Scenario.{parts_of};
 ghost use Rattle.branch_tree.specs.Leaves.{IsInRange};

@@ -3,14 +3,14 @@ ghost use Rattle.std.specs.Prelude.{◌≡◌, IfOk, Ok, Result, true};
 ghost use Rattle.std.specs.Result.{IsOk};
 ghost use Rattle.branch_tree.specs.Leaves.{IsInRange};
 ghost use Rattle.dual_leaf.specs.declared.fault.LeafFault.{LeafFault};
-ghost use Rattle.dual_leaf.specs.Leaf.{IsCostIn, IsLeafBound, IsLive, IsNearOf, IsUnitBox};
+ghost use Rattle.dual_leaf.specs.Leaf.{IsCostIn, IsLeafBound, IsNearOf, IsUnitBox};
 ghost use Rattle.dual_leaf.specs.Work.{IsRoomFor};
 ghost use Rattle.tree_search.specs.Rooms.{AreRoomsFor};
 ghost use Rattle.flow_types.specs.Scenario.{parts_of};
 ghost use Rattle.flow_types.specs.declared.bound.Bound.{Bound};
 ghost use Rattle.flow_types.specs.Bounds.{is_reached};
 ghost use Rattle.time_windows.specs.Held.{IsMadeFor, box_of};
-ghost use Rattle.time_windows.specs.Tight.{IsTight};
+ghost use Rattle.time_windows.specs.Tight.{IsLive, IsTight};
 ghost use Rattle.tree_search.specs.Seen.{IsBranchOf, IsSeen, may_split};
 
 use crate::branching::{first_choice, most_spread, nearest_half};

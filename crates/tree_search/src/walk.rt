@@ -145,7 +145,7 @@ fn go_to_next(
             Step::Late => {}
             Step::Early(branch) => {
                 *waiting -= 1;
-                turn(trail, steps, s, branch)?;
+                go_late(trail, steps, s, branch)?;
                 return Ok(true);
             }
         }
@@ -154,7 +154,7 @@ fn go_to_next(
 }
 
 // Goes down to the late side of the present box.
-fn turn(
+fn go_late(
     trail: &mut Trail,
     steps: &mut Vec<Step>,
     s: &Scenario,

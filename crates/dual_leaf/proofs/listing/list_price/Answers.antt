@@ -12,7 +12,7 @@ returns-in_ok-add c =
     subst listed (sym c.in_ok-add.ensures.ok)
     (subst (λ (name : RowName). listed
     (c.args.rows.now ++ record { row = name; value = c.get-value.result } ∷ []))
-    (sym c.row_of-row.ensures)
+    (sym c.name_of-row.ensures)
     (listed-more (parts_of c.args.s.now) c.args.prices.now c.args.key c.args.rows.now
     c.get-value.result c.requires.placed c.requires.key c.get-value.ensures.price
     (let some = c.if-value-gt0.true in omega (arith, some)) c.get-value.ensures.small

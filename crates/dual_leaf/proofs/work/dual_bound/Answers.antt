@@ -1,7 +1,7 @@
 use Rattle.std.proofs.Common.{subst, arith}
 use Rattle.flow_types.specs.Scenario.{parts_of}
 use Rattle.time_windows.specs.Held.{box_of}
-use Rattle.dual_leaf.specs.Leaf.{IsSaid}
+use Rattle.dual_leaf.specs.Leaf.{IsAnswerOf}
 use Rattle.bytime_model.proofs.NumberFacts.{ready_box}
 use Rattle.dual_leaf.proofs.SoundFacts.{if_sound}
 use Rattle.valid_cuts.proofs.SumsFacts.{whole_near}
@@ -15,8 +15,8 @@ dual_value-requires-clause-ready c =
 pub returns-in-Ok-clause-sound : goal.returns-in-Ok-clause-sound
 returns-in-Ok-clause-sound c =
     if_sound (parts_of c.args.s.now) (box_of c.args.boxes.now) c.args.weight c.args.rows.now
-    c.said.result c.args.s.now.valid c.requires.boxes.inside c.in_default.ensures
+    c.answer_of.result c.args.s.now.valid c.requires.boxes.inside c.in_default.ensures
     c.in-Ok.ensures.value.0 c.in-Ok.value c.in-Ok.ensures.value.1
-    (subst (λ z. IsSaid c.args.weight z c.said.result)
+    (subst (λ z. IsAnswerOf c.args.weight z c.answer_of.result)
     (whole_near c.in-Ok.value (let near = c.in-Ok.ensures.near in omega (arith, near)))
-    c.said.ensures.said)
+    c.answer_of.ensures.answered)

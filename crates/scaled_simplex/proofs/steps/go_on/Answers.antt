@@ -10,12 +10,12 @@ use Rattle.scaled_simplex.proofs.steps.go_on.Goals as goal
 pub pivot-requires-clause-chosen : goal.pivot-requires-clause-chosen
 pivot-requires-clause-chosen c =
     chosen_told c.args.program.now (tableau_of c.args.board.now) c.args.cutoff c.args.row
-    c.args.index c.requires.turn
+    c.args.index c.requires.iteration
 
 pub returns-in-Ok : goal.returns-in-Ok
 returns-in-Ok c =
     onward_told c.args.program.now c.args.cutoff c.args.left c.args.board.now c.requires.board
-    c.pivot.new.board c.args.row c.args.index c.requires.turn c.requires.left c.requires.basic
+    c.pivot.new.board c.args.row c.args.index c.requires.iteration c.requires.left c.requires.basic
     c.requires.derived
     c.in-Ok.ensures.ok c.in-Ok.ensures.basis c.in-Ok.ensures.board c.pivot.ensures.cells
 
@@ -27,7 +27,7 @@ returns-in-Err-Wide c =
     subst (λ row. IsTelling problem old.arena.cells c.args.cutoff c.args.left (tableau_of old)
     c.pivot.new.board (record { end = TooWide; row = row })) (sym c.rows.ensures.count)
     (wide_told problem c.args.cutoff c.args.left old c.requires.board c.pivot.new.board c.args.row
-    c.args.index c.requires.turn c.requires.left c.in-Err-Wide.field-0-0
+    c.args.index c.requires.iteration c.requires.left c.in-Err-Wide.field-0-0
     (subst (λ why. IfWide why (λ wide. pivoted problem old.arena.cells (tableau_of old) c.args.row
     c.args.index ≡ Err wide)) c.in-Err-Wide.field-0-is c.in-Err-Wide.ensures.wide)
     c.pivot.ensures.count

@@ -6,4 +6,4 @@ pub returns-in-Ends : goal.returns-in-Ends
 returns-in-Ends c =
     ended_told c.args.program.now c.args.cutoff c.args.left c.args.board.now c.requires.board
     c.requires.basic c.requires.derived c.in-Ends.end c.in-Ends.row
-    (sym c.turn_of.ensures ∙ c.in-Ends.is)
+    (sym c.iteration_of.ensures ∙ c.in-Ends.is)

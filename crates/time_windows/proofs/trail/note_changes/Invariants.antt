@@ -4,9 +4,9 @@ use Rattle.time_windows.specs.Path.{above_of, with_accesses}
 use Rattle.time_windows.specs.Trail.{IsChange, IsSoundAccess}
 use Rattle.time_windows.proofs.trail.note_changes.Given as goal
 
-abbrev pub invariant-loop-cell : goal.invariant-loop-cell
-invariant-loop-cell l = record {
-  taken : take l.cell l.accesses.items ≡ take l.cell l.now;
+abbrev pub invariant-loop-index : goal.invariant-loop-index
+invariant-loop-index l = record {
+  taken : take l.index l.accesses.items ≡ take l.index l.now;
   path : (held : Held) → above_of (with_accesses held l.accesses.items) (reverse l.log.items)
       ≡ above_of (with_accesses held l.fn.accesses.items) (reverse l.fn.log.items);
   count : length l.accesses.items ≡ length l.now;

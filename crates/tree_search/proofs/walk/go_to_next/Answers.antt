@@ -36,8 +36,8 @@ returns-in-Early-clause-next c =
       above = c.args.trail.now.above;
       steps = reverse c.args.steps.now.items;
     }) c.loop-step.trail.present c.up.new.self.present
-    c.turn.new.trail.present c.loop-step.trail.above c.up.new.self.above c.turn.new.trail.above
-    c.in-Early.branch (reverse c.pop.new.self.items) (reverse c.turn.new.steps.items)
+    c.go_late.new.trail.present c.loop-step.trail.above c.up.new.self.above c.go_late.new.trail.above
+    c.in-Early.branch (reverse c.pop.new.self.items) (reverse c.go_late.new.steps.items)
     (back_same (parts_of c.args.s.now) (record {
       present = c.args.trail.now.present;
       above = c.args.trail.now.above;
@@ -46,5 +46,5 @@ returns-in-Early-clause-next c =
     (reverse c.loop-step.steps.items)
     (Early c.in-Early.branch ∷ reverse c.pop.new.self.items) early c.loop-step.invariant.back)
     c.up.ensures
-    c.in_ok-turn-in-Early.ensures.above c.in_ok-turn-in-Early.ensures.steps c.in_ok-turn-in-Early.ensures.tight
-    c.in_ok-turn-in-Early.ensures.made
+    c.in_ok-go_late-in-Early.ensures.above c.in_ok-go_late-in-Early.ensures.steps c.in_ok-go_late-in-Early.ensures.tight
+    c.in_ok-go_late-in-Early.ensures.made

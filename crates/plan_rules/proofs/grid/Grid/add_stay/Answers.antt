@@ -1,6 +1,6 @@
 use Rattle.std.proofs.Common.{ap, arith, ◌==◌, ◌&&◌, ◌+◌, nat_le, nat_lt}
 use Rattle.flow_types.specs.Counts.{one_if}
-use Rattle.plan_rules.specs.Cells.{Cells}
+use Rattle.plan_rules.specs.Tally.{CountGrid}
 use Rattle.plan_rules.proofs.GridFacts.{adds_then, adds_same, adds_none, stay_more, stay_none, stay_all}
 use Rattle.plan_rules.proofs.grid.Grid.add_stay.Goals as goal
 
@@ -29,7 +29,7 @@ loop-period-preserved c =
 pub returns : goal.returns
 returns c =
     let a = c.args in let now = c.loop-period.period in
-    let periods = ap (λ (cells : Cells). cells.periods) c.self.view_is in
+    let periods = ap (λ (grid : CountGrid). grid.periods) c.self.view_is in
     adds_same (λ k t. one_if ((a.place == k) && nat_le a.from t && nat_lt t now))
     (λ k t. one_if ((a.place == k) && nat_le a.from t && nat_lt t a.to)) a.self.now
     c.loop-period.self

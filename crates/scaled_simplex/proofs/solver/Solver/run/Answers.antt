@@ -19,4 +19,4 @@ pub invariant_of-result-in-Some : goal.invariant_of-result-in-Some
 invariant_of-result-in-Some c =
     ran c.self.inside.program.now c.self.inside.cells c.self.inside.board c.self.invariant
     c.in-Some.board c.in-Some.is c.args.pivots c.args.cutoff c.run_from.new.board
-    c.in_ok-told-in-Some.told c.in_ok-told-in-Some.ensures
+    c.in_ok-ending-in-Some.ending c.in_ok-ending-in-Some.ensures

@@ -1,4 +1,4 @@
-use Rattle.time_windows.proofs.CellFacts.{box_closed, closed_box}
+use Rattle.time_windows.proofs.AccessFacts.{box_closed, closed_box}
 use Rattle.time_windows.proofs.boxes.Boxes.is_empty.Goals as goal
 
 pub returns : goal.returns

@@ -1,4 +1,4 @@
-use Rattle.time_windows.proofs.CellFacts.{box_units, units_box}
+use Rattle.time_windows.proofs.AccessFacts.{box_units, units_box}
 use Rattle.time_windows.proofs.boxes.Boxes.is_unit.Goals as goal
 
 pub returns : goal.returns

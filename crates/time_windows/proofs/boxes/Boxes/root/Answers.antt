@@ -6,51 +6,51 @@ use Rattle.time_windows.proofs.MadeFacts.{root_inside}
 use Rattle.time_windows.proofs.RootFacts.{root_accesses, root_all, root_more}
 use Rattle.time_windows.proofs.boxes.Boxes.root.Goals as goal
 
-pub loop-cell-preserved : goal.loop-cell-preserved
-loop-cell-preserved c =
+pub loop-index-preserved : goal.loop-index-preserved
+loop-index-preserved c =
     let parts = parts_of c.args.s.now in
-    let cell = c.loop-cell.cell in
-    let flight = c.index-flights-cell.result in
-    let below : cell / 32 < length parts.flights =
-    omega (arith, c.loop-cell-test.true, ap length c.flights-flights.ensures) in
+    let index = c.loop-index.index in
+    let flight = c.index-flights-index.result in
+    let below : index / 32 < length parts.flights =
+    omega (arith, c.loop-index-test.true, ap length c.flights-flights.ensures) in
     rw (c.in_ok-push.ensures.items, c.root_access.ensures, c.day-periods.ensures)
-    (root_more parts c.loop-cell.accesses.items cell flight
-    (slice_get_read parts.flights (length parts.flights) (cell / 32) flight refl below
-    (rw c.flights-flights.ensures at c.index-flights-cell.is)) c.loop-cell.invariant)
+    (root_more parts c.loop-index.accesses.items index flight
+    (slice_get_read parts.flights (length parts.flights) (index / 32) flight refl below
+    (rw c.flights-flights.ensures at c.index-flights-index.is)) c.loop-index.invariant)
 
 pub invariant_of-result : goal.invariant_of-result
 invariant_of-result c =
-    root_accesses (parts_of c.args.s.now) c.loop-cell.accesses.items c.loop-cell.cell
+    root_accesses (parts_of c.args.s.now) c.loop-index.accesses.items c.loop-index.index
     c.args.s.now.valid
     (omega (
       arith,
-      c.loop-cell-test.false,
-      c.loop-cell.auto.cell-end,
+      c.loop-index-test.false,
+      c.loop-index.auto.index-end,
       ap length c.flights-flights.ensures,
-    )) c.loop-cell.invariant
+    )) c.loop-index.invariant
 
 pub returns-clause-root : goal.returns-clause-root
 returns-clause-root c =
-    root_all (parts_of c.args.s.now) c.loop-cell.accesses.items c.loop-cell.cell
+    root_all (parts_of c.args.s.now) c.loop-index.accesses.items c.loop-index.index
     c.args.s.now.valid
     (omega (
       arith,
-      c.loop-cell-test.false,
-      c.loop-cell.auto.cell-end,
+      c.loop-index-test.false,
+      c.loop-index.auto.index-end,
       ap length c.flights-flights.ensures,
-    )) c.loop-cell.invariant
+    )) c.loop-index.invariant
 
 pub returns-clause-made : goal.returns-clause-made
 returns-clause-made c = record {
   leg_groups = c.in_ok-leg_groups_of.ensures;
   turns = c.in_ok-new.ensures;
-  inside = root_inside (parts_of c.args.s.now) (access_at c.loop-cell.accesses.items)
-      (root_all (parts_of c.args.s.now) c.loop-cell.accesses.items c.loop-cell.cell
+  inside = root_inside (parts_of c.args.s.now) (access_at c.loop-index.accesses.items)
+      (root_all (parts_of c.args.s.now) c.loop-index.accesses.items c.loop-index.index
       c.args.s.now.valid
       (omega (
         arith,
-        c.loop-cell-test.false,
-        c.loop-cell.auto.cell-end,
+        c.loop-index-test.false,
+        c.loop-index.auto.index-end,
         ap length c.flights-flights.ensures,
-      )) c.loop-cell.invariant);
+      )) c.loop-index.invariant);
 }

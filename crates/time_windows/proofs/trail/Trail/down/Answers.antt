@@ -5,12 +5,12 @@ use Rattle.flow_types.specs.Scenario.{parts_of}
 use Rattle.time_windows.specs.Held.{Held, IsMadeFor}
 use Rattle.time_windows.specs.Path.{Path, above_of, with_accesses}
 use Rattle.time_windows.specs.Trail.{IsChange}
-use Rattle.time_windows.proofs.PathFacts.{cells_sound, came_back, descent, few_above}
+use Rattle.time_windows.proofs.PathFacts.{accesses_sound, came_back, descent, few_above}
 use Rattle.time_windows.proofs.trail.Trail.down.Goals as goal
 
 pub note_changes-requires-clause-known : goal.note_changes-requires-clause-known
 note_changes-requires-clause-known c = rw (c.accesses.ensures.accesses)
-    (cells_sound _ c.accesses.ensures.sound.sound)
+    (accesses_sound _ c.accesses.ensures.sound.sound)
 
 pub note_changes-requires-clause-changes : goal.note_changes-requires-clause-changes
 note_changes-requires-clause-changes c = rw (c.in_ok-push.ensures.items)

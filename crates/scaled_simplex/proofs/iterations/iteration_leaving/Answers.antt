@@ -1,6 +1,6 @@
 use Rattle.scaled_simplex.specs.BoardOf.{tableau_of}
 use Rattle.scaled_simplex.proofs.LeavingFacts.{leaving_there}
-use Rattle.scaled_simplex.proofs.turns.turn_leaving.Goals as goal
+use Rattle.scaled_simplex.proofs.iterations.iteration_leaving.Goals as goal
 
 pub entering-requires-clause-row : goal.entering-requires-clause-row
 entering-requires-clause-row c =

@@ -7,7 +7,7 @@ use plan_rules::Loads;
 
 /// A capacity in one period.
 #[derive(Clone, Copy, Debug, PartialEq, Eq)]
-pub struct Cell {
+pub struct Hotspot {
     pub kind: CapKind,
     pub place: u32,
     pub period: u16,
@@ -29,8 +29,8 @@ pub fn times_of(stops: &[Stop]) -> Option<Times> {
 
 /// Adds the full capacities that may keep the flight from `early` and give it `late`: those of
 /// departures and arrivals between these times, and those of its sectors on the whole way.
-pub fn add_full_cells(
-    cells: &mut Vec<Cell>,
+pub fn add_hotspots(
+    hotspots: &mut Vec<Hotspot>,
     s: &Scenario,
     loads: &Loads,
     flight: &Flight,
@@ -40,7 +40,7 @@ pub fn add_full_cells(
     requires { IsMadeFor (parts_of s.now) loads.now }
 {
     add_full(
-        cells,
+        hotspots,
         s,
         loads,
         CapKind::Dep,
@@ -49,7 +49,7 @@ pub fn add_full_cells(
         late.leaves,
     )?;
     add_full(
-        cells,
+        hotspots,
         s,
         loads,
         CapKind::Arr,
@@ -59,7 +59,7 @@ pub fn add_full_cells(
     )?;
     for place in flight.nodes.items() {
         add_full(
-            cells,
+            hotspots,
             s,
             loads,
             CapKind::Sector,
@@ -73,7 +73,7 @@ pub fn add_full_cells(
 
 // Adds those of one place in the periods from `first` to `last`, if it has capacities of the kind.
 fn add_full(
-    cells: &mut Vec<Cell>,
+    hotspots: &mut Vec<Hotspot>,
     s: &Scenario,
     loads: &Loads,
     kind: CapKind,
@@ -88,7 +88,7 @@ fn add_full(
     }
     for period in first..s.day().periods {
         if period <= last && loads.load(kind, place, period) >= s.capacity(kind, place, period) {
-            cells.push(Cell {
+            hotspots.push(Hotspot {
                 kind,
                 place,
                 period,
@@ -99,42 +99,42 @@ fn add_full(
 }
 
 /// The periods from the first of these to the last; none where there are no capacities.
-pub fn span_of(cells: &[Cell]) -> Option<Times> {
-    let first = cells.first()?.period;
+pub fn span_of(hotspots: &[Hotspot]) -> Option<Times> {
+    let first = hotspots.first()?.period;
     let mut span = Times {
         leaves: first,
         arrives: first,
     };
-    for cell in cells {
-        span.leaves = span.leaves.min(cell.period);
-        span.arrives = span.arrives.max(cell.period);
+    for hotspot in hotspots {
+        span.leaves = span.leaves.min(hotspot.period);
+        span.arrives = span.arrives.max(hotspot.period);
     }
     Some(span)
 }
 
 /// Whether the trip of the flight counts for the capacity in its period.
-pub fn meets(flight: &Flight, stops: &[Stop], cell: Cell) -> bool {
-    match cell.kind {
-        CapKind::Dep => is_there(flight, stops.first(), cell),
-        CapKind::Arr => is_there(flight, stops.last(), cell),
-        CapKind::Sector => stays(flight, stops, cell),
+pub fn meets(flight: &Flight, stops: &[Stop], hotspot: Hotspot) -> bool {
+    match hotspot.kind {
+        CapKind::Dep => is_there(flight, stops.first(), hotspot),
+        CapKind::Arr => is_there(flight, stops.last(), hotspot),
+        CapKind::Sector => stays(flight, stops, hotspot),
     }
 }
 
 // Whether the stop is at the place in the period.
-fn is_there(flight: &Flight, stop: Option<&Stop>, cell: Cell) -> bool {
+fn is_there(flight: &Flight, stop: Option<&Stop>, hotspot: Hotspot) -> bool {
     match stop {
         None => false,
-        Some(stop) => stop.time == cell.period && place_at(flight, stop.node) == cell.place,
+        Some(stop) => stop.time == hotspot.period && place_at(flight, stop.node) == hotspot.place,
     }
 }
 
 // Whether the trip is at the place in the period, before it enters the next.
-fn stays(flight: &Flight, stops: &[Stop], cell: Cell) -> bool {
+fn stays(flight: &Flight, stops: &[Stop], hotspot: Hotspot) -> bool {
     for at in 1..stops.len() {
         let stop = stops[at - 1];
-        let is_then = stop.time <= cell.period && cell.period < stops[at].time;
-        if is_then && place_at(flight, stop.node) == cell.place {
+        let is_then = stop.time <= hotspot.period && hotspot.period < stops[at].time;
+        if is_then && place_at(flight, stop.node) == hotspot.place {
             return true;
         }
     }

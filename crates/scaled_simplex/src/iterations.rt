@@ -2,53 +2,53 @@
 ghost use Rattle.std.specs.Prelude.{◌≡◌, ◌≤◌, ◌<◌, ◌^◌, ◌-ℤ◌, ◌*ℤ◌, int_lt, pos, nat_abs};
 ghost use Rattle.row_arena.specs.Rows.{most_entry};
 ghost use Rattle.scaled_simplex.specs.BoardOf.{IsBoard, tableau_of};
-ghost use Rattle.scaled_simplex.specs.Run.{is_cut, leaving, turn_entering, turn_leaving, turn_of};
+ghost use Rattle.scaled_simplex.specs.Run.{is_cut, leaving, iteration_entering, iteration_leaving, iteration_of};
 
 use crate::board::Board;
 use crate::end::End;
+use crate::iteration::Iteration;
 use crate::program::Program;
 use crate::ratio::entering;
-use crate::turn::Turn;
 
 /// The run ends, and a row tells why; or a row leaves, and an index enters.
-pub fn turn_of(board: &Board, program: &Program, cutoff: Option<i64>) -> Turn
+pub fn iteration_of(board: &Board, program: &Program, cutoff: Option<i64>) -> Iteration
     requires { IsBoard program.now board.now }
-    ensures { result ≡ turn_of program.now cutoff (tableau_of board.now) }
+    ensures { result ≡ iteration_of program.now cutoff (tableau_of board.now) }
 {
     if is_cut(board, program, cutoff) {
-        return Turn::Ends {
+        return Iteration::Ends {
             end: End::Cut,
             row: program.rows(),
         };
     }
-    turn_leaving(board, program, leaving(board, program))
+    iteration_leaving(board, program, leaving(board, program))
 }
 
 // How the run goes on where the value hasn't reached the cutoff.
-fn turn_leaving(board: &Board, program: &Program, leaves: Option<u32>) -> Turn
+fn iteration_leaving(board: &Board, program: &Program, leaves: Option<u32>) -> Iteration
     requires board { IsBoard program.now board.now }
     requires leaves { leaves ≡ leaving program.now (tableau_of board.now) }
-    ensures { result ≡ turn_leaving program.now (tableau_of board.now) leaves }
+    ensures { result ≡ iteration_leaving program.now (tableau_of board.now) leaves }
 {
     match leaves {
-        None => Turn::Ends {
+        None => Iteration::Ends {
             end: End::Optimal,
             row: program.rows(),
         },
-        Some(row) => turn_entering(row, entering(&board.arena, program, row)),
+        Some(row) => iteration_entering(row, entering(&board.arena, program, row)),
     }
 }
 
 // How the run goes on where a row leaves.
-fn turn_entering(row: u32, enters: Option<u32>) -> Turn
-    ensures { result ≡ turn_entering row enters }
+fn iteration_entering(row: u32, enters: Option<u32>) -> Iteration
+    ensures { result ≡ iteration_entering row enters }
 {
     match enters {
-        None => Turn::Ends {
+        None => Iteration::Ends {
             end: End::Infeasible,
             row,
         },
-        Some(index) => Turn::Pivots { row, index },
+        Some(index) => Iteration::Pivots { row, index },
     }
 }
 

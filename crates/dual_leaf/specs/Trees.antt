@@ -1,4 +1,4 @@
--- What a reader of a tree needs: the bound of each leaf.
+-- The bound of each leaf of a tree.
 use Rattle.std.specs.Prelude.{ℕ, Ok}
 use Rattle.flow_types.specs.declared.bound.Bound.{Bound}
 use Rattle.flow_types.specs.declared.parts.Parts.{Parts}

@@ -1,4 +1,4 @@
--- Nodes of flights and cells of a list.
+-- Nodes of flights and indices of a list.
 use Rattle.std.proofs.Common.{◌≡◌, ◌⊎◌, ℕ, ◌+◌, ◌*◌, ◌/◌, ◌%◌, ◌<◌, ◌≤◌, List, length, get_or, All, inl, inr, refl, ap, arith}
 use Rattle.std.proofs.lemmas.Bool.{cases_lt}
 use Rattle.std.proofs.lemmas.List.{get_or_default, get_or_past}
@@ -9,26 +9,26 @@ use Rattle.time_windows.specs.Boxes.{IsClosedMust, closed, options_of}
 use Rattle.time_windows.specs.Held.{access_at}
 use Rattle.time_windows.proofs.WindowFacts.{if_lt}
 
--- what holds of each cell and of a closed node holds of each node
+-- what holds of each index and of a closed node holds of each node
 pub at_nodes : (P : Access → Type 0) (accesses : List Access) → P closed
     → ((k : ℕ) → k < length accesses → P (get_or accesses k closed))
     → (f n : ℕ) → P (access_at accesses f n)
 at_nodes P accesses none each f n =
     if_lt P n most_nodes (get_or accesses (f * most_nodes + n) closed) closed
-    (λ _. at_cell (cases_lt (f * most_nodes + n) (length accesses))) (λ _. none)
+    (λ _. at_index (cases_lt (f * most_nodes + n) (length accesses))) (λ _. none)
   where
-    at_cell : (f * most_nodes + n < length accesses) ⊎ (length accesses ≤ f * most_nodes + n)
+    at_index : (f * most_nodes + n < length accesses) ⊎ (length accesses ≤ f * most_nodes + n)
         → P (get_or accesses (f * most_nodes + n) closed)
-    at_cell (inl within) = each (f * most_nodes + n) within
-    at_cell (inr past) = rw (get_or_past accesses (f * most_nodes + n) closed past) none
+    at_index (inl within) = each (f * most_nodes + n) within
+    at_index (inr past) = rw (get_or_past accesses (f * most_nodes + n) closed past) none
 
 node_place : (k : ℕ) → (k / 32) * 32 + k % 32 ≡ k
 node_place k = omega arith
 
--- the node of a cell
-pub node_of_cell : (accesses : List Access) (k : ℕ)
+-- the node of a index
+pub node_of_index : (accesses : List Access) (k : ℕ)
     → access_at accesses (k / 32) (k % 32) ≡ get_or accesses k closed
-node_of_cell accesses k =
+node_of_index accesses k =
     if_lt (λ (a : Access). a ≡ get_or accesses k closed) (k % 32) most_nodes
     (get_or accesses ((k / 32) * 32 + k % 32) closed) closed
     (λ _. ap (λ i. get_or accesses i closed) (node_place k)) (λ past. absurd (omega arith))
@@ -42,7 +42,7 @@ pub box_units : (accesses : List Access)
     → ((f n : ℕ) → options_of (access_at accesses f n) ≡ 1)
     → All (λ access. options_of access ≡ 1) accesses
 box_units accesses each k d below =
-    rw (get_or_default accesses k d closed below, ← node_of_cell accesses k)
+    rw (get_or_default accesses k d closed below, ← node_of_index accesses k)
     (each (k / 32) (k % 32))
 
 pub closed_box : (accesses : List Access) → Any IsClosedMust accesses
@@ -51,7 +51,7 @@ closed_box accesses any = (
   any.0 / 32,
   any.0 % 32,
   rw (
-    node_of_cell accesses any.0,
+    node_of_index accesses any.0,
     get_or_default accesses any.0 closed any.1 any.2,
     any.3,
   ) any.4,

@@ -42,8 +42,8 @@ pub fn set_window(accesses: &mut [Access], flight: u32, node: u16, window: Optio
     requires within { IsWindowWithin window (access_at accesses.old flight node).window }
     ensures { IsSetAt flight node window accesses.old accesses.new }
 {
-    let cell = flight as usize * MOST_NODES + usize::from(node);
-    if cell < accesses.len() {
-        accesses[cell].window = window;
+    let index = flight as usize * MOST_NODES + usize::from(node);
+    if index < accesses.len() {
+        accesses[index].window = window;
     }
 }

@@ -8,12 +8,12 @@ use Rattle.flow_types.specs.declared.place.CapKind.{CapKind}
 use Rattle.flow_types.specs.Capacities.{capacity_of, has_kind}
 use Rattle.flow_types.proofs.PlaceFacts.{has_kind-within}
 use Rattle.flight_routes.specs.Prices.{Block, price_in}
-use Rattle.priced_plans.specs.Values.{capacity_price, counts_price, over_cells, over_day, price_of}
+use Rattle.priced_plans.specs.Values.{capacity_price, counts_price, over_places, over_day, price_of}
 use Rattle.priced_plans.proofs.RangeFacts.{range-alone, range-both, range-le, range-none, range-same, times_none}
 
 module _ (parts : Parts) where
   cells-le : (f g : ℕ → ℕ → ℕ) → ((k t : ℕ) → t < parts.day.periods → f k t ≤ g k t)
-      → over_cells parts f ≤ over_cells parts g
+      → over_places parts f ≤ over_places parts g
   cells-le f g each =
       range-le (λ k. sum_by (f k) (range_with_len 0 parts.day.periods))
       (λ k. sum_by (g k) (range_with_len 0 parts.day.periods)) 0 (length parts.places)
@@ -21,14 +21,14 @@ module _ (parts : Parts) where
       (λ t from to. each k t (omega (arith, to))))
 
   cells-same : (f g : ℕ → ℕ → ℕ) → ((k t : ℕ) → f k t ≡ g k t)
-      → over_cells parts f ≡ over_cells parts g
+      → over_places parts f ≡ over_places parts g
   cells-same f g each =
       range-same (λ k. sum_by (f k) (range_with_len 0 parts.day.periods))
       (λ k. sum_by (g k) (range_with_len 0 parts.day.periods)) 0 (length parts.places)
       (λ k after before. range-same (f k) (g k) 0 parts.day.periods (λ t from to. each k t))
 
   cells-both : (f g h : ℕ → ℕ → ℕ) → ((k t : ℕ) → h k t ≡ f k t + g k t)
-      → over_cells parts h ≡ over_cells parts f + over_cells parts g
+      → over_places parts h ≡ over_places parts f + over_places parts g
   cells-both f g h each =
       range-both (λ k. sum_by (f k) (range_with_len 0 parts.day.periods))
       (λ k. sum_by (g k) (range_with_len 0 parts.day.periods))
@@ -38,7 +38,7 @@ module _ (parts : Parts) where
   -- nothing but one place
   cells-alone : (f : ℕ → ℕ → ℕ) (k : ℕ) → k < length parts.places
       → ((i t : ℕ) → i ≢ k → f i t ≡ 0)
-      → over_cells parts f ≡ sum_by (f k) (range_with_len 0 parts.day.periods)
+      → over_places parts f ≡ sum_by (f k) (range_with_len 0 parts.day.periods)
   cells-alone f k within others =
       range-alone (λ i. sum_by (f i) (range_with_len 0 parts.day.periods)) k 0
       (length parts.places) (omega arith) (omega (arith, within))
