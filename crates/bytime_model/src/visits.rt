@@ -47,7 +47,7 @@ impl Visits {
     {
         let stands = all_stands(alloc, s)?;
         Ok(Visits {
-            groups: grouped(alloc, stands.items(), s.places().len())?,
+            groups: visits_by_place(alloc, stands.items(), s.places().len())?,
         })
     }
 
@@ -98,7 +98,11 @@ fn add_stands(stands: &mut Sequence<Stand>, flight: u32, nodes: &[u32]) -> Resul
 }
 
 // The visits of so many places.
-fn grouped(alloc: Global, stands: &[Stand], places: usize) -> Result<Groups<Visit>, OutOfMemory>
+fn visits_by_place(
+    alloc: Global,
+    stands: &[Stand],
+    places: usize,
+) -> Result<Groups<Visit>, OutOfMemory>
     requires few { length stands.now < 2 ^ 32 }
     requires places { All (λ stand. stand.place < places) stands.now }
     ensures count { IfOk result (λ visits. length visits.closed ≡ places) }

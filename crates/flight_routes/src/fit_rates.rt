@@ -38,7 +38,7 @@ fn has_space(s: &Scenario, loads: &Loads, kind: CapKind, place: u32, time: u16) 
 }
 
 // A cost in 128 bits.
-fn widened(cost: Option<i64>) -> Option<i128>
+fn wide_cost(cost: Option<i64>) -> Option<i128>
     ensures value { result ≡ cost }
     ensures within { IfSome result (IsNear (2 ^ 110)) }
 {
@@ -49,7 +49,7 @@ fn widened(cost: Option<i64>) -> Option<i128>
 }
 
 // What is paid back for the cost.
-fn negated(cost: Option<i64>) -> Option<i128>
+fn negative_cost(cost: Option<i64>) -> Option<i128>
     ensures value { result ≡ option_map (λ value. pos 0 -ℤ value) cost }
     ensures within { IfSome result (IsNear (2 ^ 110)) }
 {
@@ -77,8 +77,8 @@ fn value_at(s: &Scenario, flight: u32, end: End, time: u16) -> Option<i128>
     ensures within { IfSome result (IsNear (2 ^ 110)) }
 {
     match end {
-        End::Departure => negated(credit_then(s, flight, time)),
-        End::Arrival => widened(total_then(s, flight, time)),
+        End::Departure => negative_cost(credit_then(s, flight, time)),
+        End::Arrival => wide_cost(total_then(s, flight, time)),
     }
 }
 

@@ -25,7 +25,7 @@ use flow_types::{CapKind, Flight, PriceKey, PriceKind, Scenario, place_at};
 use time_windows::{Access, End, Turns, Window};
 
 // A weight times a cost.
-fn weighted(weight: u64, cost: Option<i64>) -> Option<i128>
+fn weighted_cost(weight: u64, cost: Option<i64>) -> Option<i128>
     requires weight { weight < 2 ^ 62 }
     requires cost { IfSome cost (IsNear most_delay_cost) }
     ensures value { result ≡ option_map (λ value. pos weight *ℤ value) cost }
@@ -93,10 +93,16 @@ fn end_value(
         End::Departure => {
             less(
                 u128::from(price) + later,
-                weighted(weight, credit_then(s, flight, time)),
+                weighted_cost(weight, credit_then(s, flight, time)),
             )
         }
-        End::Arrival => { more(weighted(weight, total_then(s, flight, time)), price, later) }
+        End::Arrival => {
+            more(
+                weighted_cost(weight, total_then(s, flight, time)),
+                price,
+                later,
+            )
+        }
     }
 }
 

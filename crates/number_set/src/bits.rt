@@ -55,11 +55,11 @@ pub fn put_bit(words: &mut Vec<u64>, k: usize, now: bool)
     ensures { IsBitPut k now words.old.items words.new.items }
 {
     let word = words[k / 64];
-    words[k / 64] = turned(word, (k % 64) as u32, now);
+    words[k / 64] = word_with(word, (k % 64) as u32, now);
 }
 
 // The word with the bit, or without it.
-fn turned(word: u64, bit: u32, now: bool) -> u64
+fn word_with(word: u64, bit: u32, now: bool) -> u64
     requires { bit < 64 }
     ensures here { (bit_at result bit == 1) ≡ now }
     ensures others { (i : ℕ) → i < 64 → i ≢ bit → bit_at result i ≡ bit_at word i }

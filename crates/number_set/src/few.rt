@@ -44,7 +44,7 @@ impl FewNumbers {
     /// Takes one of them away, the first; where there is none the set is as before.
     #[tactic(auto, using(crate::proofs::FewFacts::none_in, crate::proofs::FewFacts::bit_taken))]
     pub fn pop_first(&mut self) -> Option<u32>
-        ensures { MatchOption result ((k : ℕ) → bit_in self.old k ≡ 0)
+        ensures taken { MatchOption result ((k : ℕ) → bit_in self.old k ≡ 0)
             (λ number. IsTaken number self.old self.new) }
         ensures kept { result ≡ None → self.new ≡ self.old }
     {

@@ -11,7 +11,7 @@ ghost use Rattle.flow_types.specs.Bounds.{IsNearBound};
 ghost use Rattle.price_ascent.specs.Slopes.{AreSlopesFor, IsGood};
 ghost use Rattle.price_ascent.specs.Work.{climb_weight, is_positive};
 
-use crate::pace::{Pace, weighted};
+use crate::pace::{Pace, weighted_cost};
 use crate::slopes::{Slope, all_slopes, excess_by_slopes, move_prices, paid_by_limits};
 use crate::spread::Spread;
 use flight_routes::{Prices, Work};

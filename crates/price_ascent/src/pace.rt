@@ -54,7 +54,7 @@ impl Pace {
     pub fn new(cost: Option<i64>, part: u32) -> Pace {
         Pace {
             cost,
-            enough: weighted(cost.unwrap_or(MOST_COST).saturating_sub(1)),
+            enough: weighted_cost(cost.unwrap_or(MOST_COST).saturating_sub(1)),
             part,
             best: None,
             lead: LEAST_LEAD,
@@ -90,7 +90,7 @@ impl Pace {
             Some(_) => self.enough.saturating_sub(value),
             None => value
                 .saturating_abs()
-                .saturating_add(weighted(i64::from(self.part))),
+                .saturating_add(weighted_cost(i64::from(self.part))),
         };
         let lead = missing.checked_div(i128::from(self.part)).unwrap_or(0);
         lead.clamp(SHORTEST_LEAD, MOST_LEAD)
@@ -148,16 +148,16 @@ impl Pace {
     /// this add up so and the present prices have this value; in 1,024ths.
     pub fn stride(&self, value: i128, squares: i64) -> i64 {
         let far = self.goal.saturating_sub(value).saturating_mul(STEP);
-        clamped(far.checked_div(i128::from(squares)).unwrap_or(0))
+        near_number(far.checked_div(i128::from(squares)).unwrap_or(0))
     }
 }
 
 /// A cost, weighted.
-pub fn weighted(cost: i64) -> i128 {
+pub fn weighted_cost(cost: i64) -> i128 {
     i128::from(cost).saturating_mul(i128::from(WEIGHT))
 }
 
 // The nearest number of 64 bits.
-fn clamped(number: i128) -> i64 {
+fn near_number(number: i128) -> i64 {
     number.clamp(i128::from(i64::MIN), i128::from(i64::MAX)) as i64
 }

@@ -258,12 +258,17 @@ pub fn move_prices(slopes: &[Slope], s: &Scenario, stride: i64, prices: &mut Pri
 {
     for slope in slopes {
         let price = prices.get(slope.key);
-        set_price(s, slope.key, moved(price, slope.direction, stride), prices);
+        set_price(
+            s,
+            slope.key,
+            price_after(price, slope.direction, stride),
+            prices,
+        );
     }
 }
 
 // The price, so many 1,024ths in the direction, as far as prices go.
-fn moved(price: u64, direction: i64, stride: i64) -> i64
+fn price_after(price: u64, direction: i64, stride: i64) -> i64
     requires { price < 2 ^ 62 }
 {
     let far = i128::from(direction).saturating_mul(i128::from(stride)) / DIRECTION_UNIT_SQUARED;

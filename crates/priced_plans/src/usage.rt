@@ -32,11 +32,11 @@ pub fn usage_of(s: &Scenario, loads: &Loads, key: PriceKey) -> Usage
         → (result.used ≡ used (parts_of s.now) (traffic_of (parts_of s.now) trips) key)
         × (result.limit ≡ limit (parts_of s.now) (traffic_of (parts_of s.now) trips) key) }
 {
-    counted(s, loads, key)
+    loads_usage(s, loads, key)
 }
 
 // That which the loads count.
-fn counted(s: &Scenario, loads: &Loads, key: PriceKey) -> Usage
+fn loads_usage(s: &Scenario, loads: &Loads, key: PriceKey) -> Usage
     requires loads { IsMadeFor (parts_of s.now) loads.now }
     requires key { IsKeyFor (parts_of s.now) key }
     ensures used { result.used ≡ used (parts_of s.now) (traffic_in loads.now) key }

@@ -51,7 +51,7 @@ pub fn of_target(by: Factors, entry: Entry) -> WideEntry
 // As often the pivot's entry as it is taken away.
 #[tactic(auto, using(crate::proofs::ProductFacts::product_near))]
 #[inline(always)]
-fn taken(by: Factors, entry: Entry) -> WideEntry
+fn pivot_multiple(by: Factors, entry: Entry) -> WideEntry
     requires factors { AreNear by }
     requires near { nat_abs entry.value ≤ most_entry }
     ensures value { result.value ≡ by.pivot *ℤ entry.value }
@@ -73,7 +73,7 @@ pub fn of_pivot(by: Factors, entry: Entry) -> WideEntry
 {
     WideEntry {
         column: entry.column,
-        value: -taken(by, entry).value,
+        value: -pivot_multiple(by, entry).value,
     }
 }
 
@@ -88,6 +88,6 @@ pub fn of_both(by: Factors, target: Entry, pivot: Entry) -> WideEntry
 {
     WideEntry {
         column: target.column,
-        value: of_target(by, target).value - taken(by, pivot).value,
+        value: of_target(by, target).value - pivot_multiple(by, pivot).value,
     }
 }

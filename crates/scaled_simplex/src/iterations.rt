@@ -89,7 +89,7 @@ fn has_reached(reach: Reach) -> bool
     requires { nat_abs reach.weight ≤ most_entry }
     ensures { result ≡ int_lt ((reach.cutoff -ℤ pos 1) *ℤ reach.weight) reach.value }
 {
-    below(reach) < widened(reach)
+    below(reach) < wide_reach(reach)
 }
 
 // One less than what is to be reached, as often as the weight.
@@ -126,7 +126,7 @@ fn product(of: Factors) -> i128
     of.left * of.right as i128
 }
 
-fn widened(reach: Reach) -> i128
+fn wide_reach(reach: Reach) -> i128
     ensures { result ≡ reach.value }
 {
     reach.value as i128

@@ -111,12 +111,12 @@ fn is_cheaper(a: Candidate, b: Candidate) -> bool
     requires b { IsNear b }
     ensures { result ≡ is_cheaper a b }
 {
-    priced(a, b) < priced(b, a)
+    cost_by_repair(a, b) < cost_by_repair(b, a)
 }
 
 // What the one costs, as often as the other one repairs.
 #[tactic(auto, using(crate::proofs::RatioFacts::product_near))]
-fn priced(a: Candidate, b: Candidate) -> i128
+fn cost_by_repair(a: Candidate, b: Candidate) -> i128
     requires a { IsNear a }
     requires b { IsNear b }
     ensures { result ≡ a.cost *ℤ b.repair }

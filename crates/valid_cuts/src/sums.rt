@@ -96,7 +96,7 @@ impl Sums {
     {
         let old = self.factors.get(position);
         let factor = plus(old, more);
-        self.lows = moved(self.lows, old, factor);
+        self.lows = lows_after(self.lows, old, factor);
         self.factors.set(position, factor);
     }
 
@@ -136,7 +136,7 @@ fn less(value: i128, by: u128) -> i128
 }
 
 // How far all are below 0, where one of them changes.
-fn moved(lows: u128, old: i128, new: i128) -> u128
+fn lows_after(lows: u128, old: i128, new: i128) -> u128
     requires there { below old ≤ lows }
     requires room { lows + below new < 2 ^ 128 }
     ensures { result ≡ lows - below old + below new }

@@ -7,9 +7,9 @@ pub returns-clause-trips : goal.returns-clause-trips
 returns-clause-trips c = λ trips are.
     let parts = parts_of c.args.s.now in
     let key = c.args.key in (
-      c.counted.ensures.used
+      c.loads_usage.ensures.used
           ∙ used_same parts trips c.args.loads.now are key.kind key.row key.period c.requires.key.0
           c.requires.key.1,
-      c.counted.ensures.limit
+      c.loads_usage.ensures.limit
           ∙ limit_same parts trips c.args.loads.now are key.kind key.row key.period,
     )

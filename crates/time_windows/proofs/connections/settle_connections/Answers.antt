@@ -8,7 +8,7 @@ pub loop-flight-smaller : goal.loop-flight-smaller
 loop-flight-smaller c =
     taken_less (parts_of c.args.s.now) c.loop-flight.accesses c.settle_flight.new.accesses
     c.loop-flight.waiting c.pop_first.new.self c.settle_flight.new.waiting
-    c.in-Some.flight c.in-Some.ensures c.settle_flight.ensures.step c.loop-flight.invariant.2
+    c.in-Some.flight c.in-Some.ensures.taken c.settle_flight.ensures.step c.loop-flight.invariant.2
 
 pub loop-flight-preserved : goal.loop-flight-preserved
 loop-flight-preserved c =
@@ -19,11 +19,11 @@ loop-flight-preserved c =
       c.settle_flight.ensures.step.rows c.loop-flight.invariant.1,
       taken_there parts c.loop-flight.accesses c.settle_flight.new.accesses
           c.loop-flight.waiting c.pop_first.new.self
-          c.settle_flight.new.waiting c.in-Some.flight c.in-Some.ensures
+          c.settle_flight.new.waiting c.in-Some.flight c.in-Some.ensures.taken
           c.settle_flight.ensures.step c.loop-flight.invariant.2,
       taken_done parts c.loop-flight.accesses c.settle_flight.new.accesses
           c.loop-flight.waiting c.pop_first.new.self
-          c.settle_flight.new.waiting c.in-Some.flight c.in-Some.ensures
+          c.settle_flight.new.waiting c.in-Some.flight c.in-Some.ensures.taken
           c.settle_flight.ensures.step c.loop-flight.invariant.3
           c.settle_flight.ensures.departures c.settle_flight.ensures.arrivals,
     )
@@ -32,5 +32,5 @@ pub returns-clause-tight : goal.returns-clause-tight
 returns-clause-tight c = record {
   rows = c.loop-flight.invariant.1;
   turns = none_waits (parts_of c.args.s.now) c.loop-flight.accesses c.loop-flight.waiting
-      c.in_default.ensures c.loop-flight.invariant.3;
+      c.in_default.ensures.taken c.loop-flight.invariant.3;
 }

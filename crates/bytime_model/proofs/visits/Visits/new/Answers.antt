@@ -6,14 +6,14 @@ use Rattle.bytime_model.specs.Visits.{all_stands, visits_in}
 use Rattle.bytime_model.proofs.StandFacts.{stands_few, stands_there, visits_made}
 use Rattle.bytime_model.proofs.visits.Visits.new.Goals as goal
 
-pub grouped-requires-clause-few : goal.grouped-requires-clause-few
-grouped-requires-clause-few c =
+pub visits_by_place-requires-clause-few : goal.visits_by_place-requires-clause-few
+visits_by_place-requires-clause-few c =
     subst (λ (stands : List Stand). length stands < 2 ^ 32)
     (sym (c.items.ensures ∙ c.in_ok-stands.ensures))
     (stands_few (parts_of c.args.s.now) c.args.s.now.valid)
 
-pub grouped-requires-clause-places : goal.grouped-requires-clause-places
-grouped-requires-clause-places c =
+pub visits_by_place-requires-clause-places : goal.visits_by_place-requires-clause-places
+visits_by_place-requires-clause-places c =
     subst (λ (stands : List Stand). All (λ (s : Stand). s.place < length c.places.result.now)
     stands) (sym (c.items.ensures ∙ c.in_ok-stands.ensures))
     (subst (λ (places : List Place). All (λ (s : Stand). s.place < length places)
