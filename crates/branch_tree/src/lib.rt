@@ -1,4 +1,5 @@
-//! Trees of splits, and their leaves, each of which has a bound on its box of plans.
+//! Trees of splits, and their leaves, each of which has a bound on its box of plans: the tree of a
+//! branch and bound.
 //!
 //! A caller makes a leaf, and asks `dual_leaf` for its bound:
 //!

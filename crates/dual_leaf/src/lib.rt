@@ -1,4 +1,4 @@
-//! The bound of a leaf: what no plan of its box costs less than.
+//! The lower bound of a leaf: what no plan of its box costs less than, by weak duality.
 //!
 //! A caller makes the room once for a scenario, and asks for one leaf at a time on a tight box:
 //!

@@ -1,5 +1,6 @@
 //! The least trip of a flight in a box: under prices on capacities and connections, or beside the
-//! trips of other flights.
+//! trips of other flights. It is a shortest path through nodes and periods, found by dynamic
+//! programming from the last node to the first.
 //!
 //! A caller makes `Work` once for a scenario, and asks for one flight at a time:
 //!

@@ -1,4 +1,5 @@
-//! A first plan, flight by flight, and a bound that goes with it.
+//! A first plan, flight by flight (the first incumbent of a search), and a lower bound that goes
+//! with it.
 //!
 //! A caller has a box of plans, tight or not, and asks for both:
 //!

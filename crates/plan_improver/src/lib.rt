@@ -1,4 +1,4 @@
-//! A search for plans that cost less.
+//! A search for plans that cost less: large neighbourhood search.
 //!
 //! A caller has a plan, or what the greedy plan kept where it is stuck, and asks for a better one:
 //!

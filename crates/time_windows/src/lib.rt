@@ -1,5 +1,5 @@
 //! Boxes of plans: when each flight may enter each node and whether it must, tightened along the
-//! legs and the connections, and split in two.
+//! legs and the connections (constraint propagation on time windows), and split in two.
 //!
 //! A caller makes the root box of a scenario, tightens it, and splits it where a node has several
 //! choices:

@@ -1,5 +1,7 @@
 //! The search for the least plan in a box: gaps are closed by splits, and an open gap is a spent
-//! budget.
+//! budget. This is branch and bound (Land and Doig, "An automatic method of solving discrete
+//! programming problems", 1960): the last plan is the incumbent, what it costs is the cutoff, and a
+//! leaf whose lower bound reaches it is pruned.
 //!
 //! A caller says what it may spend, and gets a record, whatever it has come to:
 //!
