@@ -6,7 +6,7 @@ use Rattle.row_arena.specs.Combining.{cleared}
 use Rattle.row_arena.specs.Rows.{entry_at, negated}
 use Rattle.scaled_simplex.specs.Derived.{AreSolved, IsDerived, row_with}
 use Rattle.scaled_simplex.specs.declared.iteration.Iteration.TheVariants.{Pivots}
-use Rattle.scaled_simplex.specs.LastTableau.{tableau_next, tableau_pivoted, tableau_after}
+use Rattle.scaled_simplex.specs.LastTableau.{tableau_next, tableau_pivoted, tableau_iterated}
 use Rattle.scaled_simplex.specs.Program.{IsProblem, Problem}
 use Rattle.scaled_simplex.specs.Run.{entering, leaving, pivoted, iteration_entering, iteration_leaving, iteration_of}
 use Rattle.scaled_simplex.specs.Tableau.{Tableau, first_tableau, weight_index}
@@ -99,7 +99,7 @@ module _ (problem : Problem) (tableau : Tableau)
     reached = record {
       pivots = suc derived.reached.pivots;
       is = ap (tableau_next problem cells) derived.reached.is
-          ∙ ap (tableau_after problem cells tableau) iteration_is
+          ∙ ap (tableau_iterated problem cells tableau) iteration_is
           ∙ ap (tableau_pivoted problem cells tableau leaves enters) done;
     };
     weightless = weightless_after;

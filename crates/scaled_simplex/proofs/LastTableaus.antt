@@ -7,7 +7,7 @@ use Rattle.row_arena.specs.Arena.{combined, row_at}
 use Rattle.scaled_simplex.specs.declared.iteration.Iteration.{Iteration}
 use Rattle.scaled_simplex.specs.declared.iteration.Iteration.TheVariants.{Ends, Pivots}
 use Rattle.scaled_simplex.specs.Board.{IsBasic}
-use Rattle.scaled_simplex.specs.LastTableau.{IsLastTableau, tableau_after, tableau_next, tableau_pivoted, tableau_after}
+use Rattle.scaled_simplex.specs.LastTableau.{IsLastTableau, tableau_after, tableau_next, tableau_pivoted, tableau_iterated}
 use Rattle.scaled_simplex.specs.Program.{IsProblem, Problem}
 use Rattle.scaled_simplex.specs.Run.{entering, is_swept, leaving, pivoted, swept, swept_after, swept_at, iteration_leaving, iteration_of}
 use Rattle.scaled_simplex.specs.Tableau.{Tableau, first_tableau}
@@ -84,8 +84,8 @@ module _ (problem : Problem) where
       sym here ∙ ap (made 0) same ∙ there
 
   turned_same : (one two : ℕ) (tableau first second : Tableau) (iteration : Iteration)
-      → tableau_after problem one tableau iteration ≡ Some first
-      → tableau_after problem two tableau iteration ≡ Some second → first ≡ second
+      → tableau_iterated problem one tableau iteration ≡ Some first
+      → tableau_iterated problem two tableau iteration ≡ Some second → first ≡ second
   turned_same one two tableau first second (Ends end row) is_first is_second = missing is_first
   turned_same one two tableau first second (Pivots leaves enters) is_first is_second =
       pivoted_same one two tableau first second leaves enters
@@ -120,7 +120,7 @@ module _ (problem : Problem) where
     next_none : (tableau : Tableau) → leaving problem tableau ≡ None
         → tableau_next problem cells (Some tableau) ≡ None
     next_none tableau none =
-        ap (λ o. tableau_after problem cells tableau (iteration_leaving problem tableau o)) none
+        ap (λ o. tableau_iterated problem cells tableau (iteration_leaving problem tableau o)) none
 
     -- a tableau that is reached was so by way of one after fewer pivots
     before : (k n : ℕ) (tableau : Tableau) → n < suc k
@@ -209,7 +209,7 @@ module _ (problem : Problem) where
 
   sound_turned : (cells : ℕ) (tableau next : Tableau) → IsSound tableau → (iteration : Iteration)
       → iteration_of problem None tableau ≡ iteration
-      → tableau_after problem cells tableau iteration ≡ Some next → IsSound next
+      → tableau_iterated problem cells tableau iteration ≡ Some next → IsSound next
   sound_turned cells tableau next sound (Ends end row) is made = missing made
   sound_turned cells tableau next sound (Pivots leaves enters) is made =
       let both = iteration_pivots problem tableau sound.lawful None leaves enters is in

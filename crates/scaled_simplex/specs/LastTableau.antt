@@ -15,14 +15,14 @@ module _ (problem : Problem) (cells : ℕ) where
   tableau_pivoted tableau leaves enters (Ok rows) =
       Some (record { rows = rows; basis = set tableau.basis leaves enters })
 
-  abbrev pub tableau_after : Tableau → Iteration → Option Tableau
-  tableau_after tableau (Ends end row) = None
-  tableau_after tableau (Pivots leaves enters) =
+  abbrev pub tableau_iterated : Tableau → Iteration → Option Tableau
+  tableau_iterated tableau (Ends end row) = None
+  tableau_iterated tableau (Pivots leaves enters) =
       tableau_pivoted tableau leaves enters (pivoted problem cells tableau leaves enters)
 
   abbrev pub tableau_next : Option Tableau → Option Tableau
   tableau_next None = None
-  tableau_next (Some tableau) = tableau_after tableau (iteration_of problem None tableau)
+  tableau_next (Some tableau) = tableau_iterated tableau (iteration_of problem None tableau)
 
   -- the tableau after so many pivots, in room for so many entries
   abbrev pub tableau_after : ℕ → Option Tableau
