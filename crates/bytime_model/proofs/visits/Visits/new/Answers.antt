@@ -23,8 +23,8 @@ visits_by_place-requires-clause-places c =
 pub returns : goal.returns
 returns c =
     let parts = parts_of c.args.s.now in
-    visits_made parts c.in_ok-grouped.field-0.closed c.args.s.now.valid
-    (c.in_ok-grouped.ensures.count ∙ ap length c.places.ensures)
-    (λ place within. c.in_ok-grouped.ensures.visits place
+    visits_made parts c.in_ok-visits_by_place.field-0.closed c.args.s.now.valid
+    (c.in_ok-visits_by_place.ensures.count ∙ ap length c.places.ensures)
+    (λ place within. c.in_ok-visits_by_place.ensures.visits place
     (subst (λ (places : List Place). place < length places) (sym c.places.ensures) within)
     ∙ ap (visits_in place) (c.items.ensures ∙ c.in_ok-stands.ensures))
