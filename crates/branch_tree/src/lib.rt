@@ -7,7 +7,7 @@
 //!     rows.add(Multiplier { row: RowName::Dep { place, period }, value: 3 })?;
 //!     let leaf = Leaf::Dual { weight: 1, rows };
 //!
-//! A tree is the list of its nodes in preorder, a split before its left and its right side:
+//! A tree is the list of its nodes in preorder, a split before its early and its late side:
 //!
 //!     let mut nodes = TreeNodes::empty(alloc);
 //!     nodes.add(TreeNode::Split { flight, node, time, cutoff: None })?;
@@ -21,7 +21,7 @@
 //! The definitions stand in `specs/`: `Leaves` (how large the numbers of a leaf may be), `Trees`
 //! (which lists are trees), `Forests` (the boxes of a tree's nodes) and `Lawful` (lawful trees on a
 //! tight box, and their bounds). What else is said of nodes is a parameter there; which bounds
-//! leaves have is defined above.
+//! leaves have is defined in `dual_leaf`.
 //!
 //! Proved: `from_nodes` makes the tree of the nodes, or gives them back, and that exactly where
 //! they aren't one tree's (`tree`, `back`, `none`). The nodes of a lawful tree are one tree's

@@ -10,8 +10,8 @@ use std::marker::Model;
 /// bound.
 #[derive(Debug, Drop)]
 pub enum TreeNode {
-    /// On the left side the flight enters the node by the period, on the right side after it or not
-    /// at all. The cutoff is what the best plan cost that was known then.
+    /// On the early side the flight enters the node by the period, on the late side after it or not
+    /// at all. The cutoff is what the best plan cost that was known then, as whoever splits says.
     Split {
         flight: u32,
         node: u16,
@@ -24,7 +24,7 @@ pub enum TreeNode {
 /// A list of nodes.
 pub type TreeNodes = Sequence<TreeNode>;
 
-/// A tree, kept as the list of its nodes in preorder: a split, its left tree, its right tree. So no
+/// A tree, kept as the list of its nodes in preorder: a split, its early tree, its late tree. So no
 /// call goes down a deep tree call by call. Contracts see that list, and know that it is one
 /// tree's.
 #[derive(Debug, Drop)]

@@ -129,7 +129,7 @@ column_at flights box flight node start =
     column_in (box flight node).window (if (box flight node).must then 1 else 0)
     (stays_from (slice_get flights flight) (box flight) node) start
 
--- the columns of the first so many indices
+-- the columns of the first so many nodes, 32 a flight
 pub record AreColumnsTo (flights : List Flight) (box : Box) (count : ℕ) (numbering : Numbering)
     : Type 0 where
   pub length : length numbering.columns ≡ count

@@ -30,7 +30,8 @@ pub fn rows_of(alloc: Global, s: &Scenario) -> Result<RowNames, OutOfMemory>
 
 /// The names of this kind that are of the flight, place or connection at the position, of which
 /// there are `part_count`. Those of all, one after the other, kind by kind, are `rows_of`. It takes
-/// 12 bytes for each name, or up to twice that, since the list grows. There are 16,384 at the most.
+/// 12 bytes for each name, or up to twice that, since the list grows. A flight has at the most
+/// 16,384 of a kind: 32 nodes, 512 periods.
 pub fn part_rows(
     alloc: Global,
     s: &Scenario,

@@ -36,7 +36,7 @@ impl Column {
         self.start + usize::from(time.saturating_sub(self.first))
     }
 
-    // That of being inside in the period.
+    // The position of being inside the node in the period.
     fn staying(&self, time: u16) -> usize
         requires { self.now.start + self.now.width + (time - self.now.first) < 2 ^ 64 }
         ensures { result ≡ self.now.start + self.now.width + (time - self.now.first) }
@@ -74,8 +74,8 @@ impl Columns {
     ghost use Rattle.time_windows.specs.Held.{IsMadeFor, box_of};
     ghost use Rattle.bytime_model.specs.Columns.{AreColumnsOf, AreColumnsTo, AreTaken, no_column, position_of};
 
-    /// Those of the scenario's flights: a position for what the tight root box leaves free. While
-    /// it runs it takes the memory of a root box.
+    /// The columns of the scenario's flights: a position for what the tight root box leaves free.
+    /// While it runs it takes the memory of a root box.
     #[tactic(auto, using(crate::proofs::NumberFacts::numbered, crate::proofs::DenseFacts::all_taken))]
     pub fn new(alloc: Global, s: &Scenario) -> Result<Columns, OutOfMemory>
         ensures numbered { IfOk result (AreColumnsOf (parts_of s.now)) }

@@ -227,7 +227,8 @@ fn add_wait_terms(
     Ok(())
 }
 
-// Both.
+// The flight's terms: for each period by which it may have arrived, and for each by which it may
+// have departed.
 fn add_flight_terms(
     terms: &mut Terms,
     s: &Scenario,

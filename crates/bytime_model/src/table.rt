@@ -18,7 +18,7 @@ pub struct Table {
     pub cost: CostRow,
 }
 
-/// Those of the scenario. While it runs it takes the memory of a root box.
+/// The table of the scenario. While it runs it takes the memory of a root box.
 pub fn table_for(alloc: Global, s: &Scenario) -> Result<Table, OutOfMemory>
     ensures { IfOk result (IsTableFor (parts_of s.now)) }
 {

@@ -12,7 +12,7 @@ use Rattle.priced_plans.specs.Values.{IsPricedValue}
 use Rattle.priced_plans.specs.Valuing.{LacksTrip}
 use Rattle.time_windows.specs.Boxes.{Box, IsClosedMust, options_of}
 use Rattle.time_windows.specs.Plans.{HasNoPlan, IsPlanIn}
-use Rattle.time_windows.specs.Tight.{IsEarlierNode, IsFirstClosed}
+use Rattle.time_windows.specs.Tight.{IsEarlierNode, IsFirstClosed, IsLive}
 use Rattle.branch_tree.specs.declared.leaf.Leaf.{Leaf}
 use Rattle.branch_tree.specs.declared.leaf.Leaf.TheVariants.{Dual, Empty, Lag, Unit as UnitLeaf}
 use Rattle.bytime_model.specs.declared.multiplier.Multiplier.{Multiplier}

@@ -24,13 +24,13 @@ pub record IsLagOf (parts : Parts) (weight : ℕ) (table : PriceTable) (leaf : L
   pub ascending : AreAscending rows
   pub priced : ArePricedBy parts rows table
 
--- in any box what the prices tell is the bound of the leaf
+-- in any live box what the prices tell is the bound of the leaf
 abbrev pub TellsAs : Parts → ℕ → PriceTable → Leaf → Type 0
 TellsAs parts weight table leaf =
     (box : Box) (bound : Bound) → IsLive box → IsPricedBound parts box weight table bound
     → IsLeafBound parts box leaf (Ok bound)
 
--- in any box in which their value at weight 0 is above 0, the leaf says that there is no plan
+-- in any live box in which their value at weight 0 is above 0, the leaf says that there is no plan
 abbrev pub Closes : Parts → PriceTable → Leaf → Type 0
 Closes parts table leaf =
     (box : Box) (value : ℤ) → IsLive box → IsPricedValue parts box 0 table value

@@ -1,4 +1,5 @@
-//! The lower bound of a leaf: what no plan of its box costs less than, by weak duality.
+//! The lower bound of a leaf: what no plan of its box costs less than; of a Dual and of a Lag leaf
+//! by weak duality.
 //!
 //! A caller makes the room once for a scenario, and asks for one leaf at a time on a tight box:
 //!
@@ -16,9 +17,9 @@
 //!
 //! The definitions stand in `specs/`: `Leaf` (the bound of a leaf, or why it has none) and `Lag`
 //! (the prices that a Lag leaf is; what these come to is said in `priced_plans`). What a Dual leaf
-//! comes to is said in `valid_cuts`; `PriceLeaf` has the leaf that prices are, and `PriceRows` the
-//! row that each is put on. The others serve the proof: `Listing`, `Options`, `UnitSums`, and
-//! `Work` (the room).
+//! comes to is said in `valid_cuts`; `PriceLeaf` has the leaf that prices are, `PriceRows` the row
+//! that each is put on, and `Trees` the bound of each leaf of a tree. The others serve the proof:
+//! `Listing`, `Options`, `UnitSums`, and `Work` (the room).
 //!
 //! Proved: `leaf_bound` gives exactly the bound of the leaf, or exactly the first fault (`bound`),
 //! and no plan in the box that keeps every rule costs less, whoever chose the multipliers

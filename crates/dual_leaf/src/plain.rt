@@ -16,8 +16,8 @@ use flow_types::{Bound, Scenario};
 use plan_rules::Loads;
 use time_windows::Boxes;
 
-/// That of an Empty leaf: no plan is in the box, since a node that must be entered is closed. The
-/// box is one of the scenario.
+/// The bound of an Empty leaf: no plan is in the box, since a node that must be entered is closed.
+/// The box is one of the scenario.
 pub fn empty_bound(s: &Scenario, boxes: &Boxes) -> Result<Bound, LeafFault>
     requires { IsMadeFor (parts_of s.now) boxes.now }
     ensures bound { IsEmptyBound (box_of boxes.now) result }
@@ -30,8 +30,8 @@ pub fn empty_bound(s: &Scenario, boxes: &Boxes) -> Result<Bound, LeafFault>
     }
 }
 
-/// That of a Unit leaf: what the one plan costs that may be in the box, or that it breaks a rule.
-/// The box, the work and the loads are of the scenario. It takes no memory.
+/// The bound of a Unit leaf: what the one plan costs that may be in the box, or that it breaks a
+/// rule. The box, the work and the loads are of the scenario. It takes no memory.
 pub fn unit_bound(
     work: &mut Work,
     loads: &mut Loads,

@@ -150,7 +150,7 @@ impl LeafWork {
     }
 }
 
-// That of a Dual leaf.
+// The bound of a Dual leaf.
 #[tactic(auto, using(crate::proofs::RoundFacts::within_near))]
 fn dual_bound(
     sums: &mut Sums,
@@ -182,7 +182,7 @@ fn dual_bound(
     }
 }
 
-// That of a Lag leaf.
+// The bound of a Lag leaf.
 fn lag_bound(
     work: &mut Work,
     prices: &mut Prices,

@@ -9,7 +9,7 @@ use delay_report::Outcome;
 pub enum Status {
     /// The plan is optimal, or the command's work is done.
     Done = 0,
-    /// No plan keeps the scenario.
+    /// No plan keeps every rule.
     Infeasible = 1,
     /// There is a gap between the plan and the bound, or no plan was found.
     OpenGap = 2,

@@ -22,7 +22,7 @@ pub enum Limit {
     Nodes,
     /// How many pivots each of its runs may make.
     Pivots,
-    /// How many cells each of its runs may fill.
+    /// How many entries the tableau of each run may have.
     Cells,
     /// How many rounds of prices each of its boxes may have.
     Rounds,

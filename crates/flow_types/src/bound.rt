@@ -2,12 +2,12 @@
 
 use crate::place::CapKind;
 
-/// A lower bound on the cost of every plan that keeps the rules.
+/// A lower bound on what the plans of a set cost that keep every rule: of all plans, or of a box.
 #[derive(Clone, Copy, Debug, PartialEq, Eq)]
 pub enum Bound {
-    /// No plan keeps the rules. It is above every number.
+    /// None is in the set. It is above every number.
     NoPlan,
-    /// No plan that keeps the rules costs less.
+    /// None of them costs less.
     AtLeast(i128),
 }
 

@@ -112,7 +112,7 @@ impl Rounds {
     }
 }
 
-// Plays them, from prices of 0.
+// Plays the rounds, from prices of 0.
 fn play_rounds(
     s: &Scenario,
     boxes: &Boxes,

@@ -20,7 +20,7 @@ impl FewNumbers {
     ghost use Rattle.std.specs.Prelude.{◌≡◌, ◌↔◌, ◌<◌, ◌≤◌, ℕ, MatchOption, None};
     ghost use Rattle.number_set.specs.Few.{IsAdded, IsIn, IsTaken, bit_in};
 
-    /// Those below the count.
+    /// The numbers below the count.
     pub fn below(count: u32) -> FewNumbers
         requires { count ≤ 2048 }
         ensures { (k : ℕ) → IsIn result k ↔ k < count }

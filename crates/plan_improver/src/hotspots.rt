@@ -5,7 +5,7 @@ ghost use Rattle.plan_rules.specs.Loads.{IsMadeFor};
 use flow_types::{CapKind, Flight, OutOfMemory, Scenario, Stop, has_kind, place_at};
 use plan_rules::Loads;
 
-/// A capacity in one period.
+/// A capacity that is full in one period.
 #[derive(Clone, Copy, Debug, PartialEq, Eq)]
 pub struct Hotspot {
     pub kind: CapKind,

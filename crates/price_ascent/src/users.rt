@@ -13,7 +13,7 @@ pub struct Users {
 }
 
 impl Users {
-    /// Those of the scenario.
+    /// The users of the scenario.
     pub fn new(alloc: Global, s: &Scenario) -> Result<Users, OutOfMemory> {
         let places = s.places().len();
         let mut users = Users {

@@ -75,7 +75,7 @@ pub fn rounded_up(value: i128, weight: u64) -> i128
     }
 }
 
-// Of a value above 0.
+// A value above 0, rounded up.
 fn above(size: u128, weight: u64) -> i128
     requires size { size < 2 ^ 126 }
     requires weight { 0 < weight }
@@ -84,7 +84,7 @@ fn above(size: u128, weight: u64) -> i128
     ((size + (u128::from(weight) - 1)) / u128::from(weight)) as i128
 }
 
-// Of one that isn't.
+// A value of 0 or less, rounded up.
 fn below(size: u128, weight: u64) -> i128
     requires size { size < 2 ^ 126 }
     requires weight { 0 < weight }

@@ -35,7 +35,7 @@ pub fn usage_of(s: &Scenario, loads: &Loads, key: PriceKey) -> Usage
     loads_usage(s, loads, key)
 }
 
-// That which the loads count.
+// How often the loads say that it is used, and how often it may be.
 fn loads_usage(s: &Scenario, loads: &Loads, key: PriceKey) -> Usage
     requires loads { IsMadeFor (parts_of s.now) loads.now }
     requires key { IsKeyFor (parts_of s.now) key }

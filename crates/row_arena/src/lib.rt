@@ -26,8 +26,7 @@
 //! exactly the row where there is room (`ok`, `room`), and where there is none tells that (`wide`).
 //! `negate` turns the signs of one row, and `entry` finds what a row has in a column. Each row is
 //! valid (`valid` of `row`), and there are never more entries than cells (`room` of `live`). For
-//! crates above, the modules `AboveFacts`, `ClearedFacts` and `DifferenceRows` of `proofs/` have
-//! lemmas on rows.
+//! crates above, the modules `AboveFacts` and `RowFacts` of `proofs/` have lemmas on rows.
 //!
 //! Memory: 16 bytes for each entry, in a block of its own for each row, and once 32 bytes for each
 //! entry of the longest difference and 4 for each column that it filled, or up to twice that, since

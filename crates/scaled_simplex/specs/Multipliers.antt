@@ -43,7 +43,7 @@ pub record AreRefutation (problem : Problem) (outcome : Outcome) : Type 0 where
       (neg_ℤ (value_in problem outcome))
   pub positive : pos 0 <ℤ neg_ℤ (value_in problem outcome)
 
--- what a run tells
+-- a run's end is justified: by a bound, and after Infeasible by a refutation
 pub record IsJustified (problem : Problem) (outcome : Outcome) : Type 0 where
   pub bound : is_infeasible outcome.end ≡ false → AreBound problem outcome
   pub refutation : is_infeasible outcome.end ≡ true → AreRefutation problem outcome

@@ -1,4 +1,4 @@
-//! What comes next in a run.
+//! Finds the next iteration of a run.
 ghost use Rattle.std.specs.Prelude.{◌≡◌, ◌≤◌, ◌<◌, ◌^◌, ◌-ℤ◌, ◌*ℤ◌, int_lt, pos, nat_abs};
 ghost use Rattle.row_arena.specs.Rows.{most_entry};
 ghost use Rattle.scaled_simplex.specs.BoardOf.{IsBoard, tableau_of};

@@ -145,7 +145,7 @@ impl Program {
         self.columns() + self.rows()
     }
 
-    /// That of the weight of the cost.
+    /// The index of the weight of the cost.
     pub fn weight_index(&self) -> u32
         ensures { result ≡ weight_index self.now }
     {

@@ -219,7 +219,7 @@ impl<'a> Run<'a> {
     /// The point of the last tableau, which keeps the program and costs the value. A column that a
     /// row stands for has that row's right side divided by its entry there, every other column 0.
     /// It is given over the least common multiple of the columns' denominators in lowest terms; or,
-    /// where that passes `MOST_ENTRY`, it is ending for how many first columns it does. It takes 16
+    /// where that passes `MOST_ENTRY`, it is told for how many first columns it does. It takes 16
     /// bytes for each column, and for each the time of a greatest common divisor.
     #[tactic(auto, using(crate::proofs::LastPoints::ran_worth))]
     pub fn point(&self, alloc: Global) -> Result<Fractions, OutOfMemory>

@@ -25,7 +25,7 @@ at_nodes P accesses none each f n =
 node_place : (k : ℕ) → (k / 32) * 32 + k % 32 ≡ k
 node_place k = omega arith
 
--- the node of a index
+-- the node of an index
 pub node_of_index : (accesses : List Access) (k : ℕ)
     → access_at accesses (k / 32) (k % 32) ≡ get_or accesses k closed
 node_of_index accesses k =

@@ -35,7 +35,7 @@ noted held accesses log index before now is =
     (ap (λ (a : Access). set (set accesses index now) index a) is
     ∙ set_back accesses index now before)
 
--- sound indices, and sound nodes
+-- sound accesses, and sound nodes
 pub accesses_sound : (accesses : List Access) → AreSound accesses → All IsSoundAccess accesses
 accesses_sound accesses sound k d within =
     rw (get_or_default accesses k d closed within, ← node_of_index accesses k)

@@ -11,7 +11,7 @@ use Rattle.time_windows.specs.Path.{above_of}
 abbrev pub IsSoundAccess : Access → Type 0
 IsSoundAccess access = IsSound access.window
 
--- a change of one of so many indices
+-- a change of one of so many accesses
 abbrev pub IsChange : ℕ → Change → Type 0
 IsChange count Descent = Unit {0}
 IsChange count (Was index access) = (index < count) × IsSoundAccess access

@@ -25,7 +25,8 @@
 //!     trail.up();
 //!
 //! The definitions stand in `specs/`: `Boxes` (a box, the root box, and what it is for a trip or a
-//! plan to be in one), `Tight` (what a tight box is), `Splits` (the sides of a split), `Groups`
+//! plan to be in one), `Plans` (the plans in a box that keep every rule, and bounds over them),
+//! `Tight` (what a tight box is), `Splits` (the sides of a split), `Groups`
 //! (lists of items in one block), `Turns` with `Ends` (the connections of each flight), `Held`
 //! (what `Boxes` holds) and `Path` (a path of boxes, and the log that keeps it). `Steps` and
 //! `Narrowing` serve the proof of `tighten`, and `Trail` that of the trail.

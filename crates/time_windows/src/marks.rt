@@ -31,7 +31,7 @@ pub fn is_closed_must(access: Access) -> bool
     access.must && access.window.is_none()
 }
 
-/// Whether there is such a node.
+/// Whether a node that must be entered is closed.
 pub fn has_closed_must(accesses: &[Access]) -> bool
     ensures { IsTrue result ↔ Any IsClosedMust accesses.now }
 {

@@ -5,6 +5,7 @@
 pub enum Tight {
     /// No node that must be entered is closed.
     Live,
-    /// The first such node, by its flight and its number: there is no plan in the box.
+    /// The first node that must be entered and is closed, by its flight and its number: there is no
+    /// plan in the box.
     Empty(u32, u16),
 }

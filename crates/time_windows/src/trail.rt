@@ -28,7 +28,7 @@ pub enum Side {
 enum Change {
     // To a side of a split: the changes after it lead from the box above.
     Descent,
-    // What the index's access was.
+    // What the access at the index was.
     Was { index: u32, access: Access },
 }
 
@@ -188,7 +188,7 @@ fn note_changes(
     Ok(())
 }
 
-// Notes the index's access, and what it was where it was another one.
+// Notes the access at the index, and what it was where that differs.
 fn note_change(
     accesses: &mut Vec<Access>,
     log: &mut Vec<Change>,

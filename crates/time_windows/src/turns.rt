@@ -57,7 +57,7 @@ impl Turns {
         })
     }
 
-    /// Those that the flight has at this end of its trip.
+    /// The connections that the flight has at this end of its trip.
     pub fn of_flight(&self, flight: u32, end: End) -> &[Turn]
         ensures { result.now ≡ get_or (turns_of end self.now).closed flight [] }
     {

@@ -24,9 +24,9 @@
 //! tells more; and else it is split.
 //!
 //! The definitions stand in `specs/`: `Records` (what is handed back), `Nodes` (what is known of
-//! each node), `Trees` (what a reader of its tree needs) and `Budgets` (a number of nodes that is
-//! enough).
-//! `Paths`, `Drafts`, `Visits`, `Seen`, `Rooms` and `Searching` serve the proofs.
+//! each node) and `Budgets` (a number of nodes that is enough); what a reader of its tree needs is
+//! `Trees` of `dual_leaf`. `Paths`, `Drafts`, `Visits`, `Seen`, `Rooms` and `Searching` serve the
+//! proofs.
 //!
 //! Proved: `search` hands back a record (`record`), and no plan in the box that keeps every rule
 //! costs less than its bound (`sound`). Whoever made it, the bound of a record is one

@@ -42,7 +42,7 @@ const PERIODS_A_LOOK: u64 = 8;
 pub enum Source {
     Rounds,
     Ascent,
-    /// Those of a climb, with no weight on costs.
+    /// The prices of a climb, with no weight on costs.
     Closing,
 }
 

@@ -48,7 +48,7 @@ pub fn rooms_for(alloc: Global, s: &Scenario) -> Result<Rooms, OutOfMemory>
     })
 }
 
-// Those for plans.
+// The rooms for plans.
 fn plan_rooms(alloc: Global, s: &Scenario) -> Result<PlanRooms, OutOfMemory>
     ensures { IfOk result (ArePlanRoomsFor (parts_of s.now)) }
 {
@@ -58,7 +58,7 @@ fn plan_rooms(alloc: Global, s: &Scenario) -> Result<PlanRooms, OutOfMemory>
     })
 }
 
-// Those for prices.
+// The rooms for prices.
 fn price_rooms(alloc: Global, s: &Scenario) -> Result<PriceRooms, OutOfMemory>
     ensures { IfOk result (ArePriceRoomsFor (parts_of s.now)) }
 {

@@ -105,7 +105,7 @@ fn offer_found(
     }
 }
 
-// Looks for such a plan in the present box, and offers it.
+// Looks for a plan of the present box that costs less than its greedy plan, and offers it.
 fn improve(
     alloc: Global,
     s: &Scenario,
@@ -238,7 +238,7 @@ fn find_by_prices(
     }
 }
 
-// Looks for such a plan in the present box, and offers it.
+// Looks for a plan of the present box to which prices lead, and offers it.
 fn climb_on(
     alloc: Global,
     s: &Scenario,

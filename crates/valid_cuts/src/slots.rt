@@ -6,13 +6,13 @@ use std::alloc::Global;
 use std::marker::Model;
 
 /// A number for each position: 20 bytes each. Contracts see it as the list of numbers. What was set
-/// in an earlier round counts as 0.
+/// under an earlier stamp counts as 0.
 #[derive(Debug, Drop)]
 pub struct Slots {
     values: Vec<i128>,
-    // The round in which each was set.
-    rounds: Vec<u32>,
-    round: u32,
+    // The stamp under which each was set.
+    stamps: Vec<u32>,
+    stamp: u32,
 }
 
 impl Model for Slots {
@@ -21,10 +21,10 @@ impl Model for Slots {
 
     ghost Value = { List ℤ };
 
-    ghost view = { λ s. values_in s.round s.rounds.items s.values.items };
+    ghost view = { λ s. values_in s.stamp s.stamps.items s.values.items };
 
-    ghost invariant = { λ s. (length s.rounds.items ≡ length s.values.items)
-        × All (λ round. round ≤ s.round) s.rounds.items };
+    ghost invariant = { λ s. (length s.stamps.items ≡ length s.values.items)
+        × All (λ stamp. stamp ≤ s.stamp) s.stamps.items };
 }
 
 impl Slots {
@@ -36,8 +36,8 @@ impl Slots {
     {
         Ok(Slots {
             values: zeros(alloc, positions)?,
-            rounds: no_rounds(alloc, positions)?,
-            round: 0,
+            stamps: no_stamps(alloc, positions)?,
+            stamp: 0,
         })
     }
 
@@ -46,7 +46,7 @@ impl Slots {
     pub fn clear(&mut self)
         ensures { self.new ≡ replicate (length self.old) (pos 0) }
     {
-        self.round = next_round(&mut self.rounds, self.round);
+        self.stamp = next_stamp(&mut self.stamps, self.stamp);
     }
 
     /// The number at a position.
@@ -55,7 +55,7 @@ impl Slots {
         requires { position < length self.now }
         ensures { result ≡ slice_index_or self.now position (pos 0) }
     {
-        read(&self.values, &self.rounds, self.round, position)
+        read(&self.values, &self.stamps, self.stamp, position)
     }
 
     /// Sets the number at a position.
@@ -64,7 +64,7 @@ impl Slots {
         requires { position < length self.old }
         ensures { self.new ≡ slice_set self.old position value }
     {
-        self.rounds[position] = self.round;
+        self.stamps[position] = self.stamp;
         self.values[position] = value;
     }
 }
@@ -76,46 +76,46 @@ fn zeros(alloc: Global, positions: usize) -> Result<Vec<i128>, OutOfMemory>
     Ok(vec![in alloc; 0; positions]?)
 }
 
-// As many rounds.
-fn no_rounds(alloc: Global, positions: usize) -> Result<Vec<u32>, OutOfMemory>
-    ensures { IfOk result (λ rounds. rounds.items ≡ replicate positions 0) }
+// A stamp of 0 for each position.
+fn no_stamps(alloc: Global, positions: usize) -> Result<Vec<u32>, OutOfMemory>
+    ensures { IfOk result (λ stamps. stamps.items ≡ replicate positions 0) }
 {
     Ok(vec![in alloc; 0; positions]?)
 }
 
-// The value at a position, if it was set in this round.
-fn read(values: &Vec<i128>, rounds: &Vec<u32>, round: u32, position: usize) -> i128
+// The value at a position, if it was set under this stamp.
+fn read(values: &Vec<i128>, stamps: &Vec<u32>, stamp: u32, position: usize) -> i128
     requires values { position < length values.now.items }
-    requires rounds { position < length rounds.now.items }
-    ensures { result ≡ (if slice_index rounds.now.items position == round
+    requires stamps { position < length stamps.now.items }
+    ensures { result ≡ (if slice_index stamps.now.items position == stamp
         then slice_index_or values.now.items position (pos 0) else pos 0) }
 {
-    if rounds[position] == round {
+    if stamps[position] == stamp {
         values[position]
     } else {
         0
     }
 }
 
-// A round after those of all positions, which are set to 0 where there is none.
-fn next_round(rounds: &mut Vec<u32>, round: u32) -> u32
-    requires { All (λ earlier. earlier ≤ round) rounds.old.items }
-    ensures later { All (λ earlier. earlier < result) rounds.new.items }
-    ensures length { length rounds.new.items ≡ length rounds.old.items }
+// A stamp above those of all positions, which are set to 0 where there is none.
+fn next_stamp(stamps: &mut Vec<u32>, stamp: u32) -> u32
+    requires { All (λ earlier. earlier ≤ stamp) stamps.old.items }
+    ensures later { All (λ earlier. earlier < result) stamps.new.items }
+    ensures length { length stamps.new.items ≡ length stamps.old.items }
 {
-    if round < u32::MAX {
-        return round + 1;
+    if stamp < u32::MAX {
+        return stamp + 1;
     }
-    clear_all(rounds);
+    clear_all(stamps);
     1
 }
 
 // Sets each to 0.
-fn clear_all(rounds: &mut [u32])
-    ensures length { length rounds.new ≡ length rounds.old }
-    ensures clear { All (λ round. round ≡ 0) rounds.new }
+fn clear_all(stamps: &mut [u32])
+    ensures length { length stamps.new ≡ length stamps.old }
+    ensures clear { All (λ stamp. stamp ≡ 0) stamps.new }
 {
-    for round in rounds.iter_mut() {
-        *round = 0;
+    for stamp in stamps.iter_mut() {
+        *stamp = 0;
     }
 }
