@@ -1,4 +1,4 @@
--- Numbers that count only in the stamp in which they were set.
+-- Numbers that count only under the stamp under which they were set.
 use Rattle.std.specs.Prelude.{ℕ, ◌==◌, List, [], ◌∷◌, if◌then◌else◌, ℤ, pos}
 
 abbrev pub values_in : ℕ → List ℕ → List ℤ → List ℤ

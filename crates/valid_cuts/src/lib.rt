@@ -27,7 +27,7 @@
 //! The value is worked out in sums: a constant, and a factor for each variable that is free. Each
 //! term of the cost row and of the rows is looked up in the box, and lands in the constant, at a
 //! position, or nowhere. How far the factors are below 0 is kept up to date, so the value is there
-//! at once; and each position knows the stamp that set it, so nothing is cleared.
+//! at once; and each position knows the stamp under which it was set, so nothing is cleared.
 //!
 //! Memory: `Sums` takes 20 bytes for each position (0.4 GB for the largest days); `dual_value` and
 //! the empty pool take none. Time: the periods by which flights may be late or wait, and for each
