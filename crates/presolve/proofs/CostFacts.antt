@@ -141,7 +141,7 @@ module _ (factor : Var → ℤ) where
       (entry_past column columns from)
       ∙ entries_at columns (from + 1))
 
-  entries_size : (columns : List Var) (from : ℕ)
+  pub entries_size : (columns : List Var) (from : ℕ)
       → sum_by unsigned_abs (map factor columns) ≡ size_of (entries_from factor from columns)
   entries_size [] from = refl
   entries_size (column ∷ columns) from =
@@ -162,7 +162,7 @@ module _ (factor : Var → ℤ) where
           let one = sum_by-cons (λ (e : Entry). unsigned_abs e.value) entry [] in
           omega (arith, one)
 
-total_map : (f : ℤ → ℤ) (g : Var → ℤ) (xs : List Var)
+pub total_map : (f : ℤ → ℤ) (g : Var → ℤ) (xs : List Var)
     → total f (map g xs) ≡ total (λ x. f (g x)) xs
 total_map f g [] = refl
 total_map f g (x ∷ xs) = ap (λ n. f (g x) +ℤ n) (total_map f g xs)

@@ -12,6 +12,7 @@ pub mod NamesFacts
 pub mod NumberFacts
 pub mod PointFacts
 pub mod PointLaws
+pub mod ProblemFacts
 pub mod ProgramFacts
 pub mod PromiseFacts
 pub mod RaiseFacts

@@ -1,5 +1,5 @@
 -- The program of a box, from its columns, costs and rows.
-use Rattle.std.proofs.Common.{◌≡◌, ℕ, zero, suc, ◌+◌, ◌-◌, ◌^◌, ◌<◌, ◌≤◌, Bool, List, [], ◌∷◌, ◌++◌, length, map, get_or, sum_by, All, int_lt, ℤ, pos, unsigned_abs, nat_abs, refl, sym, ap, ◌∙◌, subst, arith}
+use Rattle.std.proofs.Common.{◌≡◌, ℕ, zero, suc, ◌+◌, ◌^◌, ◌<◌, ◌≤◌, Bool, List, [], ◌∷◌, ◌++◌, length, map, get_or, sum_by, All, int_lt, ℤ, pos, unsigned_abs, nat_abs, refl, sym, ap, ◌∙◌, subst, arith}
 use Rattle.std.proofs.lemmas.Int.{ints}
 use Rattle.std.proofs.lemmas.List.{append_assoc, get_or-map, length-append, length-map}
 use Rattle.std.proofs.lemmas.List.Sums.{sum_by-cons}

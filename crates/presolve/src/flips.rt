@@ -74,7 +74,7 @@ fn flipped(flips: &[bool], entry: Entry) -> Entry
     }
 }
 
-/// Turns the factors of flipped columns.
+/// Negates the factors of flipped columns.
 pub fn flip(flips: &[bool], entries: &mut [Entry])
     requires within { All (λ entry. entry.column < length flips.now) entries.old }
     requires small { All (λ entry. unsigned_abs entry.value < 2 ^ 62) entries.old }

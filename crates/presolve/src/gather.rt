@@ -82,7 +82,7 @@ impl Gathering {
         Ok(())
     }
 
-    /// Turns the factors of flipped columns.
+    /// Negates the factors of flipped columns.
     pub fn flip(&mut self, flips: &[bool])
         requires within { All (λ entry. entry.column < length flips.now) self.old.entries }
         requires small { All (λ entry. unsigned_abs entry.value < 2 ^ 62) self.old.entries }

@@ -1,12 +1,20 @@
-//! What the points of a box's program are.
+//! What the program of a box is, and what its points are.
 ghost use Rattle.std.specs.Prelude.{ℕ, ℤ, ◌≡◌};
 ghost use Rattle.flow_types.specs.Valid.{IsScenario};
 ghost use Rattle.flow_types.specs.declared.parts.Parts.{Parts};
 ghost use Rattle.presolve.specs.Points.{IsRelaxationPoint, relaxation_cost, value_of_point};
 ghost use Rattle.presolve.specs.Relaxed.{program_of};
 ghost use Rattle.scaled_simplex.specs.Points.{IsProgramPoint, point_cost};
+ghost use Rattle.scaled_simplex.specs.Program.{IsProblem};
 ghost use Rattle.time_windows.specs.Boxes.{Box, IsBoxOf};
 ghost use Rattle.time_windows.specs.Tight.{IsTight};
+
+/// The program of a tight box is one that a run can be made of: its numbers are near enough to 0,
+/// and its columns and rows few enough. This holds whether or not there is room for its tableau.
+pub fn programs_are_problems()
+    ensures { (parts : Parts) (box : Box) → IsScenario parts → IsBoxOf parts box
+        → IsTight parts box → IsProblem (program_of parts box) }
+{}
 
 /// A point of a tight box's program is a point of the relaxation, and costs as much.
 pub fn program_points_are_points()

@@ -33,13 +33,14 @@
 //!
 //! Proved: `program` and `program_within` give exactly the definition's program, columns, names and
 //! marks (`presolved`), and `program_within` gives none only where its first tableau has more
-//! entries than there is room for (`wide`). Whatever multipliers of it there are, of the run or of
-//! anyone else, the Dual leaf that `leaf_of` makes of them has a value of no less than theirs (in
-//! `presolved`, `promise`). `leaf_of` gives exactly the definition's rows. Whatever point of a
-//! tight box's program there is, of the run or of anyone else: with flipped columns turned back,
-//! and what the box fixes as the box leaves it, it is a point of the relaxation, so it keeps all
-//! rows of the by-time program (`program_points_are_points`, `point`), and it costs as much
-//! (`cost`).
+//! entries than there is room for (`wide`). With or without room its numbers are near enough to 0,
+//! and its columns and rows few enough, for a run (`programs_are_problems`). Whatever multipliers
+//! of it there are, of the run or of anyone else, the Dual leaf that `leaf_of` makes of them has a
+//! value of no less than theirs (in `presolved`, `promise`). `leaf_of` gives exactly the
+//! definition's rows. Whatever point of a tight box's program there is, of the run or of anyone
+//! else: with flipped columns turned back, and what the box fixes as the box leaves it, it is a
+//! point of the relaxation, so it keeps all rows of the by-time program
+//! (`program_points_are_points`, `point`), and it costs as much (`cost`).
 //!
 //! Memory: 4 bytes for each variable that the tight root box leaves free, 25 for each column, and
 //! what the program takes: 16 bytes for each factor and some 40 for each row; lists take up to
@@ -63,7 +64,7 @@ mod presolved;
 mod rows;
 mod tally;
 
-pub use laws::program_points_are_points;
+pub use laws::{program_points_are_points, programs_are_problems};
 pub use leaf::leaf_of;
 pub use presolved::{Flags, Presolved, program, program_within};
 pub use tally::Refused;

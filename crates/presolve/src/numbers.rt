@@ -51,7 +51,7 @@ impl<'a> Numbers<'a> {
     ghost use Rattle.time_windows.specs.Held.{IsMadeFor, box_of};
     ghost use Rattle.time_windows.specs.Tight.{IsTight};
 
-    /// Those of the box's columns, by these positions: 4 bytes for each position.
+    /// The numbers of the box's columns, by these positions: 4 bytes for each position.
     #[tactic(auto, using(crate::proofs::NumberFacts::few_numbers, crate::proofs::NumberFacts::columns_own, crate::proofs::NumberFacts::numbered_for))]
     pub fn new(
         alloc: Global,

@@ -50,7 +50,7 @@ struct Base<'a> {
     costs: Costs,
 }
 
-// That of these columns.
+// The program of these columns.
 fn base_of<'a>(
     alloc: Global,
     s: &Scenario,

@@ -4,7 +4,7 @@ use Rattle.std.proofs.lemmas.Int.{ints}
 use Rattle.flow_types.specs.declared.parts.Parts.{Parts}
 use Rattle.flow_types.specs.Valid.{IsScenario}
 use Rattle.scaled_simplex.specs.Multipliers.{AreMultipliers, IsJustified, multipliers_of}
-use Rattle.scaled_simplex.specs.Program.{IsProblem, Problem}
+use Rattle.scaled_simplex.specs.Program.{Problem}
 use Rattle.scaled_simplex.specs.Run.{Outcome, is_infeasible, value_in, weight_in}
 use Rattle.scaled_simplex.proofs.RunLaw.{run_tells}
 use Rattle.time_windows.specs.Boxes.{Box, IsBoxOf}
@@ -14,6 +14,7 @@ use Rattle.branch_tree.specs.declared.leaf.Leaf.TheVariants.{Dual}
 use Rattle.valid_cuts.specs.Dual.{IsDualValue}
 use Rattle.presolve.specs.Leaf.{IsBelowLeaf, leaf_rows}
 use Rattle.presolve.specs.Relaxed.{kept_of, program_of}
+use Rattle.presolve.proofs.ProblemFacts.{problem}
 use Rattle.presolve.proofs.PromiseFacts.{promised}
 use Rattle.relaxed_bound.specs.declared.limits.Limits.{Limits}
 use Rattle.relaxed_bound.specs.Relaxed.{TellsNoLess, relaxed_leaf, run_of}
@@ -49,6 +50,14 @@ module _ (parts : Parts) (box : Box) (outcome : Outcome)
       let low = promise weight multipliers worth are reached.0 reached.1 in
       omega (arith, ints, low, reached.2)
 
+  refuted : (value : ℤ)
+      → IsDualValue parts box weight (leaf_rows (kept_of parts box) multipliers) value
+      → is_infeasible outcome.end ≡ true → neg_ℤ (value_in program outcome) ≤ℤ value
+  refuted value least is =
+      no_less value (neg_ℤ (value_in program outcome)) least
+      (subst (λ w. AreMultipliers program w multipliers (neg_ℤ (value_in program outcome)))
+      (sym (weight_told ∙ (told.refutation is).weight)) (told.refutation is).multipliers)
+
   tells : (value : ℤ)
       → IsDualValue parts box weight (leaf_rows (kept_of parts box) multipliers) value
       → TellsNoLess program outcome weight value
@@ -57,9 +66,12 @@ module _ (parts : Parts) (box : Box) (outcome : Outcome)
     bound = λ isnt. no_less value (value_in program outcome) least
         (subst (λ w. AreMultipliers program w multipliers (value_in program outcome))
         (sym weight_told) (told.bound isnt).multipliers);
-    refutation = λ is. no_less value (neg_ℤ (value_in program outcome)) least
-        (subst (λ w. AreMultipliers program w multipliers (neg_ℤ (value_in program outcome)))
-        (sym (weight_told ∙ (told.refutation is).weight)) (told.refutation is).multipliers);
+    refutation = refuted value least;
+    weightless = λ is. ap unsigned_abs (told.refutation is).weight;
+    above = λ is.
+        let low = refuted value least is in
+        let positive = (told.refutation is).positive in
+        omega (arith, ints, low, positive);
   }
 
 module _ (parts : Parts) (box : Box) (limits : Limits) (cutoff : Option ℤ) (weight : ℕ)
@@ -77,21 +89,21 @@ module _ (parts : Parts) (box : Box) (limits : Limits) (cutoff : Option ℤ) (we
   rows_same = cc
 
   own_tells : (value : ℤ) → IsScenario parts → IsBoxOf parts box → IsTight parts box
-      → IsProblem (program_of parts box) → IsDualValue parts box weight rows value
+      → IsDualValue parts box weight rows value
       → TellsNoLess (program_of parts box) outcome weight value
-  own_tells value scenario made tight valid least =
+  own_tells value scenario made tight least =
       subst (λ w. TellsNoLess (program_of parts box) outcome w value) (sym weight_same)
       (tells parts box outcome
-      (run_tells (program_of parts box) valid limits.pivots limits.cells cutoff)
+      (run_tells (program_of parts box) (problem parts box scenario made tight) limits.pivots
+      limits.cells cutoff)
       (promised parts box scenario made tight) value
       (subst (λ w. IsDualValue parts box w own_rows value) weight_same
       (subst (λ rs. IsDualValue parts box weight rs value) rows_same least)))
 
 pub leaf_tells : (parts : Parts) (box : Box) (limits : Limits) (cutoff : Option ℤ) (weight : ℕ)
     (rows : List Multiplier) (value : ℤ) → IsScenario parts → IsBoxOf parts box
-    → IsTight parts box → IsProblem (program_of parts box)
-    → Dual weight rows ≡ relaxed_leaf parts box limits cutoff
+    → IsTight parts box → Dual weight rows ≡ relaxed_leaf parts box limits cutoff
     → IsDualValue parts box weight rows value
     → TellsNoLess (program_of parts box) (run_of parts box limits cutoff) weight value
-leaf_tells parts box limits cutoff weight rows value scenario made tight valid is least =
-    own_tells parts box limits cutoff weight rows is value scenario made tight valid least
+leaf_tells parts box limits cutoff weight rows value scenario made tight is least =
+    own_tells parts box limits cutoff weight rows is value scenario made tight least

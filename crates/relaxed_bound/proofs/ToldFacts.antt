@@ -96,7 +96,7 @@ told_range leaf names problem cutoff outcome weights are leaf_is =
       weight_to = near_below weights.weight are.near;
       values = rows_near names weights.rows are.rows_near;
       few =
-          let most = told_few problem outcome are.valid are.told in
+          let most = told_few problem outcome are.valid are.justified in
           let count = ap length are.rows in
           omega (arith, rows_few names weights.rows, most, count);
     }
@@ -160,7 +160,7 @@ run_leaf leaf names problem cutoff outcome weights are leaf_is = record {
       ∙ ap (λ w. told_leaf names w weights.rows) are.weight
       ∙ ap (λ rows. told_leaf names (weight_in problem outcome) rows) are.rows;
   range = told_range leaf names problem cutoff outcome weights are leaf_is;
-  told = are.told;
+  justified = are.justified;
   worth = are.worth;
 }
 
@@ -183,7 +183,7 @@ module _ (parts : Parts) (box : Box) (presolved : Presolved)
       ∙ ap (λ names. ran_leaf names (program_of parts box)) whole.kept
 
   told : IsJustified (program_of parts box) (ended (program_of parts box))
-  told = subst (λ p. IsJustified p (ended p)) whole.program run.told
+  told = subst (λ p. IsJustified p (ended p)) whole.program run.justified
 
   promise : IsBelowLeaf parts box (program_of parts box) (kept_of parts box)
   promise =

@@ -48,10 +48,14 @@ HasBound parts box UnitLeaf = ⊥
 HasBound parts box (Dual weight rows) = SaysSome parts box weight rows
 HasBound parts box (Lag weight rows) = ⊥
 
--- A leaf has the run's weight, and comes to no less than the value of the run's multipliers. Those
--- of a run that ended Infeasible have no weight, and their value is above 0.
+-- A leaf has the run's weight, and comes to no less than the value of the run's multipliers: that of
+-- the last tableau, or after Infeasible the right side, with its sign turned, of the row that no
+-- column can repair. After Infeasible the weight is 0 and the leaf comes to more than 0, so it says
+-- by itself that no plan in the box keeps every rule.
 pub record TellsNoLess (problem : Problem) (outcome : Outcome) (weight : ℕ) (value : ℤ)
     : Type 0 where
   pub weight_is : pos weight ≡ weight_in problem outcome
   pub bound : is_infeasible outcome.end ≡ false → value_in problem outcome ≤ℤ value
   pub refutation : is_infeasible outcome.end ≡ true → neg_ℤ (value_in problem outcome) ≤ℤ value
+  pub weightless : is_infeasible outcome.end ≡ true → weight ≡ 0
+  pub above : is_infeasible outcome.end ≡ true → pos 1 ≤ℤ value

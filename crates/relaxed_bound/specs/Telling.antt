@@ -26,7 +26,7 @@ pub record AreWeights (problem : Problem) (cutoff : Option ℤ) (outcome : Outco
   pub near : nat_abs weights.weight ≤ most_entry
   pub rows_near : All (λ multiplier. nat_abs multiplier ≤ most_entry) weights.rows
   pub valid : IsProblem problem
-  pub told : IsJustified problem outcome
+  pub justified : IsJustified problem outcome
   pub worth : IsWorthOf problem cutoff outcome
 
 -- what a run of a program gives, whose first rows have these names
@@ -34,5 +34,5 @@ pub record IsRunLeaf (problem : Problem) (names : List RowName) (cutoff : Option
     (outcome : Outcome) (leaf : Leaf) : Type 0 where
   pub is : leaf ≡ told_leaf names (weight_in problem outcome) (multipliers_of problem outcome)
   pub range : IsInRange leaf
-  pub told : IsJustified problem outcome
+  pub justified : IsJustified problem outcome
   pub worth : IsWorthOf problem cutoff outcome

@@ -8,7 +8,6 @@ ghost use Rattle.flow_types.specs.declared.parts.Parts.{Parts};
 ghost use Rattle.presolve.specs.Relaxed.{program_of};
 ghost use Rattle.relaxed_bound.specs.declared.limits.Limits.{Limits};
 ghost use Rattle.relaxed_bound.specs.Relaxed.{TellsNoLess, relaxed_leaf, run_of};
-ghost use Rattle.scaled_simplex.specs.Program.{IsProblem};
 ghost use Rattle.time_windows.specs.Boxes.{Box, IsBoxOf};
 ghost use Rattle.time_windows.specs.Tight.{IsTight};
 ghost use Rattle.valid_cuts.specs.Dual.{IsDualValue};
@@ -23,15 +22,15 @@ pub fn run_leaves_are_in_order()
         → Dual weight rows ≡ relaxed_leaf parts box limits cutoff → ArePositive rows }
 {}
 
-/// In a tight box whose program has numbers that are near enough, as those of every `Program` are,
-/// the leaf of a run comes to no less than what the run's multipliers tell, by the same weight:
-/// where it didn't end Infeasible, the value of its last tableau; and else, without a weight, what
-/// the row comes to that no column can repair.
+/// In a tight box the leaf of a run comes to no less than what the run's multipliers tell, by the
+/// same weight: where it didn't end Infeasible, the value of its last tableau; and else the right
+/// side, with its sign turned, of the row that no column can repair. After Infeasible the leaf's
+/// weight is 0 and it comes to more than 0, so it says by itself that no plan in the box keeps every
+/// rule.
 pub fn run_leaves_tell_no_less()
     ensures { (parts : Parts) (box : Box) (limits : Limits) (cutoff : Option ℤ) (weight : ℕ)
         (rows : List Multiplier) (value : ℤ) → IsScenario parts → IsBoxOf parts box
-        → IsTight parts box → IsProblem (program_of parts box)
-        → Dual weight rows ≡ relaxed_leaf parts box limits cutoff
+        → IsTight parts box → Dual weight rows ≡ relaxed_leaf parts box limits cutoff
         → IsDualValue parts box weight rows value
         → TellsNoLess (program_of parts box) (run_of parts box limits cutoff) weight value }
 {}

@@ -28,8 +28,9 @@
 //! less, or the run was given up (`licensed`). The point is exactly that of the run; there is none
 //! only where the run didn't end Optimal, or where the point's denominator is too far from 0
 //! (`told`). It is one of the relaxation (`point`). The leaf names each row once, in the order of
-//! rows, and none of its multipliers is 0 (`run_leaves_are_in_order`); and what it comes to is no
-//! less than what the run's multipliers tell (`run_leaves_tell_no_less`).
+//! rows, and none of its multipliers is 0 (`run_leaves_are_in_order`). What it comes to is no less
+//! than what the run's multipliers tell, by the run's weight; and after a run that ended Infeasible
+//! it has the weight 0 and comes to more than 0 (`run_leaves_tell_no_less`).
 //!
 //! Memory: the program and the run's tableau, 16 bytes for each entry of the one and 20 of the
 //! other, or some times that, since lists grow and rows keep blocks that are up to four times too
