@@ -48,8 +48,8 @@ HasBound parts box UnitLeaf = ⊥
 HasBound parts box (Dual weight rows) = SaysSome parts box weight rows
 HasBound parts box (Lag weight rows) = ⊥
 
--- A leaf has the run's weight, and comes to no less than the value of the run's multipliers: that of
--- the last tableau, or after Infeasible the right side, with its sign turned, of the row that no
+-- A leaf has the run's weight, and comes to no less than the value of the run's multipliers: that
+-- of the last tableau, or after Infeasible the right side, with its sign turned, of the row that no
 -- column can repair. After Infeasible the weight is 0 and the leaf comes to more than 0, so it says
 -- by itself that no plan in the box keeps every rule.
 pub record TellsNoLess (problem : Problem) (outcome : Outcome) (weight : ℕ) (value : ℤ)

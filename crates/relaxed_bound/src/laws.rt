@@ -25,8 +25,8 @@ pub fn run_leaves_are_in_order()
 /// In a tight box the leaf of a run comes to no less than what the run's multipliers tell, by the
 /// same weight: where it didn't end Infeasible, the value of its last tableau; and else the right
 /// side, with its sign turned, of the row that no column can repair. After Infeasible the leaf's
-/// weight is 0 and it comes to more than 0, so it says by itself that no plan in the box keeps every
-/// rule.
+/// weight is 0 and it comes to more than 0, so it says by itself that no plan in the box keeps
+/// every rule.
 pub fn run_leaves_tell_no_less()
     ensures { (parts : Parts) (box : Box) (limits : Limits) (cutoff : Option ℤ) (weight : ℕ)
         (rows : List Multiplier) (value : ℤ) → IsScenario parts → IsBoxOf parts box
