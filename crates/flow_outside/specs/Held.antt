@@ -22,13 +22,13 @@ abbrev pub HasName : Option Held → List ℕ → Type 0
 HasName None name = ⊤
 HasName (Some held) name = IsSome (get held name)
 
--- n of the bytes, from that place on, were put in front of a buffer, which is else as before
-pub record ReadsPart (bytes : List ℕ) (place n : ℕ) (before now : List ℕ) : Type 0 where
+-- n of the bytes, from that offset on, were put in front of a buffer, which is else as before
+pub record ReadsPart (bytes : List ℕ) (offset n : ℕ) (before now : List ℕ) : Type 0 where
   -- so many are left there
-  pub left : n ≤ length bytes - place
+  pub left : n ≤ length bytes - offset
   -- one at least, where one is left and the buffer has room
-  pub some : place < length bytes → 0 < length before → 0 < n
-  pub front : now ≡ take n (drop place bytes) ++ drop n before
+  pub some : offset < length bytes → 0 < length before → 0 < n
+  pub front : now ≡ take n (drop offset bytes) ++ drop n before
 
 -- what is held once these bytes are stored under the name
 abbrev pub stored : Option Held → List ℕ → List ℕ → Option Held

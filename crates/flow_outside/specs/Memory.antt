@@ -80,10 +80,10 @@ abbrev pub size_told : FilesView → List ℕ → Option ℕ
 size_told files name =
     if is_named files.calls then None else option_map length (get files.held name)
 
--- how many bytes `read_at` reads from a place into so much room, if it reads
+-- how many bytes `read_at` reads from an offset into so much room, if it reads
 abbrev pub count_read : FilesView → List ℕ → ℕ → ℕ → Option ℕ
-count_read files name place room =
-    if is_named files.calls then None else option_map (λ bytes. min (length bytes - place) room)
+count_read files name offset room =
+    if is_named files.calls then None else option_map (λ bytes. min (length bytes - offset) room)
     (get files.held name)
 
 -- after a call of `store` with this answer

@@ -38,14 +38,14 @@ pub trait Files {
             → Rose (seen self.old).faults (seen self.new).faults) }
         ensures kept { AreKept (seen self.old) (seen self.new) };
 
-    /// Puts bytes of what the name holds, from a place on (0 is the first byte), in front of `into`
-    /// and answers how many: at least one where one is left and `into` isn't empty. `Failed` comes
-    /// as for `size`; nothing is then said of `into`. After an answer `faults` stays.
-    fn read_at(&mut self, name: &str, place: u64, into: &mut [u8]) -> Result<usize, Failed>
+    /// Puts bytes of what the name holds, from an offset on (0 is the first byte), in front of
+    /// `into` and answers how many: at least one where one is left and `into` isn't empty. `Failed`
+    /// comes as for `size`; nothing is then said of `into`. After an answer `faults` stays.
+    fn read_at(&mut self, name: &str, offset: u64, into: &mut [u8]) -> Result<usize, Failed>
         ensures within { IfOk result (λ n. n ≤ length into.old) }
         ensures part { IfOk result (λ n.
             IfTold (seen self.old).held name.now
-            (λ bytes. ReadsPart bytes place n into.old into.new)) }
+            (λ bytes. ReadsPart bytes offset n into.old into.new)) }
         ensures present { OnOk result (HasName (seen self.old).held name.now) }
         ensures unfailed { OnOk result ((seen self.new).faults ≡ (seen self.old).faults) }
         ensures failed { OnErr result

@@ -68,12 +68,12 @@ fn file_len<R: rt::Files>(rt: &R, name: &str) -> io::Result<u64> {
     Ok(metadata.len())
 }
 
-/// One read of a file, from a place on.
-fn read_part<R: rt::Files>(rt: &R, name: &str, place: u64, into: &mut [u8]) -> io::Result<usize>
+/// One read of a file, from an offset on.
+fn read_part<R: rt::Files>(rt: &R, name: &str, offset: u64, into: &mut [u8]) -> io::Result<usize>
     ensures within { IfOk result (λ n. n ≤ length into.old) }
 {
     let mut file = fs::open(rt, name)?;
-    file.seek(SeekFrom::Start(place))?;
+    file.seek(SeekFrom::Start(offset))?;
     file.read(into)
 }
 
@@ -113,11 +113,11 @@ impl<R: rt::Files> Files for HostFiles<R> {
         counted(file_len(&self.rt, name), &mut self.faults)
     }
 
-    fn read_at(&mut self, name: &str, place: u64, into: &mut [u8]) -> Result<usize, Failed>
+    fn read_at(&mut self, name: &str, offset: u64, into: &mut [u8]) -> Result<usize, Failed>
         ensures within { IfOk result (λ n. n ≤ length into.old) }
         ensures after { self.new ≡ record self.old { faults = count_after result self.old.faults } }
     {
-        counted(read_part(&self.rt, name, place, into), &mut self.faults)
+        counted(read_part(&self.rt, name, offset, into), &mut self.faults)
     }
 
     fn store(&mut self, name: &str, bytes: &[u8]) -> Result<(), StoreFault>

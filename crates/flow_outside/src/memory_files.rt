@@ -108,13 +108,13 @@ impl MemoryFiles {
     }
 }
 
-/// Copies bytes from a place on to the front of a buffer, as many as there are and as it has room
+/// Copies bytes from an offset on to the front of a buffer, as many as there are and as it has room
 /// for.
-fn copy_part(bytes: &[u8], place: u64, into: &mut [u8]) -> usize
-    ensures count { result ≡ min (length bytes.now - place) (length into.old) }
-    ensures part { ReadsPart bytes.now place result into.old into.new }
+fn copy_part(bytes: &[u8], offset: u64, into: &mut [u8]) -> usize
+    ensures count { result ≡ min (length bytes.now - offset) (length into.old) }
+    ensures part { ReadsPart bytes.now offset result into.old into.new }
 {
-    let start = (bytes.len() as u64).min(place) as usize;
+    let start = (bytes.len() as u64).min(offset) as usize;
     let rest = &bytes[start..];
     let count = rest.len().min(into.len());
     into[..count].copy_from_slice(&rest[..count]);
@@ -141,15 +141,15 @@ impl Files for MemoryFiles {
         Ok(bytes.len() as u64)
     }
 
-    fn read_at(&mut self, name: &str, place: u64, into: &mut [u8]) -> Result<usize, Failed>
-        ensures answer { result_ok result ≡ count_read self.old name.now place (length into.old) }
+    fn read_at(&mut self, name: &str, offset: u64, into: &mut [u8]) -> Result<usize, Failed>
+        ensures answer { result_ok result ≡ count_read self.old name.now offset (length into.old) }
         ensures part { IfOk result (λ n. IfTold (Some self.old.held) name.now
-            (λ bytes. ReadsPart bytes place n into.old into.new)) }
+            (λ bytes. ReadsPart bytes offset n into.old into.new)) }
         ensures after { self.new ≡ after_read self.old }
     {
         self.begin_read()?;
         let bytes = self.get(name).ok_or(Failed)?;
-        Ok(copy_part(bytes, place, into))
+        Ok(copy_part(bytes, offset, into))
     }
 
     fn store(&mut self, name: &str, bytes: &[u8]) -> Result<(), StoreFault>

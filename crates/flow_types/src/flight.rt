@@ -57,7 +57,7 @@ pub type Flights = Sequence<Flight>;
 /// Costs or credits by delay.
 pub type Values = Sequence<i64>;
 
-/// A named table of costs or credits: the value at a place is that of as many periods of delay.
+/// A named table of costs or credits: the value at a position is that of as many periods of delay.
 #[derive(Debug, Drop)]
 pub struct CostTable {
     pub name: Name,

@@ -17,9 +17,10 @@ use Rattle.plan_rules.specs.FirstBroken.{arrival_in, departure_in}
 use Rattle.plan_rules.specs.declared.broken.Broken.{Broken}
 use Rattle.plan_rules.specs.declared.broken.Broken.TheVariants.{Trips, Start, Window, NoLeg, Least, Ending, Turn, Departures, Arrivals, Sectors}
 
--- the stop at a place in the trip of the flight of that number
+-- the stop at a position in the trip of the flight of that number
 abbrev pub stop_at : List (List Stop) → ℕ → ℕ → Option Stop
-stop_at plan number place = option_and_then (λ trip. slice_get trip place) (slice_get plan number)
+stop_at plan number position =
+    option_and_then (λ trip. slice_get trip position) (slice_get plan number)
 
 -- a fact of the flight and that stop, which are there, and of the next stop too
 abbrev pub HasStop : Parts → List (List Stop) → ℕ → ℕ → (Flight → Stop → Type 0) → Type 0
