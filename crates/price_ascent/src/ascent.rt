@@ -210,7 +210,7 @@ impl Ascent {
         ensures same { self.new.best ≡ self.old.best }
         ensures made { IsAscentRoomFor (parts_of s.now) self.new }
     {
-        if !is_below(self.plan_cost, below.map(weighted)) {
+        if !is_below(self.plan_cost, below.map(weighted_cost)) {
             return Ok(None);
         }
         let plan = least_trips(alloc, &mut self.trips.work, s, boxes, &self.tables.planned)?;
