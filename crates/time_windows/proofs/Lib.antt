@@ -18,3 +18,4 @@ pub mod PlanFacts
 pub mod LawFacts
 pub mod MadeFacts
 pub mod PathFacts
+pub mod PartFacts

@@ -7,11 +7,11 @@ use Rattle.time_windows.specs.Held.{Held, IsMadeFor, box_of}
 use Rattle.time_windows.specs.Tight.{IsTight}
 use Rattle.tree_search.specs.declared.draft.RecordDraft.{RecordDraft}
 use Rattle.tree_search.specs.declared.found.Budget.{Budget}
-use Rattle.tree_search.specs.declared.walk.Step.{Step}
+use Rattle.branch_tree.specs.declared.walk.Step.{Step}
 use Rattle.tree_search.specs.Drafts.{Completes}
 use Rattle.tree_search.specs.Searching.{IsSearching}
 use Rattle.tree_search.specs.Visits.{IsVisited}
-use Rattle.tree_search.specs.Paths.{Path, top_box, top_of}
+use Rattle.branch_tree.specs.Paths.{Path, top_box, top_of}
 use Rattle.tree_search.proofs.VisitFacts.{first_best, first_complete, first_reached, visited_best, visited_first, visited_same, visited_tried}
 
 module _ (parts : Parts) (budget : Budget) (held : Held) (old new : RecordDraft)

@@ -84,7 +84,8 @@ module _ (parts : Parts) (budget : Budget) (top : Box) where
         (sym (append_assoc nodes (node ∷ []) more))
         (λ leads. completes more_plans (length plans ∷ more_counts) (bound ∷ more_bounds)
         (node ∷ more)
-        (join (IsAtIn (plans ++ more_plans) all_counts all_bounds) (length nodes) more here leads)))))
+        (join (IsAtIn (plans ++ more_plans) all_counts all_bounds) (length nodes) more here
+        leads)))))
       where
         all_counts : List ℕ
         all_counts = counts ++ length plans ∷ more_counts

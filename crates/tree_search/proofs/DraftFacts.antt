@@ -32,7 +32,8 @@ pub reached_below : (cutoff : Option ℤ) (cost : ℤ) (bound : Bound)
     → is_reached cutoff (AtLeast cost) ≡ false → is_reached cutoff bound ≡ true
     → is_reached (Some cost) bound ≡ true
 reached_below cutoff cost NoPlan lower reached = refl
-reached_below None cost (AtLeast least) lower reached = absurd (let e : false ≡ true = reached in cc)
+reached_below None cost (AtLeast least) lower reached =
+    absurd (let e : false ≡ true = reached in cc)
 reached_below (Some cutoff) cost (AtLeast least) lower reached =
     let less = unreached_is cost cutoff lower in
     let past = less_isnt least cutoff (by (int_lt least cutoff) reached) in
@@ -135,7 +136,8 @@ module _ (parts : Parts) (top : Box) (old new : RecordDraft) where
       subst (λ o. is_reached o (AtLeast (price parts plan)) ≡ true) (sym kept.best)
       (own_reached (price parts plan))
   offered_reached plan (inr left) =
-      subst (λ (d : RecordDraft). is_reached d.best (AtLeast (price parts plan)) ≡ true) (sym left.same)
+      subst (λ (d : RecordDraft). is_reached d.best (AtLeast (price parts plan)) ≡ true)
+      (sym left.same)
       left.dearer
 
   -- and all that was reached

@@ -24,7 +24,7 @@ use Rattle.tree_search.specs.Nodes.{IsNodeAt, IsNodeOf, cutoff_after}
 use Rattle.tree_search.specs.Records.{IsClosed, IsSearchRecord}
 use Rattle.tree_search.specs.Searching.{IsSearched}
 use Rattle.tree_search.proofs.BoundFacts.{near_least}
-use Rattle.tree_search.proofs.PartFacts.{in_within}
+use Rattle.time_windows.proofs.PartFacts.{in_within}
 use Rattle.tree_search.proofs.ReachFacts.{Reaches, bound_closed, last_allowed, reaches_from, reaches_least}
 use Rattle.tree_search.proofs.SoundFacts.{searched_bounds}
 
@@ -97,7 +97,8 @@ module _ (parts : Parts) (root top : Box) (budget : Budget) (draft : RecordDraft
 
         same : handed ≡ found
         same =
-            ap (λ (ps : List (List (List Stop))). made_of ps draft.nodes draft.counts draft.bounds []
+            ap (λ (ps : List (List (List Stop))). made_of ps draft.nodes draft.counts draft.bounds
+            []
             (least_of draft.bounds)) (sym plans)
             ∙ ap (λ (ns : List TreeNode). made_of found.plans ns draft.counts draft.bounds []
             (least_of draft.bounds)) (sym tree)

@@ -12,7 +12,7 @@ use Rattle.tree_search.specs.declared.draft.RecordDraft.{RecordDraft}
 use Rattle.tree_search.specs.declared.found.Budget.{Budget}
 use Rattle.tree_search.specs.Drafts.{IsOffered, IsTried}
 use Rattle.tree_search.specs.Searching.{IsSearching, IsStepped}
-use Rattle.tree_search.specs.Paths.{Path, top_box}
+use Rattle.branch_tree.specs.Paths.{Path, top_box}
 use Rattle.tree_search.proofs.CompleteFacts.{same_complete}
 use Rattle.tree_search.proofs.DraftFacts.{offered_best, offered_draft, offered_still, reached_below}
 use Rattle.tree_search.proofs.VisitFacts.{offered_tree}
@@ -68,7 +68,8 @@ found_in_box parts box start (Some plan) cheaper =
     record { feasible = cheaper.feasible; inside = cheaper.inside }
 
 -- a step after a plan is offered, which writes no node down, is one from before
-pub stepped_from : (parts : Parts) (budget : Budget) (path : Path) (old now : RecordDraft) (next : Path)
+pub stepped_from : (parts : Parts) (budget : Budget) (path : Path) (old now : RecordDraft)
+    (next : Path)
     (new : RecordDraft) (more : Bool) → now.nodes ≡ old.nodes
     → IsStepped parts budget path now next new more → IsStepped parts budget path old next new more
 stepped_from parts budget path old now next new true same stepped = record {

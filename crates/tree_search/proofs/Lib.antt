@@ -8,7 +8,6 @@ pub mod FoundFacts
 pub mod GreedyFacts
 pub mod ImproveFacts
 pub mod OptionFacts
-pub mod PartFacts
 pub mod PriceFacts
 pub mod ProductFacts
 pub mod ReachFacts
@@ -18,6 +17,5 @@ pub mod SeenFacts
 pub mod SoundFacts
 pub mod SplitFacts
 pub mod VisitFacts
-pub mod PathFacts
 pub mod WorkedRecord
 pub mod WorkedRecords

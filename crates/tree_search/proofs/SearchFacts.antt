@@ -14,18 +14,18 @@ use Rattle.branch_tree.specs.declared.tree.TreeNode.{TreeNode}
 use Rattle.branch_tree.specs.declared.tree.TreeNode.TheVariants.{Leaf, Split}
 use Rattle.tree_search.specs.declared.draft.RecordDraft.{RecordDraft}
 use Rattle.tree_search.specs.declared.found.Budget.{Budget}
-use Rattle.tree_search.specs.declared.walk.Branch.{Branch}
-use Rattle.tree_search.specs.declared.walk.Step.{Step}
-use Rattle.tree_search.specs.declared.walk.Step.TheVariants.{Early}
+use Rattle.branch_tree.specs.declared.walk.Branch.{Branch}
+use Rattle.branch_tree.specs.declared.walk.Step.{Step}
+use Rattle.branch_tree.specs.declared.walk.Step.TheVariants.{Early}
 use Rattle.tree_search.specs.Drafts.{Completes, IsDraft, IsNoted}
 use Rattle.tree_search.specs.Nodes.{IsLawfulWith}
 use Rattle.tree_search.specs.Searching.{IsArrived, IsAtNext, IsGoneOn, IsLeft, IsSearched, IsSearching, planned_in}
 use Rattle.tree_search.specs.Seen.{IsLeafSeen, IsSplitSeen}
 use Rattle.tree_search.specs.Visits.{IsVisited}
-use Rattle.tree_search.specs.Paths.{ArePartsOf, ArePending, IsNext, IsNextOr, IsOver, IsPartOf, Path, top_box}
+use Rattle.branch_tree.specs.Paths.{ArePartsOf, ArePending, IsNext, IsNextOr, IsOver, IsPartOf, Path, top_box}
 use Rattle.tree_search.proofs.CompleteFacts.{all_complete, leaf_complete, split_complete}
 use Rattle.tree_search.proofs.DraftFacts.{noted_best, noted_draft, noted_still}
-use Rattle.tree_search.proofs.PartFacts.{in_early}
+use Rattle.time_windows.proofs.PartFacts.{in_early}
 use Rattle.tree_search.proofs.VisitFacts.{visited_best, visited_complete, visited_draft, visited_same, visited_still, visited_tried}
 
 module _ (parts : Parts) (budget : Budget) (path : Path) (old new : RecordDraft)
@@ -223,7 +223,8 @@ visited_on parts budget path before old new top valid next visited =
       tried = visited_tried parts (box_of path.present) old new valid visited;
     }
 
-pub left_leaf : (parts : Parts) (budget : Budget) (path next : Path) (old new : RecordDraft) (more on : Bool)
+pub left_leaf : (parts : Parts) (budget : Budget) (path next : Path) (old new : RecordDraft)
+    (more on : Bool)
     (leaf : LeafKind) (bound : Bound) → IsArrived parts budget path old
     → (planned_in old path + 2 ≤ budget.nodes → more ≡ true)
     → IsLeafSeen parts budget old.best more (box_of path.present) leaf bound
@@ -234,7 +235,8 @@ left_leaf parts budget path next old new more true leaf bound arrived room seen 
 left_leaf parts budget path next old new more false leaf bound arrived room seen noted is =
     leaf_over parts budget path old new arrived more room leaf bound seen noted is
 
-pub gone_on : (parts : Parts) (budget : Budget) (path : Path) (before old new : RecordDraft) (top : Box)
+pub gone_on : (parts : Parts) (budget : Budget) (path : Path) (before old new : RecordDraft)
+    (top : Box)
     → IsScenario parts → IsAtNext parts budget before top path old
     → IsVisited parts (box_of path.present) old new → IsGoneOn parts budget before top path new
 gone_on parts budget path before old new top valid next visited = record {

@@ -23,7 +23,7 @@ use Rattle.flow_types.specs.Bounds.{IsNearBound}
 use Rattle.relaxed_bound.specs.Licence.{IsLicensed, IsUnreached}
 use Rattle.relaxed_bound.specs.Relaxed.{HasBound, relaxed_leaf}
 use Rattle.tree_search.specs.declared.found.Budget.{Budget}
-use Rattle.tree_search.specs.declared.walk.Branch.{Branch}
+use Rattle.branch_tree.specs.declared.walk.Branch.{Branch}
 use Rattle.tree_search.specs.Nodes.{HasChoice, IsLeafKind, IsOpenLeaf}
 use Rattle.tree_search.specs.Seen.{IsBranchOf, IsLeafSeen, IsSplitSeen, may_split}
 use Rattle.tree_search.proofs.OptionFacts.{each_some}
@@ -68,7 +68,8 @@ pub reached_down : (cutoff : Option ℤ) (a b : Bound) → IsAtMost a b
 reached_down cutoff a NoPlan le below = absurd (let e : true ≡ false = below in cc)
 reached_down cutoff NoPlan (AtLeast y) le below = absurd le
 reached_down None (AtLeast x) (AtLeast y) le below = refl
-reached_down (Some c) (AtLeast x) (AtLeast y) le below = by (int_lt y c) refl (int_lt x c) refl below
+reached_down (Some c) (AtLeast x) (AtLeast y) le below =
+    by (int_lt y c) refl (int_lt x c) refl below
   where
     by : (b : Bool) → int_lt y c ≡ b → (d : Bool) → int_lt x c ≡ d → not b ≡ false
         → not d ≡ false

@@ -97,7 +97,8 @@ leaving latest = record { window = Some (record { lo = 0; hi = latest }); must =
 
 abbrev choices : Box
 choices flight node =
-    if node == 0 then (if flight == 0 then leaving 1 else (if flight == 1 then leaving 2 else closed))
+    if node == 0
+    then (if flight == 0 then leaving 1 else (if flight == 1 then leaving 2 else closed))
     else closed
 
 six_options : options_in two choices ≡ 6

@@ -6,4 +6,3 @@ pub mod Rooms
 pub mod Searching
 pub mod Seen
 pub mod Visits
-pub mod Paths

@@ -10,7 +10,7 @@ use Rattle.tree_search.specs.declared.draft.RecordDraft.{RecordDraft}
 use Rattle.tree_search.specs.declared.found.Budget.{Budget}
 use Rattle.tree_search.specs.Drafts.{AreReached, Completes, IsBest, IsDraft, IsTried}
 use Rattle.tree_search.specs.Nodes.{IsNodeAt}
-use Rattle.tree_search.specs.Paths.{ArePartsOf, ArePending, AreSteps, IsPartOf, Path, top_box, waiting_in}
+use Rattle.branch_tree.specs.Paths.{ArePartsOf, ArePending, AreSteps, IsPartOf, Path, top_box, waiting_in}
 
 -- how many nodes there will be at the least: those that are there, the present box and those that
 -- wait

@@ -10,7 +10,7 @@ use Rattle.flow_types.specs.Bounds.{IsNearBound, is_reached}
 use Rattle.tree_search.specs.declared.found.Budget.{Budget}
 use Rattle.tree_search.specs.declared.seeing.Seen.{Seen}
 use Rattle.tree_search.specs.declared.seeing.Seen.TheVariants.{Leaf, Split}
-use Rattle.tree_search.specs.declared.walk.Branch.{Branch}
+use Rattle.branch_tree.specs.declared.walk.Branch.{Branch}
 use Rattle.tree_search.specs.Nodes.{IsLeafNode, IsSplitNode}
 
 -- a branch of the box

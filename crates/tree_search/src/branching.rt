@@ -7,7 +7,7 @@ ghost use Rattle.time_windows.specs.Held.{IsMadeFor, box_of};
 ghost use Rattle.time_windows.specs.Splits.{IsBranching};
 ghost use Rattle.tree_search.specs.Seen.{IsBranchOf, IsChoiceIn};
 
-use crate::walk::Branch;
+use branch_tree::Branch;
 use bytime_model::Var;
 use flow_types::{MOST_NODES, Scenario};
 use price_ascent::{Ascent, Spread};

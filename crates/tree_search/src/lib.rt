@@ -25,8 +25,7 @@
 //!
 //! The definitions stand in `specs/`: `Records` (what is handed back), `Nodes` (what is known of
 //! each node) and `Budgets` (a number of nodes that is enough); what a reader of its tree needs is
-//! `Trees` of `dual_leaf`. `Paths`, `Drafts`, `Visits`, `Seen`, `Rooms` and `Searching` serve the
-//! proofs.
+//! `Trees` of `dual_leaf`. `Drafts`, `Visits`, `Seen`, `Rooms` and `Searching` serve the proofs.
 //!
 //! Proved: `search` hands back a record (`record`), and no plan in the box that keeps every rule
 //! costs less than its bound (`sound`). Whoever made it, the bound of a record is one
@@ -48,7 +47,6 @@ mod pricing;
 mod rooms;
 mod searching;
 mod seeing;
-mod walk;
 
 pub use found::{Bounds, Budget, Counts, Found, Plans};
 pub use laws::{enough_nodes_close, search_records_are_bounds, search_trees_have_the_bound};

@@ -2,7 +2,7 @@ use Rattle.std.proofs.Common.{◌≡◌, ◌-◌, length}
 use Rattle.flow_types.specs.Scenario.{parts_of}
 use Rattle.tree_search.specs.Rooms.{AreRoomsFor}
 use Rattle.tree_search.specs.Searching.{IsSearching}
-use Rattle.tree_search.specs.Paths.{top_box}
+use Rattle.branch_tree.specs.Paths.{top_box}
 use Rattle.tree_search.proofs.searching.run.Given as goal
 
 abbrev pub invariant-loop : goal.invariant-loop

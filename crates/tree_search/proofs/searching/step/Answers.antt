@@ -3,7 +3,7 @@ use Rattle.flow_types.specs.Scenario.{parts_of}
 use Rattle.time_windows.specs.Held.{Held, box_of}
 use Rattle.tree_search.specs.Searching.{IsLeft}
 use Rattle.tree_search.specs.Visits.{IsVisited}
-use Rattle.tree_search.specs.Paths.{top_box}
+use Rattle.branch_tree.specs.Paths.{top_box}
 use Rattle.tree_search.proofs.SearchFacts.{gone_on}
 use Rattle.tree_search.proofs.searching.step.Goals as goal
 

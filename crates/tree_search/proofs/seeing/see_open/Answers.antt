@@ -26,7 +26,8 @@ returns-in_ok-leaf-2-clause-seen c =
     (box_of c.args.boxes.now) c.args.branch c.requires.made.inside c.requires.live
     c.requires.branch c.bound_of-run.result c.price-priced.result.bound c.price-priced.ensures.most
     c.in_ok-leaf.field-0.leaf c.in_ok-leaf-2.leaf (weight_from c.price-priced.result.source)
-    (prices_from c.price-priced.new.rooms c.price-priced.result.source) c.in_ok-leaf-2.ensures.prices
+    (prices_from c.price-priced.new.rooms c.price-priced.result.source)
+    c.in_ok-leaf-2.ensures.prices
     (c.in_ok-leaf-2.ensures.bound (box_of c.args.boxes.now) c.price-priced.result.bound
     c.requires.live c.price-priced.ensures.told.bound)
     c.in_ok-leaf.ensures.leaf c.bound_of-run.ensures.bound

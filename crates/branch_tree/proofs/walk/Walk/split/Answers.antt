@@ -1,6 +1,6 @@
 use Rattle.std.proofs.Common.{arith}
-use Rattle.tree_search.proofs.PathFacts.{few_waiting}
-use Rattle.tree_search.proofs.walk.Walk.split.Goals as goal
+use Rattle.branch_tree.proofs.PathFacts.{few_waiting}
+use Rattle.branch_tree.proofs.walk.Walk.split.Goals as goal
 
 pub overflow_add-self : goal.overflow_add-self
 overflow_add-self c =

@@ -74,7 +74,8 @@ late_narrower flight node time box = record {
 
 pub in_within : (inner outer : Box) (plan : List (List Stop)) → IsWithin inner outer
     → IsInBox inner plan → IsInBox outer plan
-in_within inner outer plan within = in_narrower inner outer plan (within_narrower inner outer within)
+in_within inner outer plan within =
+    in_narrower inner outer plan (within_narrower inner outer within)
 
 pub in_early : (flight node time : ℕ) (box inner : Box) (plan : List (List Stop))
     → IsWithin inner (early_branch flight node time box) → IsInBox inner plan → IsInBox box plan

@@ -1,5 +1,5 @@
--- The path of a search down its tree: the present box, those above it, and the steps that led down,
--- the last first. The late side of each step to an early one waits.
+-- The path down a tree: the present box, those above it, and the steps that led down, the last first.
+-- The late side of each step to an early one waits.
 use Rattle.std.specs.Prelude.{◌≡◌, ℕ, suc, ◌<◌, Bool, false, true, List, [], ◌∷◌, length}
 use Rattle.flow_types.specs.declared.parts.Parts.{Parts}
 use Rattle.flow_types.specs.declared.plan.Stop.{Stop}
@@ -7,9 +7,9 @@ use Rattle.time_windows.specs.Boxes.{Box, IsInBox}
 use Rattle.time_windows.specs.Held.{Held, IsMadeFor, box_of}
 use Rattle.time_windows.specs.Splits.{IsBranching, late_branch}
 use Rattle.time_windows.specs.Tight.{IsTight, IsTightened}
-use Rattle.tree_search.specs.declared.walk.Branch.{Branch}
-use Rattle.tree_search.specs.declared.walk.Step.{Step}
-use Rattle.tree_search.specs.declared.walk.Step.TheVariants.{Early, Late}
+use Rattle.branch_tree.specs.declared.walk.Branch.{Branch}
+use Rattle.branch_tree.specs.declared.walk.Step.{Step}
+use Rattle.branch_tree.specs.declared.walk.Step.TheVariants.{Early, Late}
 
 pub record Path : Type 0 where
   pub present : Held

@@ -1,4 +1,4 @@
--- The path of a search: a step more, a step back, and the next box that waits.
+-- The path down a tree: a step more, a step back, and the next box that waits.
 use Rattle.std.proofs.Common.{◌≡◌, ◌≢◌, ◌≤◌, List, [], ◌∷◌, ◌++◌, length, reverse, refl, sym, ◌∙◌, ap, subst, arith}
 use Rattle.std.proofs.lemmas.List.{length-reverse, reverse-append}
 use Rattle.flow_types.specs.declared.parts.Parts.{Parts}
@@ -6,14 +6,15 @@ use Rattle.time_windows.specs.Boxes.{Box}
 use Rattle.time_windows.specs.Held.{Held, IsMadeFor, box_of}
 use Rattle.time_windows.specs.Splits.{late_branch}
 use Rattle.time_windows.specs.Tight.{IsTightened}
-use Rattle.tree_search.proofs.PartFacts.{in_late}
-use Rattle.tree_search.specs.declared.walk.Branch.{Branch}
-use Rattle.tree_search.specs.declared.walk.Step.{Step}
-use Rattle.tree_search.specs.declared.walk.Step.TheVariants.{Early, Late}
-use Rattle.tree_search.specs.Paths.{ArePartsOf, AreSteps, ArePending, IsFork, IsNext, IsOver, Path, top_of, waiting_in}
+use Rattle.time_windows.proofs.PartFacts.{in_late}
+use Rattle.branch_tree.specs.declared.walk.Branch.{Branch}
+use Rattle.branch_tree.specs.declared.walk.Step.{Step}
+use Rattle.branch_tree.specs.declared.walk.Step.TheVariants.{Early, Late}
+use Rattle.branch_tree.specs.Paths.{ArePartsOf, AreSteps, ArePending, IsFork, IsNext, IsOver, Path, top_of, waiting_in}
 
 -- the last step comes first
-pub last_step : (steps : List Step) (step : Step) → reverse (steps ++ step ∷ []) ≡ step ∷ reverse steps
+pub last_step : (steps : List Step) (step : Step)
+    → reverse (steps ++ step ∷ []) ≡ step ∷ reverse steps
 last_step steps step = reverse-append steps (step ∷ [])
 
 few_in : (steps : List Step) → waiting_in steps ≤ length steps

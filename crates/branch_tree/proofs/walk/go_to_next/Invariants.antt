@@ -1,8 +1,8 @@
 use Rattle.std.proofs.Common.{◌≡◌, length, reverse}
 use Rattle.flow_types.specs.Scenario.{parts_of}
-use Rattle.tree_search.specs.Paths.{waiting_in}
-use Rattle.tree_search.proofs.PathFacts.{IsBack}
-use Rattle.tree_search.proofs.walk.go_to_next.Given as goal
+use Rattle.branch_tree.specs.Paths.{waiting_in}
+use Rattle.branch_tree.proofs.PathFacts.{IsBack}
+use Rattle.branch_tree.proofs.walk.go_to_next.Given as goal
 
 abbrev pub invariant-loop-step : goal.invariant-loop-step
 invariant-loop-step l = record {

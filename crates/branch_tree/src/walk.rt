@@ -1,12 +1,12 @@
-//! The path of a search down its tree.
+//! The path down a tree, box by box.
 ghost use Rattle.std.specs.Prelude.{◌≡◌, ◌∷◌, ◌<◌, ℕ, IfOk, List, MatchOption, OnOk, [], length, reverse};
 ghost use Rattle.flow_types.specs.Scenario.{parts_of};
 ghost use Rattle.time_windows.specs.Boxes.{Box};
 ghost use Rattle.time_windows.specs.Held.{IsMadeFor, box_of};
 ghost use Rattle.time_windows.specs.Splits.{late_branch};
 ghost use Rattle.time_windows.specs.Tight.{IsTightened};
-ghost use Rattle.tree_search.specs.Paths.{AreSteps, IsFork, IsNextOr, waiting_in};
-ghost use Rattle.tree_search.specs.declared.walk.Step.TheVariants.{Early, Late};
+ghost use Rattle.branch_tree.specs.Paths.{AreSteps, IsFork, IsNextOr, waiting_in};
+ghost use Rattle.branch_tree.specs.declared.walk.Step.TheVariants.{Early, Late};
 
 use flow_types::{OutOfMemory, Scenario};
 use std::alloc::Global;
@@ -30,8 +30,9 @@ pub enum Step {
     Late,
 }
 
-/// The path from the first box down to the present one: a trail, and the steps that led down. It
-/// takes what the trail takes, and 16 bytes a step.
+/// The path from the first box down to the present one: a trail, and the steps that led down. Whoever
+/// goes down a tree in preorder stands at the box of the next node. It takes what the trail takes,
+/// and 16 bytes a step.
 #[derive(Drop)]
 pub struct Walk {
     trail: Trail,
@@ -42,7 +43,7 @@ pub struct Walk {
 
 impl Model for Walk {
     ghost use Rattle.std.specs.Prelude.{◌≡◌, reverse};
-    ghost use Rattle.tree_search.specs.Paths.{Path, waiting_in};
+    ghost use Rattle.branch_tree.specs.Paths.{Path, waiting_in};
 
     ghost Value = { Path };
 
@@ -61,8 +62,8 @@ impl Walk {
     ghost use Rattle.time_windows.specs.Held.{IsMadeFor, box_of};
     ghost use Rattle.time_windows.specs.Splits.{early_branch};
     ghost use Rattle.time_windows.specs.Tight.{IsTightened};
-    ghost use Rattle.tree_search.specs.Paths.{AreSteps, IsFork, IsNextOr, waiting_in};
-    ghost use Rattle.tree_search.specs.declared.walk.Step.TheVariants.{Early};
+    ghost use Rattle.branch_tree.specs.Paths.{AreSteps, IsFork, IsNextOr, waiting_in};
+    ghost use Rattle.branch_tree.specs.declared.walk.Step.TheVariants.{Early};
 
     /// The path of the first box alone.
     pub fn new(alloc: Global, boxes: Boxes) -> Result<Walk, OutOfMemory>
@@ -91,7 +92,8 @@ impl Walk {
         self.waiting
     }
 
-    /// Splits the present box, and goes down to its early side; the late one waits.
+    /// Splits the present box, and goes down to its early side; the late one waits. After
+    /// `OutOfMemory` nothing is said of the path.
     pub fn split(&mut self, s: &Scenario, branch: Branch) -> Result<(), OutOfMemory>
         requires { IsFork (parts_of s.now) self.old.present branch }
         ensures above { OnOk result (self.new.above ≡ self.old.present ∷ self.old.above) }
@@ -108,7 +110,8 @@ impl Walk {
         Ok(())
     }
 
-    /// Goes up and down again, to the next box that waits. Tells whether there was one.
+    /// Goes up and down again, to the next box that waits. Tells whether there was one. After
+    /// `OutOfMemory` nothing is said of the path.
     pub fn next(&mut self, s: &Scenario) -> Result<bool, OutOfMemory>
         requires { AreSteps (parts_of s.now) self.old.above self.old.steps }
         ensures { IfOk result (IsNextOr (parts_of s.now) self.old self.new) }
