@@ -42,7 +42,8 @@ skip index position column columns past =
     by (nat_lt position (column.start + column.width + column.stays)) refl
   where
     by : (b : Bool) → nat_lt position (column.start + column.width + column.stays) ≡ b
-        → (if b then variable_in index column position else variable_at (index + 1) columns position)
+        → (if b then variable_in index column position
+        else variable_at (index + 1) columns position)
         ≡ variable_at (index + 1) columns position
     by true early =
         let lt = ltb-true position (column.start + column.width + column.stays) early in
@@ -56,7 +57,8 @@ take_it index position column columns within =
     by (nat_lt position (column.start + column.width + column.stays)) refl
   where
     by : (b : Bool) → nat_lt position (column.start + column.width + column.stays) ≡ b
-        → (if b then variable_in index column position else variable_at (index + 1) columns position)
+        → (if b then variable_in index column position
+        else variable_at (index + 1) columns position)
         ≡ variable_in index column position
     by true early = refl
     by false late =

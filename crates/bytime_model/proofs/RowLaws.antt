@@ -117,7 +117,8 @@ module _ (parts : Parts) (scenario : IsScenario parts) where
   named_once (Arr p t) is = capacity_once parts scenario kind.Arr p t
   named_once (Sector p t) is = capacity_once parts scenario kind.Sector p t
   named_once (Occupy f n t) is =
-      of_once parts scenario f (λ flight. occupy_terms f flight n t) (slice_get parts.flights f) refl
+      of_once parts scenario f (λ flight. occupy_terms f flight n t) (slice_get parts.flights f)
+      refl
       (λ flight proper. occupy_once f (length flight.nodes) flight proper.route.each_leg
       proper.route.once n t)
   named_once (Enter f n t) is =
@@ -161,8 +162,10 @@ module _ (parts : Parts) (scenario : IsScenario parts) where
       (by_there parts.flights minus_one f n t [] (All-nil (Has parts.flights)))
   row_there (Top f n) is =
       by_there parts.flights one f n (parts.day.periods - 1) [] (All-nil (Has parts.flights))
-  row_there (Dep p t) is = capacity_there parts scenario kind.Dep p t (λ other. absurd (let e : ⊥ = cc in e))
-  row_there (Arr p t) is = capacity_there parts scenario kind.Arr p t (λ other. absurd (let e : ⊥ = cc in e))
+  row_there (Dep p t) is =
+      capacity_there parts scenario kind.Dep p t (λ other. absurd (let e : ⊥ = cc in e))
+  row_there (Arr p t) is =
+      capacity_there parts scenario kind.Arr p t (λ other. absurd (let e : ⊥ = cc in e))
   row_there (Sector p t) is =
       capacity_there parts scenario kind.Sector p t (λ same.
       (and_parts (is_sector (slice_get parts.places p)) (nat_lt t parts.day.periods) is).0)
@@ -212,7 +215,8 @@ module _ (parts : Parts) (plan : List (List Stop)) (scenario : IsScenario parts)
       within_capacity parts plan scenario feasible kind.Sector p t _ (feasible.sectors p t both.0
       (ltb-true t parts.day.periods both.1))
   row_kept (Occupy f n t) is =
-      of_flight_kept parts plan scenario feasible (λ flight. occupy_terms f flight n t) f (slice_get parts.flights f) refl
+      of_flight_kept parts plan scenario feasible (λ flight. occupy_terms f flight n t) f
+      (slice_get parts.flights f) refl
       (λ flight found. let own = flown parts plan scenario feasible.trips f flight found in
       occupy_kept parts plan scenario feasible.trips f flight own.0 own.1 n t
       (inside f n t flight found is)
@@ -235,11 +239,13 @@ module _ (parts : Parts) (plan : List (List Stop)) (scenario : IsScenario parts)
       let both = and_parts (is_node (slice_get parts.flights f) n) (nat_lt 0 n
       && nat_lt t parts.day.periods) is in
       let from = ltb-true 0 n (and_parts (nat_lt 0 n) (nat_lt t parts.day.periods) both.1).0 in
-      of_flight_kept parts plan scenario feasible (λ flight. enter_terms f flight n t) f (slice_get parts.flights f) refl
+      of_flight_kept parts plan scenario feasible (λ flight. enter_terms f flight n t) f
+      (slice_get parts.flights f) refl
       (λ flight found. let own = flown parts plan scenario feasible.trips f flight found in
       enter_kept parts plan scenario feasible.trips f flight own.0 own.1 n t from)
   row_kept (Leave f n) is =
-      of_flight_kept parts plan scenario feasible (λ flight. leave_terms f flight n (parts.day.periods - 1)) f
+      of_flight_kept parts plan scenario feasible
+      (λ flight. leave_terms f flight n (parts.day.periods - 1)) f
       (slice_get parts.flights f) refl
       (λ flight found. let own = flown parts plan scenario feasible.trips f flight found in
       let within = ltb-true (n + 1) (length flight.nodes)

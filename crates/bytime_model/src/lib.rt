@@ -108,7 +108,7 @@ pub use landing::{Landing, landing_of};
 pub use left::{Left, left_of};
 pub use multiplier::{Multiplier, Multipliers};
 pub use names::{
-    NodeKind, RowKind, RowName, RowNames, part_count, row_kinds, rows_are_in_one_order,
+    NodeKind, RowKind, RowName, RowNames, name_at, part_count, row_kinds, rows_are_in_one_order,
 };
 pub use row::{Row, row_of};
 pub use rows::{has_inside, is_row};

@@ -30,8 +30,7 @@ pub fn claim_report(alloc: Global, claim: &Claim<'_>) -> Result<Vec<u8>, OutOfMe
 
 /// The text of a claim: its four lines, and, if it has a plan, a line for each trip that has a
 /// flight in the scenario, which is the claim's. It prints what the claim says; that this is so of
-/// the plan is said of `Claim::of`. It takes memory
-/// for the text and for a line.
+/// the plan is said of `Claim::of`. It takes memory for the text and for a line.
 pub fn plan_report(alloc: Global, s: &Scenario, claim: &Claim<'_>) -> Result<Vec<u8>, OutOfMemory>
     ensures { IfOk result
         (λ text. text.items ≡ claim_text claim.now.cost claim.now.bound claim.now.nodes

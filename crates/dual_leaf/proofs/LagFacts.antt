@@ -194,4 +194,5 @@ table-sound parts box weight table (Ok (AtLeast least)) valid (inr is) = λ plan
     let le = value-below parts box weight table is.value plan valid is.priced kept.feasible
     kept.inside in
     let turned = *ℤ_comm (pos weight) (plan_cost parts.tables parts.flights plan) in
-    is.answered.1.below (plan_cost parts.tables parts.flights plan) (omega (arith, ints, le, turned))
+    is.answered.1.below (plan_cost parts.tables parts.flights plan)
+    (omega (arith, ints, le, turned))

@@ -240,7 +240,8 @@ module _ (parts : Parts) (table : PriceTable) where
       subst (λ n. IsListed parts table n 0 0 rows) (sym is) listed
 
   pub kind-ends : (at : ℕ) (kind : PriceKind) (rows : List Multiplier) → kind_number kind ≡ at
-      → IsListed parts table (kind_number kind + 1) 0 0 rows → IsListed parts table (at + 1) 0 0 rows
+      → IsListed parts table (kind_number kind + 1) 0 0 rows
+      → IsListed parts table (at + 1) 0 0 rows
   kind-ends at kind rows is listed =
       subst (λ n. IsListed parts table (n + 1) 0 0 rows) is listed
 
@@ -284,7 +285,8 @@ module _ (parts : Parts) (table : PriceTable) where
     }
       where
         by : (other : PriceKey) → IsKeyFor parts other → (b : Bool) → is_key k other ≡ b
-            → set_by rows other 0 ≡ (if is_listed n r (t + 1) other then price_at table other else 0)
+            → set_by rows other 0
+            ≡ (if is_listed n r (t + 1) other then price_at table other else 0)
         by other within true at =
             let same = ap (price_at table) (key_at k other at) ∙ none in
             is.each other within ∙ both (is_listed n r t other) (is_listed n r (t + 1) other) same

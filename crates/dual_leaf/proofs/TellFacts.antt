@@ -39,7 +39,8 @@ lag-of parts weight table rows are listed = record {
   };
 }
 
-answered : (parts : Parts) (box : Box) (weight : ℕ) (table : PriceTable) (bound : Bound) → 0 < weight
+answered : (parts : Parts) (box : Box) (weight : ℕ) (table : PriceTable) (bound : Bound)
+    → 0 < weight
     → IsPricedBound parts box weight table bound → IsTableAnswer parts box weight table (Ok bound)
 answered parts box weight table NoPlan some told = inl (record { lacks = told; none = refl })
 answered parts box weight table (AtLeast least) some (value, priced, rounded) =

@@ -44,7 +44,8 @@ module _ (table : PriceTable) (free : AreFree table) where
         if_free (stop.node == 0) 0
             (summed (price_in table.inside (place_at flight stop.node)) stop.time next.time) refl
             (summed_free (price_in table.inside (place_at flight stop.node))
-            (λ t. free (key_in (Capacity cap.Sector) (place_at flight stop.node) t)) stop.time next.time),
+            (λ t. free (key_in (Capacity cap.Sector) (place_at flight stop.node) t)) stop.time
+            next.time),
         stays_free flight next rest,
       )
 
@@ -55,7 +56,8 @@ module _ (table : PriceTable) (free : AreFree table) where
       omega (
         arith,
         if_free (connection.second == number) (summed (price_in table.turns k) t periods)
-            0 (summed_free (price_in table.turns k) (λ p. free (key_in Connected k p)) t periods) refl,
+            0 (summed_free (price_in table.turns k) (λ p. free (key_in Connected k p)) t periods)
+            refl,
         paid_free periods number t (k + 1) connections,
       )
 

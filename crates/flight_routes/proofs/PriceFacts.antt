@@ -85,7 +85,8 @@ module _ (key : PriceKey) (value : ℕ) (old new : PriceTable) (is : Sets key va
       by (inl same) =
           subst (λ kind. IsPlaceIn (block_of kind old) other.row other.period
           → price_in (block_of kind new) other.row other.period
-          ≡ price_in (block_of kind old) other.row other.period) (sym same) (λ place. is.here.others other.row other.period place
+          ≡ price_in (block_of kind old) other.row other.period) (sym same)
+          (λ place. is.here.others other.row other.period place
           (λ both. absurd (differ (same_key other key same both.0 both.1)))) there
       by (inr apart) =
           ap (λ (b : Block). price_in b other.row other.period) (is.others other.kind apart)

@@ -1,5 +1,5 @@
 //! Least ways among those that end early, as far as no later one may cost as little.
-ghost use Rattle.std.specs.Prelude.{◌≡◌, ◌+◌, ◌≤◌, ◌<◌, ◌∷◌, ◌*◌, ◌^◌, ◌+ℤ◌, ℕ, IfSome, IsSome, IsTrue, List, Some, length, vec_capacity};
+ghost use Rattle.std.specs.Prelude.{◌≡◌, ◌+◌, ◌≤◌, ◌<◌, ◌∷◌, ◌*◌, ◌^◌, ◌+ℤ◌, ℕ, IfSome, IsSome, IsTrue, List, MatchOption, Some, length, vec_capacity};
 ghost use Rattle.exact_sums.specs.Leasts.{IsFirstLeast, IsLeast};
 ghost use Rattle.flow_types.specs.declared.plan.Stop.{Stop};
 ghost use Rattle.flow_types.specs.Limits.{most_nodes, most_periods};
@@ -144,7 +144,9 @@ pub fn last_end(accesses: &[Access], rates: &RateTable, last: u16) -> u32
     requires windows { AreWindows rates.now.periods (row_of accesses.now) }
     requires few { rates.now.periods ≤ most_periods }
     requires last { last < most_nodes }
-    ensures { result < most_periods }
+    ensures small { result < most_periods }
+    ensures end { MatchOption (row_of accesses.now last).window (result ≡ 0)
+        (λ window. result ≡ window.hi) }
 {
     match window_at(accesses, last) {
         None => 0,

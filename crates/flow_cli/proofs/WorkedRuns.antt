@@ -56,7 +56,8 @@ EndsOn held words text status =
 
 -- a run with this answer
 run_answers : (held : Held) (words : List (List ℕ)) (text : List ℕ) (status : Status)
-    → IsAnswer (unchanged held) (asked words) (record { text = text; status = status; records = [] })
+    → IsAnswer (unchanged held) (asked words)
+    (record { text = text; status = status; records = [] })
     → EndsOn held words text status
 run_answers held words text status of_words = inl (record {
   answer = record { text = text; status = status; records = [] };
@@ -136,7 +137,8 @@ module _ (text plan : List ℕ) (few : length text ≤ most_text_bytes)
   module _ (leave : ℕ) (read : scenario_of text ≡ Ok (two_flights leave 9 9)) where
     judged : (printed : List ℕ) (status : Status)
         → plan_of (two_flights leave 9 9) plan ≡ Ok on_time
-        → IsVerdict (two_flights leave 9 9) on_time (record { text = printed; status = status; records = [] })
+        → IsVerdict (two_flights leave 9 9) on_time
+        (record { text = printed; status = status; records = [] })
         → EndsOn files judge_words printed status
     judged printed status plan_read verdict =
         run_answers files judge_words printed status

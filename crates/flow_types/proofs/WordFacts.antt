@@ -23,21 +23,22 @@ pub not_all_digits : (bytes : List ℕ) (i : ℕ) → i < length bytes
 not_all_digits bytes i within other =
     sym (digits_are_all bytes) ∙ list_all_at is_ascii_digit bytes i 0 within other
 
--- the number that the first digits spell, and the next digit
-pub record IsNextDigit (bytes : List ℕ) (i : ℕ) : Type 0 where
-  pub small : digits_value 10 (take i bytes) < 10 ^ 17
+-- the number that the first digits spell, of which there are at most so many, and the next digit
+pub record IsNextDigit (most : ℕ) (bytes : List ℕ) (i : ℕ) : Type 0 where
+  pub small : digits_value 10 (take i bytes) < 10 ^ most
   pub to : get_or bytes i 0 ≤ 57
   pub digits : AllDigits 10 (take (i + 1) bytes)
   pub more : digits_value 10 (take (i + 1) bytes) ≡ 10 * digits_value 10 (take i bytes)
       + (get_or bytes i 0 - 48)
 
-pub next_digit : (bytes : List ℕ) (i : ℕ) → length bytes ≤ 18 → AllDigits 10 (take i bytes)
-    → digit_value (get_or bytes i 0) < 10 → i < length bytes → IsNextDigit bytes i
-next_digit bytes i few digits digit within =
+pub next_digit : (most : ℕ) (bytes : List ℕ) (i : ℕ) → length bytes ≤ most + 1
+    → AllDigits 10 (take i bytes) → digit_value (get_or bytes i 0) < 10 → i < length bytes
+    → IsNextDigit most bytes i
+next_digit most bytes i few digits digit within =
     let below : digits_value 10 (take i bytes) < 10 ^ length (take i bytes) =
     digits_value-lt 10 (take i bytes) digits in
-    let front : length (take i bytes) ≤ 17 = omega (arith, length-take i bytes) in
-    let most : 10 ^ length (take i bytes) ≤ 10 ^ 17 = pow-le-pow_right (omega arith) front in
+    let front : length (take i bytes) ≤ most = omega (arith, length-take i bytes) in
+    let up_to : 10 ^ length (take i bytes) ≤ 10 ^ most = pow-le-pow_right (omega arith) front in
     let here : IsInRange 48 57 (get_or bytes i 0) = digit_from_value (get_or bytes i 0) digit in
     let worth = digit_value_digit (get_or bytes i 0) here in
     let step = digits_value_more 10 bytes i within in

@@ -5,8 +5,8 @@ use std::alloc::{AllocError, AllocFailed};
 use std::error::Error;
 use std::fmt;
 
-/// There was no memory for what was asked. What the call was lent for writing is as before,
-/// unless the call says otherwise.
+/// There was no memory for what was asked. What a crate's public call was lent for writing is as
+/// before, unless the call says otherwise.
 #[derive(Clone, Copy, Debug, PartialEq, Eq)]
 pub struct OutOfMemory;
 

@@ -109,7 +109,8 @@ table_sized parts box (suc before) table is =
     step_sized parts box (suc before) is.0 table (table_sized parts box before is.0 is.1) is.2
 
 module _ (parts : Parts) (box : Box) (valid : IsScenario parts) where
-  step_same : (round : ℕ) (a b c d : PriceTable) → AreSame parts a b → IsRoundStep parts box round a c → IsRoundStep parts box round b d
+  step_same : (round : ℕ) (a b c d : PriceTable) → AreSame parts a b
+      → IsRoundStep parts box round a c → IsRoundStep parts box round b d
       → AreSame parts c d
   step_same round a b c d same (inl (trips, by)) (inl (others, also)) =
       moved_same parts trips (step_of round) a b c d same by.moved

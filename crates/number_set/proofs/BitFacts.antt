@@ -64,5 +64,6 @@ number_in words word bit few here lower =
     record {
       place = is_word;
       here = rw (is_word, is_bit, here) refl;
-      none_before = λ i same before. rw (same, lower (i % 64) (omega (arith, same, before, few))) refl;
+      none_before =
+          λ i same before. rw (same, lower (i % 64) (omega (arith, same, before, few))) refl;
     }

@@ -27,7 +27,8 @@ module _ (bound number : ℕ) (now : Bool) (old new summary told : List ℕ)
     told = λ word within none. elim (cases_eq word (number / 64))
         as (λ _. slice_index new word ≡ 0) [
           | inl same ↦ zero_if (slice_index new word)
-              (ap (λ w. not (slice_index new w == 0)) same ∙ sym bits.here ∙ ap (has_bit told) (sym same) ∙ none)
+              (ap (λ w. not (slice_index new w == 0)) same ∙ sym bits.here
+              ∙ ap (has_bit told) (sym same) ∙ none)
           | inr other ↦ words.words word other
               ∙ kept.told word (omega (arith, within, words.count))
               (sym (bits.others word other) ∙ none)
@@ -35,7 +36,8 @@ module _ (bound number : ℕ) (now : Bool) (old new summary told : List ℕ)
     some = λ word has_it. elim (cases_eq word (number / 64))
         as (λ _. slice_index new word ≢ 0) [
           | inl same ↦ other_if (slice_index new word)
-              (ap (λ w. not (slice_index new w == 0)) same ∙ sym bits.here ∙ ap (has_bit told) (sym same) ∙ has_it)
+              (ap (λ w. not (slice_index new w == 0)) same ∙ sym bits.here
+              ∙ ap (has_bit told) (sym same) ∙ has_it)
           | inr other ↦ λ none. kept.some word (sym (bits.others word other) ∙ has_it)
               (sym (words.words word other) ∙ none)
         ];
@@ -121,6 +123,7 @@ module _ (bound : ℕ) (words summary : List ℕ) (kept : AreKept bound words su
     none_before = λ i before. elim (cases_eq (i / 64) word) as (λ _. has_bit words i ≡ false) [
       | inl same ↦ found.none_before i same before
       | inr other ↦ untold i
-          (first.none_before (i / 64) (let place = found.place in omega (arith, other, before, place)))
+          (first.none_before (i / 64)
+          (let place = found.place in omega (arith, other, before, place)))
     ];
   }

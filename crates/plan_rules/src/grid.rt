@@ -28,7 +28,7 @@ impl Model for Grid {
 }
 
 impl Grid {
-    ghost use Rattle.std.specs.Prelude.{◌≡◌, ◌==◌, ◌&&◌, ◌*◌, ◌<◌, ◌^◌, ℕ, nat_le, nat_lt, IfOk, length, slice_index};
+    ghost use Rattle.std.specs.Prelude.{◌≡◌, ◌==◌, ◌&&◌, ◌*◌, ◌<◌, ◌≤◌, ◌^◌, ℕ, nat_le, nat_lt, IfOk, length, slice_index};
     ghost use Rattle.flow_types.specs.Counts.{one_if};
     ghost use Rattle.plan_rules.specs.Grid.{Adds, IsEmpty, SameSize, Takes, count_at};
 
@@ -55,8 +55,10 @@ impl Grid {
 
     /// The count of the place in the period, 0 outside the grid.
     pub fn get(&self, place: u32, period: u16) -> u32
-        ensures { place < self.now.places → period < self.now.periods
+        ensures count { place < self.now.places → period < self.now.periods
             → result ≡ count_at self.now place period }
+        ensures places { self.now.places ≤ place → result ≡ 0 }
+        ensures periods { self.now.periods ≤ period → result ≡ 0 }
     {
         if (place as usize) < self.places && period < self.periods {
             self.counts[place as usize * usize::from(self.periods) + usize::from(period)]

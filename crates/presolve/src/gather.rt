@@ -82,11 +82,12 @@ impl Gathering {
         Ok(())
     }
 
-    /// Negates the factors of flipped columns.
+    /// Negates the factors of flipped columns. What is fixed stays.
     pub fn flip(&mut self, flips: &[bool])
         requires within { All (λ entry. entry.column < length flips.now) self.old.entries }
         requires small { All (λ entry. unsigned_abs entry.value < 2 ^ 62) self.old.entries }
-        ensures { self.new.entries ≡ map (flipped_entry flips.now) self.old.entries }
+        ensures entries { self.new.entries ≡ map (flipped_entry flips.now) self.old.entries }
+        ensures fixed { self.new.fixed ≡ self.old.fixed }
     {
         flip(flips, &mut self.entries);
     }

@@ -39,7 +39,8 @@ key_at k other at =
     let kind = and_parts (nat_eq (kind_number other.kind) (kind_number k.kind)) _ at in
     let place = and_parts (nat_eq other.row k.row) _ kind.1 in
     same_key other k
-    (same_kind other.kind k.kind (same_numbers (kind_number other.kind) (kind_number k.kind) kind.0))
+    (same_kind other.kind k.kind
+    (same_numbers (kind_number other.kind) (kind_number k.kind) kind.0))
     (same_numbers other.row k.row place.0) (same_numbers other.period k.period place.1)
 
 -- the row of a key of this kind is one of its rows

@@ -108,7 +108,8 @@ module _ (parts : Parts) (table : PriceTable) (valid : IsScenario parts)
           (is.route.sectors stop.node after inner) in
           summed-few (price_in table.inside (place_at flight stop.node)) stop.time leaves
           (omega (arith, day, valid.day.periods_to))
-          (λ t before. price-small (Capacity kind.Sector) (place_at flight stop.node) t place (omega (arith, day, before)))
+          (λ t before. price-small (Capacity kind.Sector) (place_at flight stop.node) t place
+          (omega (arith, day, before)))
 
     stays-few : (stop : Stop) (rest : List Stop) → IsOnward parts.day.periods flight stop rest
         → stays_price table flight stop rest + stop.node * 2 ^ 71

@@ -174,7 +174,8 @@ value_is = record {
 bound_is : BoundsPlans two all_open 1 (pos 1)
 bound_is = λ plan kept.
     value-below two all_open 1 table (pos 1) plan
-    (two_flights-valid 1 9 9 (omega arith) (omega arith) (omega arith)) value_is kept.feasible kept.inside
+    (two_flights-valid 1 9 9 (omega arith) (omega arith) (omega arith)) value_is kept.feasible
+    kept.inside
 
 best_costs : plan_cost two.tables two.flights (plan_with (trip_at 1 3)) ≡ pos 1
 best_costs = refl

@@ -44,7 +44,8 @@ module _ (problem : Problem) (cutoff : Option ℤ) where
       less_is ((limit -ℤ pos 1) *ℤ cost_at problem tableau (weight_index problem))
       (cost_at problem tableau (right_side problem)) is
 
-  iteration_reached : (tableau : Tableau) → IsReachedAt tableau (iteration_of problem cutoff tableau)
+  iteration_reached : (tableau : Tableau)
+      → IsReachedAt tableau (iteration_of problem cutoff tableau)
   iteration_reached tableau = by (is_cut problem cutoff tableau) refl
     where
       by : (b : Bool) → is_cut problem cutoff tableau ≡ b
@@ -53,7 +54,8 @@ module _ (problem : Problem) (cutoff : Option ℤ) where
       by true cut = λ _. cut_reached tableau cutoff cut
       by false uncut = leaving_reached tableau (leaving problem tableau)
 
-  ended_reached : (cells : ℕ) (tableau : Tableau) (iteration : Iteration) → IsReachedAt tableau iteration
+  ended_reached : (cells : ℕ) (tableau : Tableau) (iteration : Iteration)
+      → IsReachedAt tableau iteration
       → IsReachedWhereCut problem cutoff (run_ended problem cells cutoff tableau iteration)
   ended_reached cells tableau (Ends end row) reached = reached
   ended_reached cells tableau (Pivots leaves enters) reached =
@@ -82,7 +84,8 @@ module _ (problem : Problem) (cutoff : Option ℤ) where
       ended_reached cells tableau (iteration_of problem cutoff tableau) (iteration_reached tableau)
   from_reached cells (suc pivots) tableau =
       on_reached cells (λ next. run_from problem cells cutoff pivots next)
-      (from_reached cells pivots) tableau (iteration_of problem cutoff tableau) (iteration_reached tableau)
+      (from_reached cells pivots) tableau (iteration_of problem cutoff tableau)
+      (iteration_reached tableau)
 
   pub run_reached : (pivots cells : ℕ)
       → IsReachedWhereCut problem cutoff (simplex_run problem pivots cells cutoff)

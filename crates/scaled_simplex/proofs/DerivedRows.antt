@@ -90,7 +90,8 @@ module _ (problem : Problem) (tableau : Tableau)
       (λ _ _. derived.weightless k small)
 
   iteration_is : iteration_of problem None tableau ≡ Pivots leaves enters
-  iteration_is = ap (iteration_leaving problem tableau) leaving_is ∙ ap (iteration_entering leaves) entering_is
+  iteration_is = ap (iteration_leaving problem tableau) leaving_is
+      ∙ ap (iteration_entering leaves) entering_is
 
   -- a pivot keeps it so
   pub pivot_derived : IsDerived problem cells

@@ -139,5 +139,6 @@ pub ran_worth : (problem : Problem) (held : Option Board) (ending : Ending) (boa
 ran_worth problem held ending board (Err fault) there is optimal are = tt
 ran_worth problem held ending board (Ok fractions) there is optimal are =
     subst (λ h. AreWorth problem (outcome_in problem h ending) fractions) (sym there)
-    (board_worth problem board ending (subst (λ h. IsRan problem h ending) there is) optimal fractions
+    (board_worth problem board ending (subst (λ h. IsRan problem h ending) there is) optimal
+    fractions
     are)

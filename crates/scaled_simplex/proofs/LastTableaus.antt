@@ -69,7 +69,8 @@ module _ (problem : Problem) where
       → pivoted problem two tableau leaves enters ≡ s
       → tableau_pivoted problem one tableau leaves enters r ≡ Some first
       → tableau_pivoted problem two tableau leaves enters s ≡ Some second → first ≡ second
-  pivoted_same one two tableau first second leaves enters (Err wide) s is_r is_s is_first is_second =
+  pivoted_same one two tableau first second leaves enters (Err wide) s is_r is_s is_first
+      is_second =
       missing is_first
   pivoted_same one two tableau first second leaves enters (Ok rows) (Err wide) is_r is_s is_first
       is_second = missing is_second

@@ -216,10 +216,12 @@ module _ (rows new : List (List Entry)) (row count indices : ℕ) (made : List E
       by : (b : Bool) → int_eq (entry_at (row_at rows row) index) (pos 0) ≡ b
           → Contains (get_or lists index []) row
       by true none = added.added index
-          (more.each index ((Decides-int_eq (entry_at (row_at rows row) index) (pos 0)).0 none) some)
+          (more.each index ((Decides-int_eq (entry_at (row_at rows row) index) (pos 0)).0 none)
+          some)
           (let count_is = listed.count_is in omega (arith, small, count_is))
       by false has = added.kept index row (listed.each row index below small
-          (λ none. no_both ((Decides-int_eq (entry_at (row_at rows row) index) (pos 0)).1 none) has))
+          (λ none. no_both ((Decides-int_eq (entry_at (row_at rows row) index) (pos 0)).1 none)
+          has))
         where
           no_both : {b : Bool} → b ≡ true → b ≡ false → ⊥
           no_both yes_it no_it = let e : true ≡ false = sym yes_it ∙ no_it in let g : ⊥ = cc in g

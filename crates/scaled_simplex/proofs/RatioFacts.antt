@@ -113,7 +113,8 @@ module _ (costs row : List Entry) where
   module _ (right : ℕ) (entry : Entry) (is : entry_at row entry.column ≡ entry.value)
       (best : Option Candidate) (found : IsBestBelow entry.column best) where
     next_best : (b : Bool) → int_lt entry.value (pos 0) ≡ b
-        → IsBestBelow (suc entry.column) (if b then cheaper best (candidate_of costs entry) else best)
+        → IsBestBelow (suc entry.column)
+        (if b then cheaper best (candidate_of costs entry) else best)
     next_best true negative =
         let passing : passes entry.column ≡ true = ap (λ v. int_lt v (pos 0)) is ∙ negative in
         subst (λ c. IsBestBelow (suc entry.column) (cheaper best c)) (sym (entered entry is))
@@ -150,7 +151,8 @@ module _ (costs row : List Entry) where
         then cheaper best (candidate_of costs entry) else best) (le-ltb entry.column right past)
         ∙ neither (int_lt entry.value (pos 0))
       where
-        neither : (b : Bool) → (if b && false then cheaper best (candidate_of costs entry) else best)
+        neither : (b : Bool)
+            → (if b && false then cheaper best (candidate_of costs entry) else best)
             ≡ best
         neither true = refl
         neither false = refl

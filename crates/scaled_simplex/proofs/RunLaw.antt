@@ -80,9 +80,11 @@ module _ (problem : Problem) where
         → IsIteration tableau (iteration_leaving problem tableau o)
     leaving_iteration None none_is = cost_row_tells tableau Optimal lawful refl
     leaving_iteration (Some leaves) leaving_is =
-        entering_iteration leaves leaving_is (entering problem tableau (row_at tableau.rows leaves)) refl
+        entering_iteration leaves leaving_is (entering problem tableau (row_at tableau.rows leaves))
+        refl
 
-    pub iteration_is : (cutoff : Option ℤ) → IsIteration tableau (iteration_of problem cutoff tableau)
+    pub iteration_is : (cutoff : Option ℤ)
+        → IsIteration tableau (iteration_of problem cutoff tableau)
     iteration_is cutoff = by (is_cut problem cutoff tableau)
       where
         by : (b : Bool) → IsIteration tableau (if b then Ends Cut (length problem.constraints)
@@ -105,7 +107,8 @@ module _ (problem : Problem) where
 
   module _ (cells : ℕ) (cutoff : Option ℤ) where
     ended_tells : (tableau : Tableau) → IsLawful problem tableau → (iteration : Iteration)
-        → IsIteration tableau iteration → IsJustified problem (run_ended problem cells cutoff tableau iteration)
+        → IsIteration tableau iteration
+        → IsJustified problem (run_ended problem cells cutoff tableau iteration)
     ended_tells tableau lawful (Ends end row) is = is
     ended_tells tableau lawful (Pivots leaves enters) is =
         cost_row_tells tableau Limit lawful refl
@@ -173,7 +176,8 @@ pub run_tells : (problem : Problem) → IsProblem problem → (pivots cells : �
 run_tells problem valid pivots cells cutoff =
     by (nat_lt cells (live (first_tableau problem).rows))
   where
-    by : (b : Bool) → IsJustified problem (if b then record { end = TooWide; row = bare_row problem }
+    by : (b : Bool)
+        → IsJustified problem (if b then record { end = TooWide; row = bare_row problem }
         else run_from problem cells cutoff pivots (first_tableau problem))
     by true = bare_tells problem valid
     by false =

@@ -170,7 +170,8 @@ module _ (problem : Problem) (cutoff : Option ℤ) (left : ℕ) (old : Board)
   }
 
   module _ (new : Board) (row index : ℕ)
-      (iteration : iteration_of problem cutoff (tableau_of old) ≡ Pivots row index) (some : 0 < left) where
+      (iteration : iteration_of problem cutoff (tableau_of old) ≡ Pivots row index)
+      (some : 0 < left) where
     -- there is no room for the pivot
     pub wide_told : (wide : Wide)
         → pivoted problem old.arena.cells (tableau_of old) row index ≡ Err wide
@@ -181,7 +182,8 @@ module _ (problem : Problem) (cutoff : Option ℤ) (left : ℕ) (old : Board)
         (record { end = TooWide; row = length problem.constraints })
     wide_told wide full count costs = record {
       outcome = ap (λ (r : List Entry). record { end = TooWide; row = r }) costs
-          ∙ sym (run_pivots problem old.arena.cells cutoff (tableau_of old) left row index iteration some
+          ∙ sym (run_pivots problem old.arena.cells cutoff (tableau_of old) left row index iteration
+          some
           ∙ ap (run_pivoted problem old.arena.cells cutoff
           (λ next. run_from problem old.arena.cells cutoff (left - 1) next) (tableau_of old) row
           index) full);
@@ -203,7 +205,8 @@ module _ (problem : Problem) (cutoff : Option ℤ) (left : ℕ) (old : Board)
         ≡ tableau_of new = ap (λ b. record { rows = new.arena.rows; basis = b }) (sym basis) in
         record {
           some = some;
-          same = run_pivots problem old.arena.cells cutoff (tableau_of old) left row index iteration some
+          same = run_pivots problem old.arena.cells cutoff (tableau_of old) left row index iteration
+              some
               ∙ ap (run_pivoted problem old.arena.cells cutoff
               (λ next. run_from problem old.arena.cells cutoff (left - 1) next) (tableau_of old)
               row index) done

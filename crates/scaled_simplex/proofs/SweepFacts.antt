@@ -64,7 +64,8 @@ module _ (problem : Problem) (cells pivot index : ℕ) where
   swept_cut (suc first) second k rows =
       let same : suc first + second ≡ suc (first + second) = omega arith in
       ap (λ n. sweep k n rows) same
-      ∙ by (swept_at problem cells pivot index rows k) (λ changed. swept_cut first second (k + 1) changed)
+      ∙ by (swept_at problem cells pivot index rows k)
+      (λ changed. swept_cut first second (k + 1) changed)
     where
       by : (result : Swept)
           → ((changed : List (List Entry)) → sweep (k + 1) (first + second) changed
@@ -195,7 +196,8 @@ module _ (problem : Problem) (cells pivot index : ℕ) where
                 ((Decides-int_eq (entry_at (row_at now i) index) (pos 0)).0 is)
             by_entry other false is =
                 let some : entry_at (row_at now i) index ≢ pos 0 =
-                λ none. no_both ((Decides-int_eq (entry_at (row_at now i) index) (pos 0)).1 none) is in
+                λ none. no_both ((Decides-int_eq (entry_at (row_at now i) index) (pos 0)).1 none) is
+                in
                 let past = none i
                 (swept_to.rest i since (omega (arith, below, within)) other some) in
                 absurd (omega (arith, below, past))
@@ -219,7 +221,8 @@ module _ (problem : Problem) (cells pivot index : ℕ) where
       not_before i has = from_drop todo p d i inside ascending has
 
       to_here : sweep 0 here start ≡ Ok now
-      to_here = gap here (swept_to.later p d (omega arith) inside) (omega (arith, here_small)) not_before
+      to_here =
+          gap here (swept_to.later p d (omega arith) inside) (omega (arith, here_small)) not_before
 
       past_here : (result : Swept) → swept_at problem cells pivot index now here ≡ result
           → sweep 0 (here + 1) start ≡ result

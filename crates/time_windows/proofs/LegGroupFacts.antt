@@ -12,13 +12,15 @@ use Rattle.time_windows.specs.Steps.{legs_of}
 use Rattle.time_windows.proofs.RootFacts.{place_flight, place_node}
 
 -- the groups of the indices so far
-pub record AreLegGroupsTo (flights : List Flight) (leg_groups : Grouped Leg) (index : ℕ) : Type 0 where
+pub record AreLegGroupsTo (flights : List Flight) (leg_groups : Grouped Leg) (index : ℕ)
+    : Type 0 where
   pub pending : leg_groups.pending ≡ []
   pub count : length leg_groups.closed ≡ index
   pub each : (k : ℕ) (flight : Flight) → k < index → slice_get flights (k / 32) ≡ Some flight
       → get_or leg_groups.closed k [] ≡ legs_of flight (k % 32)
 
-pub no_leg_groups : (flights : List Flight) → AreLegGroupsTo flights (record { closed = []; pending = [] }) 0
+pub no_leg_groups : (flights : List Flight)
+    → AreLegGroupsTo flights (record { closed = []; pending = [] }) 0
 no_leg_groups flights = record {
   pending = refl;
   count = refl;
@@ -26,7 +28,8 @@ no_leg_groups flights = record {
 }
 
 -- the legs of one more index, added and closed
-pub leg_groups_more : (flights : List Flight) (old added new : Grouped Leg) (index : ℕ) (flight : Flight)
+pub leg_groups_more : (flights : List Flight) (old added new : Grouped Leg) (index : ℕ)
+    (flight : Flight)
     → AreLegGroupsTo flights old index → slice_get flights (index / 32) ≡ Some flight
     → added.closed ≡ old.closed → added.pending ≡ old.pending ++ legs_of flight (index % 32)
     → new.closed ≡ added.closed ++ added.pending ∷ [] → new.pending ≡ []

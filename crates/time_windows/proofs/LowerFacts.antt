@@ -70,7 +70,8 @@ module _ (leg_groups : Grouped Leg) (flight : Flight) (number node : ℕ) (old n
   out_same n window from leg on joins = record {
     from = joins.from;
     time = subst (λ (a : Access). LeadsOn a.window leg.least window)
-        (sym (same_apart leg.to (λ e. omega (arith, (upward leg on).upward, joins.from)))) joins.time;
+        (sym (same_apart leg.to (λ e. omega (arith, (upward leg on).upward, joins.from))))
+        joins.time;
   }
 
   out_of_limit : (window : Window) (leg : Leg)

@@ -118,7 +118,8 @@ same_inside parts box other is inside = record {
 }
 
 pub early_made : (parts : Parts) (old new : Held) (flight node time : ℕ)
-    → IsMadeFor parts old → IsBranching (box_of old flight node) time → new.leg_groups ≡ old.leg_groups →
+    → IsMadeFor parts old → IsBranching (box_of old flight node) time
+    → new.leg_groups ≡ old.leg_groups →
     new.turns ≡ old.turns
     → ((f n : ℕ) → box_of new f n ≡ early_branch flight node time (box_of old) f n)
     → IsMadeFor parts new
@@ -130,7 +131,8 @@ early_made parts old new flight node time made branching leg_groups turns is = r
 }
 
 pub late_made : (parts : Parts) (old new : Held) (flight node time : ℕ)
-    → IsMadeFor parts old → IsBranching (box_of old flight node) time → new.leg_groups ≡ old.leg_groups →
+    → IsMadeFor parts old → IsBranching (box_of old flight node) time
+    → new.leg_groups ≡ old.leg_groups →
     new.turns ≡ old.turns
     → ((f n : ℕ) → box_of new f n ≡ late_branch flight node time (box_of old) f n)
     → IsMadeFor parts new
@@ -141,7 +143,8 @@ late_made parts old new flight node time made branching leg_groups turns is = re
       (late_inside parts (box_of old) flight node time branching made.inside);
 }
 
-pub tight_made : (parts : Parts) (old new : Held) → IsMadeFor parts old → new.leg_groups ≡ old.leg_groups
+pub tight_made : (parts : Parts) (old new : Held) → IsMadeFor parts old
+    → new.leg_groups ≡ old.leg_groups
     → new.turns ≡ old.turns → IsTightened parts (box_of old) (box_of new) → IsMadeFor parts new
 tight_made parts old new made leg_groups turns tight = record {
   leg_groups = subst (AreLegGroupsOf parts) (sym leg_groups) made.leg_groups;

@@ -27,7 +27,8 @@ set_back (access ∷ accesses) (suc index) now default =
 -- a change that is noted leaves the boxes above as they were
 pub noted : (held : Held) (accesses : List Access) (log : List Change) (index : ℕ)
     (before now : Access) → before ≡ get_or accesses index before
-    → above_of (with_accesses held (set accesses index now)) (reverse (log ++ Was index before ∷ []))
+    → above_of (with_accesses held (set accesses index now))
+    (reverse (log ++ Was index before ∷ []))
     ≡ above_of (with_accesses held accesses) (reverse log)
 noted held accesses log index before now is =
     ap (above_of (with_accesses held (set accesses index now))) (last_first log (Was index before))

@@ -98,7 +98,8 @@ root_more parts accesses index flight is so_far = record {
         (get_or_push accesses (root_access parts.day.periods flight (index % 32)) closed index
         so_far.count)
     at k below (inr apart) =
-        get_or_append_left accesses (root_access parts.day.periods flight (index % 32) ∷ []) closed k
+        get_or_append_left accesses (root_access parts.day.periods flight (index % 32) ∷ []) closed
+        k
         (omega (arith, so_far.count)) ∙ so_far.each k (omega arith)
 
 pub place_flight : (f n : ℕ) → n < 32 → (f * 32 + n) / 32 ≡ f

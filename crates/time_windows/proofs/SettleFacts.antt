@@ -62,7 +62,8 @@ settled parts number flight old mid new is first second lowered =
 
 -- the groups of a flight
 pub leg_groups_at : (parts : Parts) (number : ℕ) (flight : Flight) (leg_groups : Grouped Leg)
-    → IsScenario parts → slice_get parts.flights number ≡ Some flight → AreLegGroupsOf parts leg_groups
+    → IsScenario parts → slice_get parts.flights number ≡ Some flight
+    → AreLegGroupsOf parts leg_groups
     → AreLegGroupsAt leg_groups number flight
 leg_groups_at parts number flight leg_groups valid is groups =
     let route = (flight_in parts number flight valid is).route in

@@ -9,7 +9,8 @@ pub loop-delay-preserved : goal.loop-delay-preserved
 loop-delay-preserved c =
     let parts = parts_of c.args.s.now in
     steps_more (late_step parts.tables c.args.flight.now)
-    (λ d. By c.args.number (length c.args.flight.now.nodes - 1) (c.args.flight.now.sa + d)) c.loop-delay.delay
+    (λ d. By c.args.number (length c.args.flight.now.nodes - 1) (c.args.flight.now.sa + d))
+    c.loop-delay.delay
     (late_step parts.tables c.args.flight.now c.loop-delay.delay) c.args.terms.now
     c.loop-delay.terms c.add_unless_zero.new.terms c.loop-delay.invariant refl
     (c.in_ok-add_unless_zero.ensures

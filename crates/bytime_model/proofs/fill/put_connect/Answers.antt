@@ -9,6 +9,7 @@ returns c =
     let flights = (parts_of c.args.s.now).flights in
     connect_adds flights c.args.connection c.args.time c.index-flights-connection.result
     c.last_node-last.result c.args.buffer.now c.put_turn.new.buffer
-    (slice_get_read flights (length flights) c.args.connection.first c.index-flights-connection.result
+    (slice_get_read flights (length flights) c.args.connection.first
+    c.index-flights-connection.result
     refl c.requires.first (rw c.flights.ensures at c.index-flights-connection.is))
     c.last_node-last.ensures c.put_turn.ensures

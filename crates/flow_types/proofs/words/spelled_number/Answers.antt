@@ -15,21 +15,21 @@ returns-then-not-is_ascii_digit c =
 
 pub overflow_mul-value : goal.overflow_mul-value
 overflow_mul-value c =
-    let next = next_digit c.args.bytes.now c.loop-byte.byte-index c.requires
+    let next = next_digit 17 c.args.bytes.now c.loop-byte.byte-index c.requires
     c.loop-byte.invariant.1 c.if-not-is_ascii_digit.ensures.bound
     c.loop-byte-test.true in
     omega (arith, c.loop-byte.invariant.0)
 
 pub overflow_add-value : goal.overflow_add-value
 overflow_add-value c =
-    let next = next_digit c.args.bytes.now c.loop-byte.byte-index c.requires
+    let next = next_digit 17 c.args.bytes.now c.loop-byte.byte-index c.requires
     c.loop-byte.invariant.1 c.if-not-is_ascii_digit.ensures.bound
     c.loop-byte-test.true in
     omega (arith, c.loop-byte.invariant.0, c.from.ensures)
 
 pub loop-byte-preserved : goal.loop-byte-preserved
 loop-byte-preserved c =
-    let next = next_digit c.args.bytes.now c.loop-byte.byte-index c.requires
+    let next = next_digit 17 c.args.bytes.now c.loop-byte.byte-index c.requires
     c.loop-byte.invariant.1 c.if-not-is_ascii_digit.ensures.bound
     c.loop-byte-test.true in
     (omega (arith, c.loop-byte.invariant.0, c.from.ensures), next.digits)

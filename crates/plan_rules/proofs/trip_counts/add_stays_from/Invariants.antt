@@ -7,6 +7,7 @@ use Rattle.plan_rules.proofs.trip_counts.add_stays_from.Given as goal
 -- adding what is left adds it all
 abbrev pub invariant-loop-next : goal.invariant-loop-next
 invariant-loop-next l =
-    (new : CountGrid) → Adds (λ k t. stays_from k t l.flight l.stop (drop l.next-index l.rest)) l.grid
+    (new : CountGrid)
+    → Adds (λ k t. stays_from k t l.flight l.stop (drop l.next-index l.rest)) l.grid
     new
     → Adds (λ k t. stays_from k t l.flight l.fn.first l.rest) l.fn.grid new

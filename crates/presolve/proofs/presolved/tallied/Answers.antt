@@ -30,7 +30,8 @@ returns-clause-presolved c =
     let parts = parts_of c.args.s.now in
     let box = box_of c.args.boxes.now in
     let whole : c.add_all.new.draft.program ≡ program_of parts box =
-    program_is parts box c.in_ok-frame.field-0.costs.values.items c.in_ok-frame.field-0.costs.constant
+    program_is parts box c.in_ok-frame.field-0.costs.values.items
+    c.in_ok-frame.field-0.costs.constant
     c.in_ok-frame.ensures.costs
     (map (λ value. pos (unsigned_abs value)) c.in_ok-frame.field-0.costs.values.items)
     c.in_ok-begun.field-0 c.add_all.new.draft.program refl c.in_ok-begun.ensures

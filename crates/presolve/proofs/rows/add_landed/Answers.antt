@@ -21,4 +21,4 @@ add_row-requires-clause-row c =
     flipped_constraint c.args.flips.now c.args.row.now.entries c.args.limit
     (to_z w64 (of_z w64 c.less-limit.result)) (columns c.args.program.now) c.entries-2.result.now
     c.requires.row c.requires.within c.requires.size c.requires.near taken
-    (c.entries-2.ensures ∙ c.flip.ensures)
+    (c.entries-2.ensures ∙ c.flip.ensures.entries)

@@ -10,7 +10,8 @@ loop-index-preserved c =
     let index = c.loop-index.index in
     let flight = c.index-flights-index.result in
     let below : index / 32 < length flights = omega (arith, c.loop-index-test.true) in
-    leg_groups_more flights c.loop-index.leg_groups c.add_legs.new.leg_groups c.close.new.self index flight
+    leg_groups_more flights c.loop-index.leg_groups c.add_legs.new.leg_groups c.close.new.self index
+    flight
     c.loop-index.invariant
     (slice_get_read flights (length flights) (index / 32) flight refl below
     c.index-flights-index.is)

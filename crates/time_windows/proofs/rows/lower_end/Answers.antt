@@ -6,7 +6,8 @@ use Rattle.time_windows.proofs.rows.lower_end.Goals as goal
 pub returns-clause-narrows : goal.returns-clause-narrows
 returns-clause-narrows c =
     let group : c.legs_from.result.now ≡ legs_of c.args.flight.now c.args.node =
-    c.legs_from.ensures ∙ c.requires.leg_groups.groups c.args.node (omega (arith, c.requires.leg_groups.few)) in
+    c.legs_from.ensures
+    ∙ c.requires.leg_groups.groups c.args.node (omega (arith, c.requires.leg_groups.few)) in
     let set = rw (
       c.below_limit-window.ensures,
       c.window_at.ensures,
@@ -21,7 +22,8 @@ returns-clause-narrows c =
 pub returns-clause-lowered : goal.returns-clause-lowered
 returns-clause-lowered c =
     let group : c.legs_from.result.now ≡ legs_of c.args.flight.now c.args.node =
-    c.legs_from.ensures ∙ c.requires.leg_groups.groups c.args.node (omega (arith, c.requires.leg_groups.few)) in
+    c.legs_from.ensures
+    ∙ c.requires.leg_groups.groups c.args.node (omega (arith, c.requires.leg_groups.few)) in
     let set = rw (
       c.below_limit-window.ensures,
       c.window_at.ensures,

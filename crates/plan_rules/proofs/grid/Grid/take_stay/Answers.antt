@@ -17,7 +17,8 @@ pub loop-period-preserved : goal.loop-period-preserved
 loop-period-preserved c =
     let a = c.args in let now = c.loop-period.period in
     record {
-      so_far = takes_same _ (λ k t. one_if ((a.place == k) && nat_le a.from t && nat_lt t (now + 1)))
+      so_far = takes_same _
+          (λ k t. one_if ((a.place == k) && nat_le a.from t && nat_lt t (now + 1)))
           a.self.now c.take.new.self
           (λ k t k_in t_in. stay_more a.place a.from k t now c.loop-period.auto.period)
           (takes_then (λ k t. one_if ((a.place == k) && nat_le a.from t && nat_lt t now))

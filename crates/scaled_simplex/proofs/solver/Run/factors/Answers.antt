@@ -14,7 +14,8 @@ loop-row-preserved c =
           ∙ ap (λ rows. rows ++ one ∷ []) c.loop-row.invariant.0
           ∙ multipliers_more problem outcome c.loop-row.row,
       subst (All (λ m. nat_abs m ≤ most_entry)) (sym c.in_ok-add_multiplier.ensures.rows)
-          (All-append (λ m. nat_abs m ≤ most_entry) c.loop-row.rows (one ∷ []) c.loop-row.invariant.1
+          (All-append (λ m. nat_abs m ≤ most_entry) c.loop-row.rows (one ∷ [])
+          c.loop-row.invariant.1
           (All-cons (λ m. nat_abs m ≤ most_entry) one [] c.in_ok-add_multiplier.ensures.near
           (All-nil (λ m. nat_abs m ≤ most_entry)))),
     )

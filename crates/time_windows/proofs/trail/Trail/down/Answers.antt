@@ -40,7 +40,8 @@ invariant_of-self-in-Ok c = record {
   sound = c.note_changes.ensures.sound;
   few = search rules;
   changes = c.note_changes.ensures.changes;
-  depth_is = grind (arith, common_steps, returns-in-Ok-clause-above c, c.self.view_is, c.self.invariant.depth_is);
+  depth_is =
+      grind (arith, common_steps, returns-in-Ok-clause-above c, c.self.view_is, c.self.invariant.depth_is);
 }
 
 pub returns-in-Err-clause-err : goal.returns-in-Err-clause-err

@@ -9,7 +9,8 @@ returns c =
     rw (← c.self.view_is, c.put_back.ensures, c.deref.ensures.value)
     (taken_back c.self.inside.boxes c.self.inside.accesses.items c.take_back.new.accesses.items
     c.self.inside.log.items c.take_back.new.log.items c.take_back.ensures.back
-    c.self.invariant.same (subst (λ (p : Path). p.above ≢ []) (sym c.self.view_is) c.requires.below))
+    c.self.invariant.same
+    (subst (λ (p : Path). p.above ≢ []) (sym c.self.view_is) c.requires.below))
 
 pub invariant_of-self : goal.invariant_of-self
 invariant_of-self c = record {
