@@ -1,0 +1,17 @@
+pub mod Limits
+pub mod Numbers
+pub mod Digests
+pub mod Found
+pub mod Fields
+pub mod Kinds
+pub mod Rows
+pub mod Items
+pub mod Stages
+pub mod Reading
+pub mod Lines
+pub mod Texts
+pub mod ItemLines
+pub mod Put
+pub mod Readers
+pub mod Ranges
+pub mod Writable
