@@ -1,5 +1,5 @@
--- The path down a tree: the present box, those above it, and the steps that led down, the last first.
--- The late side of each step to an early one waits.
+-- The path down a tree: the present box, those above it, and the steps that led down, the last
+-- first. The late side of each step to an early one waits.
 use Rattle.std.specs.Prelude.{◌≡◌, ℕ, suc, ◌<◌, Bool, false, true, List, [], ◌∷◌, length}
 use Rattle.flow_types.specs.declared.parts.Parts.{Parts}
 use Rattle.flow_types.specs.declared.plan.Stop.{Stop}

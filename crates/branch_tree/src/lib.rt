@@ -27,9 +27,10 @@
 //!     }
 //!
 //! The definitions stand in `specs/`: `Leaves` (how large the numbers of a leaf may be), `Trees`
-//! (which lists are trees), `Forests` (the boxes of a tree's nodes), `Paths` (the way down to a box,
-//! and the boxes that wait) and `Lawful` (lawful trees on a tight box, and their bounds). What else is said of nodes is a parameter there; which bounds
-//! leaves have is defined in `dual_leaf`.
+//! (which lists are trees), `Forests` (the boxes of a tree's nodes), `Paths` (the way down to a
+//! box, and the boxes that wait) and `Lawful` (lawful trees on a tight box, and their bounds).
+//! What else is said of nodes is a parameter there; which bounds leaves have is defined in
+//! `dual_leaf`.
 //!
 //! Proved: `from_nodes` makes the tree of the nodes, or gives them back, and that exactly where
 //! they aren't one tree's (`tree`, `back`, `none`). The nodes of a lawful tree are one tree's

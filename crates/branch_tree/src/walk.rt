@@ -30,9 +30,9 @@ pub enum Step {
     Late,
 }
 
-/// The path from the first box down to the present one: a trail, and the steps that led down. Whoever
-/// goes down a tree in preorder stands at the box of the next node. It takes what the trail takes,
-/// and 16 bytes a step.
+/// The path from the first box down to the present one: a trail, and the steps that led down.
+/// Whoever goes down a tree in preorder stands at the box of the next node. It takes what the trail
+/// takes, and 16 bytes a step.
 #[derive(Drop)]
 pub struct Walk {
     trail: Trail,

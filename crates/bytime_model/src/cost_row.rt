@@ -110,8 +110,8 @@ pub fn late_step(s: &Scenario, flight: u32, delay: u16) -> i64
 
 /// What the flight isn't credited, if it has departed with no more than this delay, against a
 /// period more. In the cost row it is the factor of having entered the first node so long after
-/// the scheduled departure; there is no term where it is 0. The flight is one of the scenario's, and
-/// the delay below 65,535. It takes no memory.
+/// the scheduled departure; there is no term where it is 0. The flight is one of the scenario's,
+/// and the delay below 65,535. It takes no memory.
 pub fn wait_step(s: &Scenario, flight: u32, delay: u16) -> i64
     requires flight { flight < length (parts_of s.now).flights }
     requires delay { delay + 1 < 2 ^ 16 }
