@@ -26,13 +26,13 @@ abbrev pub Allows : ℤ → Bound → Type 0
 Allows cost NoPlan = ⊥
 Allows cost (AtLeast least) = least ≤ℤ cost
 
-allows_lesser_left : (cost : ℤ) (a b : Bound) → Allows cost a → Allows cost (lesser a b)
+pub allows_lesser_left : (cost : ℤ) (a b : Bound) → Allows cost a → Allows cost (lesser a b)
 allows_lesser_left cost NoPlan b allows = absurd allows
 allows_lesser_left cost (AtLeast a) NoPlan allows = allows
 allows_lesser_left cost (AtLeast a) (AtLeast b) allows =
     omega (arith, ints, (least_of_two a b).0, allows)
 
-allows_lesser_right : (cost : ℤ) (a b : Bound) → Allows cost b → Allows cost (lesser a b)
+pub allows_lesser_right : (cost : ℤ) (a b : Bound) → Allows cost b → Allows cost (lesser a b)
 allows_lesser_right cost NoPlan b allows = allows
 allows_lesser_right cost (AtLeast a) NoPlan allows = absurd allows
 allows_lesser_right cost (AtLeast a) (AtLeast b) allows =
@@ -54,7 +54,7 @@ pub bound_allows : (parts : Parts) (box : Box) (bound : Bound) (plan : List (Lis
 bound_allows parts box NoPlan plan is kept = is plan kept
 bound_allows parts box (AtLeast least) plan is kept = is plan kept
 
-bound_from : (parts : Parts) (box : Box) (bound : Bound)
+pub bound_from : (parts : Parts) (box : Box) (bound : Bound)
     → ((plan : List (List Stop)) → IsPlanIn parts box plan
     → Allows (plan_cost parts.tables parts.flights plan) bound)
     → IsBoundIn parts box bound

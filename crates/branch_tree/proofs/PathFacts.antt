@@ -10,7 +10,7 @@ use Rattle.time_windows.proofs.PartFacts.{in_late}
 use Rattle.branch_tree.specs.declared.walk.Branch.{Branch}
 use Rattle.branch_tree.specs.declared.walk.Step.{Step}
 use Rattle.branch_tree.specs.declared.walk.Step.TheVariants.{Early, Late}
-use Rattle.branch_tree.specs.Paths.{ArePartsOf, AreSteps, ArePending, IsFork, IsNext, IsOver, Path, top_of, waiting_in}
+use Rattle.branch_tree.specs.Paths.{ArePartsOf, AreSteps, ArePending, IsFork, IsNext, IsOver, Path, top_of, waiting_boxes, waiting_in}
 
 -- the last step comes first
 pub last_step : (steps : List Step) (step : Step)
@@ -32,6 +32,7 @@ pub record IsBack (parts : Parts) (old : Path) (present : Held) (above : List He
   pub are : AreSteps parts above steps
   pub pending : (boxes : List Box) → ArePending parts above steps boxes
       → ArePending parts old.above old.steps boxes
+  pub waited : waiting_boxes old.above old.steps ≡ waiting_boxes above steps
   pub fewer : waiting_in old.steps ≡ waiting_in steps
   pub top : top_of present above ≡ top_of old.present old.above
   pub parts_of : (top : Box) → ArePartsOf top old.above → ArePartsOf top above
@@ -41,6 +42,7 @@ pub back_none : (parts : Parts) (old : Path) → AreSteps parts old.above old.st
 back_none parts old are = record {
   are = are;
   pending = λ boxes pending. pending;
+  waited = refl;
   fewer = refl;
   top = refl;
   parts_of = λ top are_parts. are_parts;
@@ -63,6 +65,7 @@ back_late parts old present next above below steps back is =
     up from = record {
       are = from.are;
       pending = from.pending;
+      waited = from.waited;
       fewer = from.fewer;
       top = from.top;
       parts_of = λ top are. (from.parts_of top are).1;
@@ -106,7 +109,9 @@ back_early parts old present next after above below new_above branch steps new_s
         })
     down from = record {
       made = made;
-      tight = tight.tight;
+      late = late_branch branch.flight branch.node branch.time (box_of next);
+      waited = from.waited;
+      tight = tight;
       steps = from.are.1;
       pending = λ boxes pending. from.pending (box_of after ∷ boxes) (tight, pending);
       fewer = from.fewer;
@@ -124,6 +129,7 @@ pub back_over : (parts : Parts) (old : Path) (present : Held) (above : List Held
     → IsBack parts old present above [] → IsOver parts old
 back_over parts old present above back = record {
   none = back.pending [] refl;
+  waited = back.waited;
   fewer = back.fewer;
 }
 

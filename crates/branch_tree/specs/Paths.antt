@@ -6,7 +6,7 @@ use Rattle.flow_types.specs.declared.plan.Stop.{Stop}
 use Rattle.time_windows.specs.Boxes.{Box, IsInBox}
 use Rattle.time_windows.specs.Held.{Held, IsMadeFor, box_of}
 use Rattle.time_windows.specs.Splits.{IsBranching, late_branch}
-use Rattle.time_windows.specs.Tight.{IsTight, IsTightened}
+use Rattle.time_windows.specs.Tight.{IsTightened}
 use Rattle.branch_tree.specs.declared.walk.Branch.{Branch}
 use Rattle.branch_tree.specs.declared.walk.Step.{Step}
 use Rattle.branch_tree.specs.declared.walk.Step.TheVariants.{Early, Late}
@@ -62,10 +62,20 @@ ArePending parts (held ∷ above) (Early branch ∷ steps) (late ∷ boxes) =
     IsTightened parts (late_branch branch.flight branch.node branch.time (box_of held)) late
     × ArePending parts above steps boxes
 
+-- the boxes that wait, the next first, before they are made tight
+abbrev pub waiting_boxes : List Held → List Step → List Box
+waiting_boxes above [] = []
+waiting_boxes [] (step ∷ steps) = []
+waiting_boxes (held ∷ above) (Late ∷ steps) = waiting_boxes above steps
+waiting_boxes (held ∷ above) (Early branch ∷ steps) =
+    late_branch branch.flight branch.node branch.time (box_of held) ∷ waiting_boxes above steps
+
 -- the path has gone on to the next box that waited
 pub record IsNext (parts : Parts) (old new : Path) : Type 0 where
   pub made : IsMadeFor parts new.present
-  pub tight : IsTight parts (box_of new.present)
+  pub late : Box
+  pub waited : waiting_boxes old.above old.steps ≡ late ∷ waiting_boxes new.above new.steps
+  pub tight : IsTightened parts late (box_of new.present)
   pub steps : AreSteps parts new.above new.steps
   pub pending : (boxes : List Box) → ArePending parts new.above new.steps boxes
       → ArePending parts old.above old.steps (box_of new.present ∷ boxes)
@@ -77,6 +87,7 @@ pub record IsNext (parts : Parts) (old new : Path) : Type 0 where
 -- no box waited
 pub record IsOver (parts : Parts) (old : Path) : Type 0 where
   pub none : ArePending parts old.above old.steps []
+  pub waited : waiting_boxes old.above old.steps ≡ []
   pub fewer : waiting_in old.steps ≡ 0
 
 abbrev pub IsNextOr : Parts → Path → Path → Bool → Type 0

@@ -57,7 +57,7 @@ module _ (parts : Parts) (budget : Budget) (path : Path) (old new : RecordDraft)
       leaf_next next on = record {
         arrived = record {
           made = on.made;
-          tight = on.tight;
+          tight = on.tight.tight;
           part = subst (λ top. IsPartOf top next.present) (sym same) are_parts.0;
           steps = on.steps;
           parts_of = subst (λ top. ArePartsOf top next.above) (sym same) are_parts.1;
