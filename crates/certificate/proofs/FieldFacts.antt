@@ -28,7 +28,8 @@ over_end : (number : ℕ) (fields : List (List ℕ)) → is_nil fields ≡ false
 over_end number [] some = absurd (let e : ⊥ = cc in e)
 over_end number (field ∷ fields) some = refl
 
-pub some_left : (number : ℕ) (bytes : List ℕ) → end_or_bad number (fields_of bytes) ≡ Err (bad number)
+pub some_left : (number : ℕ) (bytes : List ℕ)
+    → end_or_bad number (fields_of bytes) ≡ Err (bad number)
 some_left number bytes = over_end number (fields_of bytes) (some_field bytes)
 
 pub few_fields : (bytes : List ℕ) → length (fields_of bytes) ≤ length bytes + 1

@@ -41,7 +41,8 @@ unfolding heads_from
 head_bad zero fields fault some is = absurd (omega (arith, some))
 head_bad (suc more) fields fault some is = rw is refl
 
-pub head_none : (left : ℕ) (fields : FieldsLeft) → left ≤ 0 → heads_from left fields ≡ Ok (tt, fields)
+pub head_none : (left : ℕ) (fields : FieldsLeft) → left ≤ 0
+    → heads_from left fields ≡ Ok (tt, fields)
 unfolding heads_from
 head_none zero fields none = refl
 head_none (suc more) fields none = absurd (omega (arith, none))

@@ -164,8 +164,8 @@ pub row_back : (multiplier : Multiplier) → IsMultiplierInRange multiplier
     → row_of (from_second (row_fields multiplier)) ≡ Ok (item.Row multiplier)
 unfolding row_of
 row_back multiplier is =
+    let last : ℕ = 3 + length (row_numbers multiplier.row) in
     rw (
       name_back multiplier.row (decimal multiplier.value ∷ []) is.name,
-      number_back (3 + length (row_numbers multiplier.row)) [] 1 most_weight multiplier.value is.from
-          is.to (omega arith),
+      number_back last [] 1 most_weight multiplier.value is.from is.to (omega arith),
     ) refl

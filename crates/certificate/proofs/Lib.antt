@@ -15,5 +15,7 @@ pub mod TripsBack
 pub mod ReadBack
 pub mod LinesBack
 pub mod TextsBack
+pub mod OneText
+pub mod RangeFacts
 pub mod TripFacts
 pub mod DigestFacts

@@ -367,7 +367,8 @@ module _ (parts : Parts) (valid : IsScenario parts) where
           arith,
           few,
           short,
-          length-append (word_of (kind_told is)) (after_commas (fields_told parts (next_at now) is)),
+          length-append (word_of (kind_told is))
+              (after_commas (fields_told parts (next_at now) is)),
         );
         kind_is = kind_back (kind_told is);
         may = may;

@@ -1,12 +1,15 @@
 -- A reader goes on at the next line.
-use Rattle.std.proofs.Common.{◌≡◌, ℕ, ◌+◌, ◌∷◌, [], ◌≤◌, length, Option, None, Some, refl, arith, length-append}
+use Rattle.std.proofs.Common.{◌≡◌, ℕ, ◌+◌, List, ◌∷◌, [], ◌++◌, ◌≤◌, length, Option, None, Some, Result, refl, ap, ◌∙◌, arith, length-append}
 use Rattle.std.specs.Prelude.{IfNone}
 use Rattle.flow_types.specs.declared.parts.Parts.{Parts}
 use Rattle.flow_types.specs.Limits.{most_flights}
 use Rattle.flow_outside.specs.Held.{Held}
-use Rattle.certificate.specs.Readers.{AreBounded, IsItemTaken, IsReading, PiecesSeen}
+use Rattle.certificate.specs.Reading.{go_on, read_from, with_item}
+use Rattle.certificate.specs.Readers.{AreBounded, IsItemRead, IsItemTaken, IsReading, PiecesSeen, ReaderSeen}
+use Rattle.certificate.specs.declared.fault.LineFault.{LineFault}
 use Rattle.certificate.specs.declared.item.CertItem.{CertItem}
 use Rattle.certificate.specs.declared.stage.Stage.{Stage}
+use Rattle.certificate.proofs.RefuseFacts.{line_read}
 use Rattle.certificate.proofs.StageFacts.{line_near}
 
 pub reads_on : (parts : Parts) (held : Option Held) (old new : PiecesSeen) (now after : Stage)
@@ -29,6 +32,16 @@ reads_on parts held old new now after item number few is taken bounded =
       within = bounded.within;
       few = omega (arith, shorter, most);
     }
+
+-- what was read is the first item of what was left
+pub item_read : (parts : Parts) (held : Option Held) (old new : ReaderSeen) (item : CertItem)
+    (read : IsItemRead parts held old item new) (more : List ℕ)
+    → read_from parts old.stage (read.taken.line ++ 10 ∷ more)
+    ≡ with_item item (read_from parts new.stage more)
+item_read parts held old new item read more =
+    line_read parts old.stage read.taken.line more read.taken.plain
+    ∙ ap (λ (found : Result (CertItem × Stage) LineFault).
+    go_on found (λ after. read_from parts after more)) read.taken.step
 
 -- no refusal is kept
 pub if_none : {A : Type 0} {P : Type 0} (kept : Option A) → P → IfNone kept P

@@ -126,8 +126,8 @@ tail_in : Option (List ℕ) → ℕ → List ℕ
 tail_in None offset = []
 tail_in (Some bytes) offset = drop offset bytes
 
-nothing_left : (pieces : PiecesSeen) (bytes : List ℕ) → IsAtEnd pieces → length bytes ≡ pieces.size
-    → left_in pieces bytes ≡ []
+pub nothing_left : (pieces : PiecesSeen) (bytes : List ℕ) → IsAtEnd pieces
+    → length bytes ≡ pieces.size → left_in pieces bytes ≡ []
 nothing_left pieces bytes at_end same =
     let read = at_end.read in
     ap (λ (ahead : List ℕ). ahead ++ drop pieces.offset bytes) at_end.none

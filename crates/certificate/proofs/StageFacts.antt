@@ -59,7 +59,8 @@ after_trips parts now next = by (nat_lt next (length parts.flights)) refl where
   }
   by false past = record { waiting = omega arith; next = omega arith }
 
-after_plan : (parts : Parts) (now : Stage) (cost : Option ℤ) → IsNear parts now (after_cost parts cost)
+after_plan : (parts : Parts) (now : Stage) (cost : Option ℤ)
+    → IsNear parts now (after_cost parts cost)
 after_plan parts now None = record { waiting = omega arith; next = omega arith }
 after_plan parts now (Some cost) = after_trips parts now 0
 
@@ -126,7 +127,8 @@ fields_near parts now after left item is =
 
 pub line_near : (parts : Parts) (now after : Stage) (line : List ℕ) (item : CertItem)
     → line_step parts now line ≡ Ok (item, after) → IsNear parts now after
-line_near parts now after line item is = by (is_ended now) refl (nat_lt most_line_bytes (length line)) refl
+line_near parts now after line item is =
+    by (is_ended now) refl (nat_lt most_line_bytes (length line)) refl
   where
     by : (ended : Bool) → is_ended now ≡ ended → (long : Bool)
         → nat_lt most_line_bytes (length line) ≡ long → IsNear parts now after

@@ -25,7 +25,7 @@ use Rattle.certificate.specs.Lines.{line_of, row_fields, stop_fields}
 use Rattle.certificate.specs.Ranges.{IsCountInRange, IsItemInRange, IsTripInRange}
 use Rattle.certificate.specs.Reading.{Read, read_from, read_whole, with_item}
 use Rattle.certificate.specs.Stages.{is_cut, is_node, may_stand, next_at, rows_left, stage_after, trees_left, trips_left, waiting_at}
-use Rattle.certificate.specs.Texts.{Certified, bound_text, cert_text, count_text, leaf_text, node_text, plan_text, rows_text, tree_text, trips_text}
+use Rattle.certificate.specs.Texts.{Certified, bound_text, cert_text, count_text, head_text, leaf_text, node_text, plan_text, rows_text, tree_text, trips_text}
 use Rattle.certificate.specs.Writable.{AreAbove, AreLeafRows, AreNodesWritable, AreRowsInRange, AreTripsWritable, IfPlanWritable, IsLeafWritable, IsNodeWritable, IsWritable}
 use Rattle.certificate.proofs.LinesBack.{item_reads}
 
@@ -236,48 +236,60 @@ module _ (parts : Parts) (valid : IsScenario parts) where
       (trips_text parts.places parts.flights plan ++ more) is.cost refl refl
       ∙ ap (with_item (item.Plan cost)) (trips_back [] parts.flights plan more refl is.trips)
 
-  end_reads : (nodes : ℕ) → IsCountInRange nodes
-      → read_from parts stage.End (count_text nodes) ≡ read_whole (item.End nodes ∷ [])
-  end_reads nodes is =
-      ap (read_from parts stage.End) (sym (append-nil (count_text nodes)))
-      ∙ item_reads parts valid stage.End stage.Ended (item.End nodes) [] is refl refl
+  -- the text of a certificate is read as what it tells, whatever follows it
+  pub text_reads_on : (cert : Certified) (more : List ℕ) → IsWritable parts cert
+      → read_from parts stage.Head (cert_text parts cert ++ more)
+      ≡ with_items (cert_items parts cert) (read_from parts stage.Ended more)
+  text_reads_on cert more is =
+      ap (read_from parts stage.Head) (append_assoc (head_text cert.digest) grown more)
+      ∙ item_reads parts valid stage.Head stage.Pool (item.Head cert.digest) (grown ++ more)
+      is.digest refl refl
+      ∙ ap (with_item (item.Head cert.digest))
+      (ap (read_from parts stage.Pool) (append_assoc (tree_text cert.tree) planned more)
+      ∙ tree_reads cert.tree (planned ++ more) is.nodes is.tree
+      ∙ ap (with_items (tree_items cert.tree))
+      (ap (read_from parts stage.Plan) (append_assoc (plan_text parts cert.plan) bounded more)
+      ∙ plan_reads cert.plan (bounded ++ more) is.plan
+      ∙ ap (with_items (plan_items parts cert.plan)) last_reads)
+      ∙ together)
+    where
+      nodes : ℕ
+      nodes = length cert.tree
 
-  -- the text of a certificate is read as what it tells, and has no fault
+      bounded : List ℕ
+      bounded = bound_text cert.bound ++ count_text nodes
+
+      planned : List ℕ
+      planned = plan_text parts cert.plan ++ bounded
+
+      grown : List ℕ
+      grown = tree_text cert.tree ++ planned
+
+      last : List CertItem
+      last = item.Bound cert.bound ∷ item.End nodes ∷ []
+
+      end : Read
+      end = read_from parts stage.Ended more
+
+      last_reads : read_from parts stage.Bound (bounded ++ more) ≡ with_items last end
+      last_reads =
+          ap (read_from parts stage.Bound)
+          (append_assoc (bound_text cert.bound) (count_text nodes) more)
+          ∙ item_reads parts valid stage.Bound stage.End (item.Bound cert.bound)
+          (count_text nodes ++ more) is.bound refl refl
+          ∙ ap (with_item (item.Bound cert.bound))
+          (item_reads parts valid stage.End stage.Ended (item.End nodes) more is.count refl refl)
+
+      together : with_items (tree_items cert.tree) (with_items (plan_items parts cert.plan)
+          (with_items last end))
+          ≡ with_items (tree_items cert.tree ++ (plan_items parts cert.plan ++ last)) end
+      together =
+          ap (with_items (tree_items cert.tree)) (with_both (plan_items parts cert.plan) last end)
+          ∙ with_both (tree_items cert.tree) (plan_items parts cert.plan ++ last) end
+
+  -- and has no fault
   pub text_reads : (cert : Certified) → IsWritable parts cert
       → read_from parts stage.Head (cert_text parts cert) ≡ read_whole (cert_items parts cert)
   text_reads cert is =
-      let after_bound : Read = read_whole (item.End (length cert.tree) ∷ []) in
-      let after_plan : Read = with_item (item.Bound cert.bound) after_bound in
-      let bounded : read_from parts stage.Bound (bound_text cert.bound ++ count_text (length cert.tree))
-      ≡ after_plan =
-      item_reads parts valid stage.Bound stage.End (item.Bound cert.bound)
-      (count_text (length cert.tree)) is.bound refl refl
-      ∙ ap (with_item (item.Bound cert.bound)) (end_reads (length cert.tree) is.count) in
-      let planned : read_from parts stage.Plan (plan_text parts cert.plan
-      ++ (bound_text cert.bound ++ count_text (length cert.tree)))
-      ≡ with_items (plan_items parts cert.plan) after_plan =
-      plan_reads cert.plan (bound_text cert.bound ++ count_text (length cert.tree)) is.plan
-      ∙ ap (with_items (plan_items parts cert.plan)) bounded in
-      let grown : read_from parts stage.Pool (tree_text cert.tree ++ (plan_text parts cert.plan
-      ++ (bound_text cert.bound ++ count_text (length cert.tree))))
-      ≡ with_items (tree_items cert.tree) (with_items (plan_items parts cert.plan) after_plan) =
-      tree_reads cert.tree (plan_text parts cert.plan
-      ++ (bound_text cert.bound ++ count_text (length cert.tree))) is.nodes is.tree
-      ∙ ap (with_items (tree_items cert.tree)) planned in
-      item_reads parts valid stage.Head stage.Pool (item.Head cert.digest)
-      (tree_text cert.tree ++ (plan_text parts cert.plan
-      ++ (bound_text cert.bound ++ count_text (length cert.tree)))) is.digest refl refl
-      ∙ ap (with_item (item.Head cert.digest)) (grown ∙ together)
-    where
-      last : List CertItem
-      last = item.Bound cert.bound ∷ item.End (length cert.tree) ∷ []
-
-      together : with_items (tree_items cert.tree) (with_items (plan_items parts cert.plan)
-          (read_whole last)) ≡ read_whole (tree_items cert.tree ++ (plan_items parts cert.plan ++ last))
-      together =
-          ap (λ (read : Read). with_items (tree_items cert.tree)
-          (with_items (plan_items parts cert.plan) read)) (sym (whole_is last))
-          ∙ ap (with_items (tree_items cert.tree))
-          (with_both (plan_items parts cert.plan) last (read_whole []))
-          ∙ with_both (tree_items cert.tree) (plan_items parts cert.plan ++ last) (read_whole [])
-          ∙ whole_is (tree_items cert.tree ++ (plan_items parts cert.plan ++ last))
+      ap (read_from parts stage.Head) (sym (append-nil (cert_text parts cert)))
+      ∙ text_reads_on cert [] is ∙ whole_is (cert_items parts cert)

@@ -90,7 +90,8 @@ module _ (parts : Parts) (valid : IsScenario parts) (k : ℕ) (flight : Flight)
   stop_back stop number rest is =
       rw (
         node_back stop.node is.node_to,
-        number_back (number + 1) rest 0 most_period stop.time (omega arith) is.time_to (omega arith),
+        number_back (number + 1) rest 0 most_period stop.time (omega arith) is.time_to
+            (omega arith),
       )
       refl
 

@@ -1,4 +1,5 @@
--- Numbers in their one form: 0, or digits of which the first isn't 0; `-` in front of negative ones.
+-- Numbers in their one form: 0, or digits of which the first isn't 0; `-` in front of negative
+-- ones.
 use Rattle.std.specs.Prelude.{ℕ, zero, suc, ◌==◌, Bool, false, true, ◌&&◌, not, List, [], ◌∷◌, length, nat_le, Option, None, Some, if◌then◌else◌, ℤ, pos, negsuc, option_map}
 use Rattle.std.specs.Str.{all_ascii_digits}
 use Rattle.std.specs.Str.Parse.{digits_value}
@@ -28,4 +29,5 @@ negative_of (Some (suc n)) = Some (negsuc n)
 abbrev pub whole_of : List ℕ → Option ℤ
 whole_of [] = None
 whole_of (first ∷ rest) =
-    if first == 45 then negative_of (natural_of rest) else option_map pos (natural_of (first ∷ rest))
+    if first == 45 then negative_of (natural_of rest)
+    else option_map pos (natural_of (first ∷ rest))

@@ -45,7 +45,8 @@ pub record AreTaken (held : Option Held) (old new : PiecesSeen) (taken : List �
   pub told : IfTold held old.name (λ bytes. left_in old bytes ≡ taken ++ left_in new bytes)
   pub same : IfSame held old (λ bytes. length bytes ≡ new.size)
 
--- so many bytes of a text from an offset on, of which so many were asked for, stand in front of a piece
+-- so many bytes of a text from an offset on, of which so many were asked for, stand in front of a
+-- piece
 pub record IsPieceOf (bytes : List ℕ) (offset asked count : ℕ) (piece : List ℕ) : Type 0 where
   pub left : count ≤ length bytes - offset
   pub some : offset < length bytes → 0 < asked → 0 < count
@@ -165,7 +166,8 @@ pub record IsPartTaken (old new : PiecesSeen) (before line : List ℕ) (end : Op
   pub plain : AreNoFeeds front
   pub part : IsPartOf new line end
 
--- what a line tells that was taken: an item, and what may stand after it, or that the text has ended
+-- what a line tells that was taken: an item, and what may stand after it, or that the text has
+-- ended
 abbrev pub Found : Type 0
 Found = Option (CertItem × Stage)
 

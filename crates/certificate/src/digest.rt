@@ -34,6 +34,13 @@ impl Digest {
         }
     }
 
+    /// A second one.
+    pub fn copy(&self) -> Digest
+        ensures { result ≡ self.now }
+    {
+        Digest { bytes: self.bytes }
+    }
+
     /// Its bytes.
     pub fn bytes(&self) -> &[u8]
         ensures bytes { result.now ≡ self.now }

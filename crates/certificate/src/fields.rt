@@ -125,7 +125,8 @@ fn is_nil(rest: Option<&[u8]>) -> bool
 
 // That nothing is left.
 fn end_or_bad(number: usize, rest: Option<&[u8]>) -> Result<(), LineFault>
-    ensures { Finds (λ done. done) result (end_or_bad number (fields_in (option_copied rest.entry))) }
+    ensures { Finds (λ done. done) result
+        (end_or_bad number (fields_in (option_copied rest.entry))) }
 {
     match rest {
         None => Ok(()),

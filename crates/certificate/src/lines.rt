@@ -73,8 +73,8 @@ fn take_part(pieces: &mut Pieces, line: &mut Vec<u8>) -> Result<Option<LineEnd>,
     }
 }
 
-/// Takes the next line, and puts it without its line feed in place of what was there. Of a line that
-/// is too long it takes no more than shows that.
+/// Takes the next line, and puts it without its line feed in place of what was there. Of a line
+/// that is too long it takes no more than shows that.
 pub fn take_line<F: Files>(
     files: &mut F,
     pieces: &mut Pieces,

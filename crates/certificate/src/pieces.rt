@@ -158,8 +158,8 @@ fn up_to(count: usize, most: u64) -> usize
     }
 }
 
-// How large a text is whose next piece has so many bytes: as large as it was, or no larger than what
-// was read of it, where it has got shorter since.
+// How large a text is whose next piece has so many bytes: as large as it was, or no larger than
+// what was read of it, where it has got shorter since.
 fn size_after(size: u64, offset: u64, count: usize) -> u64
     ensures some { 0 < count → result ≡ size }
     ensures none { count ≡ 0 → result ≡ offset }

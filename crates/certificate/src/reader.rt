@@ -21,6 +21,15 @@ use flow_types::Scenario;
 use std::alloc::Global;
 use std::marker::Model;
 
+// The line that comes next.
+#[derive(Clone, Copy)]
+struct NextLine {
+    // What may stand there.
+    stage: Stage,
+    // Its number, from 1.
+    number: u32,
+}
+
 // What the next line tells, and what may stand after it; nothing at the end of the text.
 fn next_item<F: Files>(
     alloc: Global,
@@ -28,18 +37,17 @@ fn next_item<F: Files>(
     s: &Scenario,
     pieces: &mut Pieces,
     line: &mut Vec<u8>,
-    stage: Stage,
-    number: u32,
+    next: NextLine,
 ) -> Result<Option<(CertItem, Stage)>, CertRefusal>
-    requires { IsReading pieces.old stage number }
+    requires { IsReading pieces.old next.stage next.number }
     ensures item { IfOk result (λ found. IfSome found (λ it. IsItemTaken (parts_of s.now)
-        (F.seen files.old).held pieces.old pieces.new stage it.0 it.1)) }
-    ensures end { IfOk result (λ found. IfNone found ((stage ≡ stages.Ended) × IsAtEnd pieces.new
-        × AreTaken (F.seen files.old).held pieces.old pieces.new [])) }
+        (F.seen files.old).held pieces.old pieces.new next.stage it.0 it.1)) }
+    ensures end { IfOk result (λ found. IfNone found ((next.stage ≡ stages.Ended)
+        × IsAtEnd pieces.new × AreTaken (F.seen files.old).held pieces.old pieces.new [])) }
     ensures bounded { OnOk result (AreBounded pieces.old pieces.new) }
     ensures refused { IfErr result
-        (IsRefused (parts_of s.now) (F.seen files.old).held pieces.old stage number) }
-    ensures ended { IsAtEnd pieces.old → stage ≡ stages.Ended
+        (IsRefused (parts_of s.now) (F.seen files.old).held pieces.old next.stage next.number) }
+    ensures ended { IsAtEnd pieces.old → next.stage ≡ stages.Ended
         → (result ≡ Ok None) × (pieces.new ≡ pieces.old) }
     ensures failed { IsErrOf result refusal.Read → HasName (F.seen files.old).held pieces.old.name
         → Rose (F.seen files.old).faults (F.seen files.new).faults }
@@ -47,11 +55,11 @@ fn next_item<F: Files>(
         → (F.seen files.new).faults ≡ (F.seen files.old).faults }
     ensures kept { AreKept (F.seen files.old) (F.seen files.new) }
 {
-    if is_ended(stage) && pieces.is_at_end() {
+    if is_ended(next.stage) && pieces.is_at_end() {
         return Ok(None);
     }
     let end = take_line(files, pieces, line)?;
-    item_of_line(alloc, s, stage, number, line, end)
+    item_of_line(alloc, s, next, line, end)
 }
 
 impl From<TakeError> for CertRefusal {
@@ -78,30 +86,34 @@ fn refusal_of(number: u32, error: LineError) -> CertRefusal
     }
 }
 
-// The same of a line that was taken.
+// What a line tells that was taken so far, and what may stand after it; nothing where the text has
+// ended as it may.
 fn item_of_line(
     alloc: Global,
     s: &Scenario,
-    stage: Stage,
-    number: u32,
+    next: NextLine,
     line: &[u8],
     end: LineEnd,
 ) -> Result<Option<(CertItem, Stage)>, CertRefusal>
-    requires { IsSmall stage }
-    ensures { Tells number result (told_by (parts_of s.now) stage line.now end) }
+    requires { IsSmall next.stage }
+    ensures { Tells next.number result (told_by (parts_of s.now) next.stage line.now end) }
 {
     match end {
-        LineEnd::Feed => match line_step(alloc, s, stage, line) {
+        LineEnd::Feed => match line_step(alloc, s, next.stage, line) {
             Ok(found) => Ok(Some(found)),
-            Err(error) => Err(refusal_of(number, error)),
+            Err(error) => Err(refusal_of(next.number, error)),
         },
-        LineEnd::Text => match last_fault(stage, line) {
+        LineEnd::Text => match last_fault(next.stage, line) {
             None => Ok(None),
-            Some(fault) => Err(refusal_of(number, LineError::Fault(fault))),
+            Some(fault) => Err(refusal_of(next.number, LineError::Fault(fault))),
         },
-        LineEnd::Long => Err(refusal_of(number, LineError::Fault(long_fault(stage)))),
+        LineEnd::Long => {
+            let fault = LineError::Fault(long_fault(next.stage));
+            Err(refusal_of(next.number, fault))
+        }
     }
 }
+
 /// Reads the text of a certificate line by line. Of the text it keeps one piece and one line.
 /// Contracts see where it is in the text, what may stand next, and the refusal that it keeps.
 #[derive(Drop)]
@@ -109,9 +121,7 @@ pub struct CertReader {
     alloc: Global,
     pieces: Pieces,
     line: Vec<u8>,
-    stage: Stage,
-    // The number of the next line, from 1.
-    number: u32,
+    next: NextLine,
     kept: Option<CertRefusal>,
 }
 
@@ -123,16 +133,16 @@ impl Model for CertReader {
 
     ghost view = { λ r. record {
       pieces = r.pieces;
-      stage = r.stage;
-      number = r.number;
+      stage = r.next.stage;
+      number = r.next.number;
       kept = r.kept;
     } };
 
-    ghost invariant = { λ r. IfNone r.kept (IsReading r.pieces r.stage r.number) };
+    ghost invariant = { λ r. IfNone r.kept (IsReading r.pieces r.next.stage r.next.number) };
 }
 
 impl CertReader {
-    ghost use Rattle.std.specs.Prelude.{◌≡◌, ◌<◌, ◌≤◌, Err, IfErr, IfNone, IfOk, IfSome, IsErrOf, None, Ok, OnOk, Some, [], length};
+    ghost use Rattle.std.specs.Prelude.{◌≡◌, ◌+◌, ◌<◌, ◌≤◌, Err, IfErr, IfNone, IfOk, IfSome, IsErrOf, None, Ok, OnOk, Some, [], length};
     ghost use Rattle.flow_outside.specs.Counts.{Rose};
     ghost use Rattle.flow_outside.specs.Held.{HasName, IfTold};
     ghost use Rattle.flow_outside.specs.Loads.{IfTooLong, OnRead, UnlessRead};
@@ -143,9 +153,9 @@ impl CertReader {
     ghost use Rattle.certificate.specs.declared.fault.CertRefusal.TheVariants as refusal;
     ghost use Rattle.certificate.specs.declared.stage.Stage.TheVariants as stages;
 
-    /// A reader of what the name holds, at its first line. It asks for the size and reads nothing yet.
-    /// `Read` and `TooLong` come as for `flow_outside::load`, with a limit of 1 GiB. It takes memory
-    /// for the name and a piece.
+    /// A reader of what the name holds, at its first line. It asks for the size and reads nothing
+    /// yet. `Read` and `TooLong` come as for `flow_outside::load`, with a limit of 1 GiB. It takes
+    /// memory for the name and a piece.
     pub fn new<F: Files>(alloc: Global, files: &mut F, name: &str) -> Result<CertReader, LoadFault>
         ensures name { IfOk result (λ reader. reader.pieces.name ≡ name.now) }
         ensures begin { IfOk result (λ reader. (reader.pieces.offset ≡ 0)
@@ -170,10 +180,20 @@ impl CertReader {
             alloc,
             pieces,
             line: Vec::new(alloc),
-            stage: Stage::Head,
-            number: 1,
+            next: NextLine {
+                stage: Stage::Head,
+                number: 1,
+            },
             kept: None,
         })
+    }
+
+    /// The number of the line that comes next, from 1.
+    pub fn line(&self) -> u32
+        ensures number { result ≡ self.now.number }
+        ensures few { IfNone self.now.kept (result ≤ most_cert_bytes + 1) }
+    {
+        self.next.number
     }
 
     /// What the next line of the text tells, of a certificate for the scenario; nothing after the
@@ -216,13 +236,12 @@ impl CertReader {
             s,
             &mut self.pieces,
             &mut self.line,
-            self.stage,
-            self.number,
+            self.next,
         ) {
             Ok(None) => Ok(None),
             Ok(Some((item, stage))) => {
-                self.stage = stage;
-                self.number += 1;
+                self.next.stage = stage;
+                self.next.number += 1;
                 Ok(Some(item))
             }
             Err(refusal) => {

@@ -419,9 +419,9 @@ fn put_count<O: Out>(out: &mut O, nodes: usize) -> Result<(), O::Error>
     put_last(out, nodes as u64)
 }
 
-/// The text of a certificate for the scenario, whose plan, if there is one, keeps every rule. Numbers
-/// out of their range, rows that don't ascend, or more than 1 GiB give a text that a reader refuses.
-/// It takes memory for the text, in blocks that grow by doubling.
+/// The text of a certificate for the scenario, whose plan, if there is one, keeps every rule. It is
+/// read back where it has at most 1 GiB and its numbers and rows are as `specs/Writable` says. It
+/// takes memory for the text, in blocks that grow by doubling.
 pub fn cert_text(
     alloc: Global,
     s: &Scenario,
@@ -436,8 +436,8 @@ pub fn cert_text(
     Ok(out.into_bytes())
 }
 
-/// How many bytes the text of a certificate for the scenario has, whose plan, if there is one, keeps
-/// every rule; the last number of 64 bits where there are more. It takes no memory.
+/// How many bytes the text of a certificate for the scenario has, whose plan, if there is one,
+/// keeps every rule; the last number of 64 bits where there are more. It takes no memory.
 pub fn cert_length(s: &Scenario, certificate: &Certificate<'_>) -> u64
     requires { IfSome certificate.now.plan (IsFeasible (parts_of s.now)) }
     ensures { result
