@@ -1,0 +1,5 @@
+pub mod SideFacts
+pub mod ReadFacts
+pub mod OutsideFacts
+pub mod StepFacts
+pub mod SoundFacts

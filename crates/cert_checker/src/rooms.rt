@@ -1,0 +1,33 @@
+//! The room of a check.
+ghost use Rattle.std.specs.Prelude.{IfOk};
+ghost use Rattle.flow_types.specs.Scenario.{parts_of};
+ghost use Rattle.cert_checker.specs.Checks.{AreRoomsFor};
+
+use dual_leaf::LeafWork;
+use flow_types::{OutOfMemory, Scenario};
+use plan_rules::Loads;
+use std::alloc::Global;
+use valid_cuts::Pool;
+
+/// The room in which a check works: for the bounds of leaves, and for the loads of its plan; and
+/// where rows and trips are kept.
+#[derive(Drop)]
+pub struct Rooms {
+    pub alloc: Global,
+    pub leaves: LeafWork,
+    pub loads: Loads,
+    /// There are no cuts yet.
+    pub pool: Pool,
+}
+
+/// Room for certificates of the scenario.
+pub fn rooms_for(alloc: Global, s: &Scenario) -> Result<Rooms, OutOfMemory>
+    ensures { IfOk result (AreRoomsFor (parts_of s.now)) }
+{
+    Ok(Rooms {
+        alloc,
+        leaves: LeafWork::new(alloc, s)?,
+        loads: Loads::new(alloc, s)?,
+        pool: Pool::empty(alloc),
+    })
+}

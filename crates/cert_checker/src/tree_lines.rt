@@ -1,0 +1,279 @@
+//! The lines of a tree: splits, leaves and their rows.
+ghost use Rattle.std.specs.Prelude.{◌≡◌, ◌<◌, ◌^◌, ◌↔◌, ◌++◌, ◌∷◌, ◌-◌, IfNone, IfOk, IfSome, IsTrue, None, [], slice_get};
+ghost use Rattle.flow_types.specs.Scenario.{parts_of};
+ghost use Rattle.time_windows.specs.Held.{box_of};
+ghost use Rattle.time_windows.specs.Splits.{IsBranching};
+ghost use Rattle.bytime_model.specs.Rows.{is_node};
+ghost use Rattle.branch_tree.specs.Leaves.{IsInRange};
+ghost use Rattle.branch_tree.specs.Paths.{waiting_boxes};
+ghost use Rattle.cert_checker.specs.Checks.{AreRoomsFor, HasNodes, IfThere, IsFitDraft, IsGoodSplit, IsOnPath, IsOpenDraft, IsStanding, StepsTo};
+ghost use Rattle.cert_checker.specs.Fronts.{GoesOn, front_of};
+ghost use Rattle.cert_checker.specs.Steps.{IsBadSplit, IsLeafAt, IsLeafLineAt, IsRowLine, IsRowsAt, IsSplitAt, leaf_cause, leaf_of, may_name};
+
+use crate::fault::{CertCause, StepError, StepFault, bad_kind, in_field};
+use crate::progress::{LeafDraft, Progress, RowLeaf};
+use crate::rooms::Rooms;
+use crate::standing::Standing;
+use branch_tree::{Branch, Leaf, Walk};
+use bytime_model::{Multiplier, RowName, is_row};
+use dual_leaf::{LeafFault, is_priceable};
+use flow_types::{OutOfMemory, Scenario};
+use time_windows::{Access, Boxes};
+
+// Whether both sides of a split there leave something out.
+fn may_branch(access: Access, time: u16) -> bool
+    ensures { IsTrue result ↔ IsBranching access time }
+{
+    match access.window {
+        None => false,
+        Some(window) => {
+            window.lo <= time && time <= window.hi && (!access.must || time < window.hi)
+        }
+    }
+}
+
+// Whether the flight has the node.
+fn has_node(s: &Scenario, flight: u32, node: u16) -> bool
+    ensures { result ≡ is_node (slice_get (parts_of s.now).flights flight) node }
+{
+    match s.flights().get(flight as usize) {
+        None => false,
+        Some(flight) => usize::from(node) < flight.nodes.items().len(),
+    }
+}
+
+// The field of a split's line that shows that the box can't be split so, if it can't.
+fn bad_field(s: &Scenario, boxes: &Boxes, branch: Branch) -> Option<usize>
+    ensures bad { IfSome result (λ field. IsBadSplit (parts_of s.now) (box_of boxes.now)
+        branch.flight branch.node branch.time field) }
+    ensures good { IfNone result (IsGoodSplit (parts_of s.now) (box_of boxes.now) branch) }
+{
+    let Branch { flight, node, time } = branch;
+    if boxes.is_empty() {
+        return Some(1);
+    }
+    if flight as usize >= s.flights().len() {
+        return Some(2);
+    }
+    if !has_node(s, flight, node) {
+        return Some(3);
+    }
+    if !may_branch(boxes.access(flight, node), time) {
+        return Some(4);
+    }
+    None
+}
+
+/// A split of the present box: the next node is on its early side.
+pub fn split_line(
+    s: &Scenario,
+    walk: Walk,
+    progress: Progress,
+    branch: Branch,
+) -> Result<Standing, StepError>
+    requires path { IsOnPath (parts_of s.now) walk }
+    requires few { progress.nodes < 2 ^ 62 }
+    ensures step { StepsTo result (IsSplitAt (parts_of s.now) (box_of walk.present)
+        (waiting_boxes walk.above walk.steps) progress branch.flight branch.node branch.time) }
+    ensures standing { IfOk result (IsStanding (parts_of s.now)) }
+    ensures nodes { IfOk result (HasNodes progress.nodes) }
+{
+    if let Some(field) = bad_field(s, walk.boxes(), branch) {
+        return Err(StepError::Fault(in_field(field, CertCause::BadSplit)));
+    }
+    let mut walk = walk;
+    walk.split(s, branch)?;
+    Ok(Standing {
+        walk: Some(walk),
+        leaf: None,
+        progress: progress.with_node(),
+    })
+}
+
+fn leaf_cause(fault: LeafFault) -> StepFault
+    ensures { result ≡ leaf_cause fault }
+{
+    match fault {
+        LeafFault::NotEmpty => in_field(1, CertCause::NotEmpty),
+        LeafFault::NotUnit(..) => in_field(1, CertCause::NotUnit),
+        LeafFault::Closed(..) => in_field(1, CertCause::Closed),
+        LeafFault::UnknownRow(_) => in_field(2, CertCause::UnknownRow),
+        LeafFault::Useless(value) => in_field(1, CertCause::Useless { value }),
+    }
+}
+
+// After a leaf: the path to the box that waits next, if one does.
+fn next_walk(s: &Scenario, walk: Walk) -> Result<Option<Walk>, OutOfMemory>
+    requires { IsOnPath (parts_of s.now) walk }
+    ensures goes_on { IfOk result (λ next. GoesOn (parts_of s.now)
+        (waiting_boxes walk.above walk.steps) (front_of next None)) }
+    ensures path { IfOk result (IfThere (IsOnPath (parts_of s.now))) }
+{
+    let mut walk = walk;
+    if walk.next(s)? {
+        Ok(Some(walk))
+    } else {
+        Ok(None)
+    }
+}
+
+/// A leaf on the present box, with all of its rows.
+pub fn leaf_line(
+    rooms: &mut Rooms,
+    s: &Scenario,
+    walk: Walk,
+    progress: Progress,
+    leaf: &Leaf,
+) -> Result<Standing, StepError>
+    requires rooms { AreRoomsFor (parts_of s.now) rooms.old }
+    requires path { IsOnPath (parts_of s.now) walk }
+    requires range { IsInRange leaf.now }
+    requires few { progress.nodes < 2 ^ 62 }
+    ensures step { StepsTo result (IsLeafAt (parts_of s.now) (box_of walk.present)
+        (waiting_boxes walk.above walk.steps) progress leaf.now) }
+    ensures standing { IfOk result (IsStanding (parts_of s.now)) }
+    ensures nodes { IfOk result (HasNodes progress.nodes) }
+    ensures rooms { AreRoomsFor (parts_of s.now) rooms.new }
+{
+    match rooms.leaves.leaf_bound(s, &rooms.pool, walk.boxes(), leaf) {
+        Err(fault) => Err(StepError::Fault(leaf_cause(fault))),
+        Ok(bound) => Ok(Standing {
+            walk: next_walk(s, walk)?,
+            leaf: None,
+            progress: progress.with_bound(bound),
+        }),
+    }
+}
+
+// The leaf that was drafted.
+fn leaf_of(draft: LeafDraft) -> Leaf
+    ensures { result ≡ leaf_of draft.kind draft.weight draft.rows }
+{
+    let LeafDraft {
+        kind,
+        weight,
+        rows,
+        ..
+    } = draft;
+    match kind {
+        RowLeaf::Dual => Leaf::Dual { weight, rows },
+        RowLeaf::Lag => Leaf::Lag { weight, rows },
+    }
+}
+
+// A leaf of which so many rows were read.
+fn rows_read(
+    rooms: &mut Rooms,
+    s: &Scenario,
+    walk: Walk,
+    progress: Progress,
+    draft: LeafDraft,
+) -> Result<Standing, StepError>
+    requires rooms { AreRoomsFor (parts_of s.now) rooms.old }
+    requires path { IsOnPath (parts_of s.now) walk }
+    requires draft { IsFitDraft draft }
+    requires few { progress.nodes < 2 ^ 62 }
+    ensures step { StepsTo result (IsRowsAt (parts_of s.now) (box_of walk.present)
+        (waiting_boxes walk.above walk.steps) progress draft.kind draft.weight draft.left
+        draft.rows) }
+    ensures standing { IfOk result (IsStanding (parts_of s.now)) }
+    ensures nodes { IfOk result (HasNodes progress.nodes) }
+    ensures rooms { AreRoomsFor (parts_of s.now) rooms.new }
+{
+    if draft.left == 0 {
+        return leaf_line(rooms, s, walk, progress, &leaf_of(draft));
+    }
+    Ok(Standing {
+        walk: Some(walk),
+        leaf: Some(draft),
+        progress,
+    })
+}
+
+/// The line of a leaf whose rows follow.
+pub fn rows_line(
+    rooms: &mut Rooms,
+    s: &Scenario,
+    walk: Walk,
+    progress: Progress,
+    draft: LeafDraft,
+) -> Result<Standing, StepError>
+    requires rooms { AreRoomsFor (parts_of s.now) rooms.old }
+    requires path { IsOnPath (parts_of s.now) walk }
+    requires draft { IsFitDraft draft }
+    requires none { draft.rows ≡ [] }
+    requires few { progress.nodes < 2 ^ 62 }
+    ensures step { StepsTo result (IsLeafLineAt (parts_of s.now) (box_of walk.present)
+        (waiting_boxes walk.above walk.steps) progress draft.kind draft.weight draft.left) }
+    ensures standing { IfOk result (IsStanding (parts_of s.now)) }
+    ensures nodes { IfOk result (HasNodes progress.nodes) }
+    ensures rooms { AreRoomsFor (parts_of s.now) rooms.new }
+{
+    if walk.boxes().is_empty() {
+        return Err(StepError::Fault(in_field(1, CertCause::Closed)));
+    }
+    rows_read(rooms, s, walk, progress, draft)
+}
+
+// Whether a leaf of this kind may name the row.
+fn may_name(s: &Scenario, kind: RowLeaf, row: RowName) -> bool
+    ensures { result ≡ may_name (parts_of s.now) kind row }
+{
+    match kind {
+        RowLeaf::Dual => is_row(s, row),
+        RowLeaf::Lag => is_priceable(s, row),
+    }
+}
+
+// The draft with a row more.
+fn with_row(draft: LeafDraft, multiplier: Multiplier) -> Result<LeafDraft, OutOfMemory>
+    ensures { IfOk result (λ next. next ≡ record {
+      kind = draft.kind;
+      weight = draft.weight;
+      left = draft.left - 1;
+      rows = draft.rows ++ multiplier ∷ [];
+    }) }
+{
+    let LeafDraft {
+        kind,
+        weight,
+        left,
+        mut rows,
+    } = draft;
+    rows.add(multiplier)?;
+    Ok(LeafDraft {
+        kind,
+        weight,
+        left: left.saturating_sub(1),
+        rows,
+    })
+}
+
+/// A row of the leaf.
+pub fn row_line(
+    rooms: &mut Rooms,
+    s: &Scenario,
+    walk: Walk,
+    leaf: Option<LeafDraft>,
+    progress: Progress,
+    multiplier: Multiplier,
+) -> Result<Standing, StepError>
+    requires rooms { AreRoomsFor (parts_of s.now) rooms.old }
+    requires path { IsOnPath (parts_of s.now) walk }
+    requires leaf { IfThere IsOpenDraft leaf }
+    requires value { multiplier.value < 2 ^ 62 }
+    requires few { progress.nodes < 2 ^ 62 }
+    ensures step { StepsTo result (IsRowLine (parts_of s.now) (box_of walk.present)
+        (waiting_boxes walk.above walk.steps) progress leaf multiplier) }
+    ensures standing { IfOk result (IsStanding (parts_of s.now)) }
+    ensures nodes { IfOk result (HasNodes progress.nodes) }
+    ensures rooms { AreRoomsFor (parts_of s.now) rooms.new }
+{
+    let Some(draft) = leaf else {
+        return Err(StepError::Fault(bad_kind()));
+    };
+    if !may_name(s, draft.kind, multiplier.row) {
+        return Err(StepError::Fault(in_field(2, CertCause::UnknownRow)));
+    }
+    rows_read(rooms, s, walk, progress, with_row(draft, multiplier)?)
+}
