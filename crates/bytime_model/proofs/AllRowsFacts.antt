@@ -1,9 +1,11 @@
 -- What is listed by kinds: names whose numbers are within those of their kind.
-use Rattle.std.proofs.Common.{◌≡◌, ℕ, zero, suc, ◌+◌, ◌-◌, ◌*◌, ◌<◌, ◌≤◌, Bool, true, false, List, [], ◌∷◌, length, Option, None, Some, slice_get, if◌then◌else◌, refl, arith}
-use Rattle.std.proofs.Math.Nat.{mul-le-mul_right}
+use Rattle.std.proofs.Common.{◌≡◌, ℕ, zero, suc, ◌+◌, ◌-◌, ◌*◌, ◌<◌, ◌≤◌, Bool, true, false, List, [], ◌∷◌, length, Option, None, Some, slice_get, if◌then◌else◌, refl, ap, subst, arith}
+use Rattle.std.proofs.Math.Nat.{add-mul, mul-le-mul_right}
 use Rattle.std.proofs.lemmas.Bool.{and_parts, lt-ltb, ltb-true}
 use Rattle.std.proofs.lemmas.List.FromFn.{length-map-range_with_len}
-use Rattle.std.specs.List.{Any}
+use Rattle.std.proofs.lemmas.List.Sums.{sum_by-cons}
+use Rattle.std.proofs.lemmas.List.Concat.{length-flat_map}
+use Rattle.std.specs.List.{Any, range_with_len, sum_by}
 use Rattle.flow_types.specs.declared.flight.Flight.{Flight}
 use Rattle.flow_types.specs.declared.parts.Parts.{Parts}
 use Rattle.flow_types.specs.Limits.{most_nodes}
@@ -15,7 +17,7 @@ use Rattle.bytime_model.specs.AllRows.{kind_rows, part_rows, third_rows}
 use Rattle.bytime_model.specs.Kinds.{name_at, part_count, second_count, thirds}
 use Rattle.bytime_model.specs.Rows.{goes_on, is_node, node_count}
 use Rattle.bytime_model.specs.Values.{has_inside}
-use Rattle.bytime_model.proofs.NameLists.{Each, any_flat, any_map, each_flat, each_map, flat_few}
+use Rattle.bytime_model.proofs.NameLists.{Each, any_flat, any_map, each_flat, each_map}
 
 -- a flight's nodes
 pub is_node_within : (flight : Option Flight) (n : ℕ) → n < node_count flight
@@ -74,6 +76,59 @@ pub if_few : (some : Bool) (count most : ℕ) → count ≤ most → (if some th
 if_few true count most few = few
 if_few false count most few = omega arith
 
+-- sums over numbers that follow each other
+pub sum_few : (count : ℕ → ℕ) (most from n : ℕ) → ((k : ℕ) → count k ≤ most)
+    → sum_by count (range_with_len from n) ≤ n * most
+sum_few count most from zero few = omega arith
+sum_few count most from (suc n) few =
+    let all : sum_by count (range_with_len from (suc n))
+    ≡ count from + sum_by count (range_with_len (from + 1) n) =
+    sum_by-cons count from (range_with_len (from + 1) n) in
+    let here = few from in
+    let more = sum_few count most (from + 1) n few in
+    omega (arith, all, here, more)
+
+sum_times : (size count : ℕ → ℕ) (most from n : ℕ) → ((k : ℕ) → size k ≤ count k * most)
+    → sum_by size (range_with_len from n) ≤ sum_by count (range_with_len from n) * most
+sum_times size count most from zero few = omega arith
+sum_times size count most from (suc n) few =
+    let numbers = range_with_len (from + 1) n in
+    let sizes : sum_by size (range_with_len from (suc n)) ≡ size from + sum_by size numbers =
+    sum_by-cons size from numbers in
+    let counts : sum_by count (range_with_len from (suc n)) ≡ count from + sum_by count numbers =
+    sum_by-cons count from numbers in
+    let times = ap (λ c. c * most) counts in
+    let here = few from in
+    let more = sum_times size count most (from + 1) n few in
+    let both = add-mul (count from) (sum_by count numbers) most in
+    omega (arith, sizes, times, here, more, both)
+
+-- the nodes of all flights, by the numbers of these
+sum_nodes : (flights : List Flight) (found : ℕ → Option Flight) (from : ℕ)
+    → ((k : ℕ) → found (from + k) ≡ slice_get flights k)
+    → sum_by (λ f. node_count (found f)) (range_with_len from (length flights))
+    ≡ sum_by (λ (flight : Flight). length flight.nodes) flights
+sum_nodes [] found from are = refl
+sum_nodes (flight ∷ flights) found from are =
+    let first : found from ≡ Some flight =
+    subst (λ i. found i ≡ Some flight) (omega arith) (are 0) in
+    let rest : (k : ℕ) → found (from + 1 + k) ≡ slice_get flights k =
+    λ k. subst (λ i. found i ≡ slice_get flights k) (omega arith) (are (suc k)) in
+    let all : sum_by (λ f. node_count (found f)) (range_with_len from (suc (length flights)))
+    ≡ node_count (found from)
+    + sum_by (λ f. node_count (found f)) (range_with_len (from + 1) (length flights)) =
+    sum_by-cons (λ f. node_count (found f)) from (range_with_len (from + 1) (length flights)) in
+    let nodes = sum_by-cons (λ (other : Flight). length other.nodes) flight flights in
+    let here = ap node_count first in
+    omega (arith, all, nodes, here, sum_nodes flights found (from + 1) rest)
+
+pub all_nodes : (parts : Parts)
+    → sum_by (λ f. node_count (slice_get parts.flights f)) (range_with_len 0 (length parts.flights))
+    ≡ sum_by (λ (flight : Flight). length flight.nodes) parts.flights
+all_nodes parts =
+    sum_nodes parts.flights (slice_get parts.flights) 0
+    (λ k. ap (slice_get parts.flights) (omega arith))
+
 -- the numbers are within those of the kind
 pub record IsWithin (parts : Parts) (kind : RowKind) (a b c : ℕ) : Type 0 where
   pub first : a < part_count parts kind
@@ -114,16 +169,18 @@ module _ (parts : Parts) (kind : RowKind) where
       (thirds parts kind a b).from ((thirds parts kind a b).to - (thirds parts kind a b).from) c
       from (omega (arith, from, to)) refl))
 
-  -- how many there are at most
-  pub most_rows : (firsts seconds most : ℕ) → part_count parts kind ≤ firsts
-      → ((a : ℕ) → second_count parts kind a ≤ seconds)
+  -- how many there are at most: so many pairs of a first and a second number, and of each so many
+  pub most_rows : (pairs most : ℕ)
+      → sum_by (second_count parts kind) (range_with_len 0 (part_count parts kind)) ≤ pairs
       → ((a b : ℕ) → (thirds parts kind a b).to ≤ most)
-      → length (kind_rows parts kind) ≤ firsts * (seconds * most)
-  most_rows firsts seconds most first_few second_few third_few =
-      let all = flat_few (part_rows parts kind) (seconds * most) 0 (part_count parts kind) part_few
-      in
-      let more = mul-le-mul_right (seconds * most) first_few in
-      omega (arith, all, more)
+      → length (kind_rows parts kind) ≤ pairs * most
+  most_rows pairs most pairs_few third_few =
+      let numbers = range_with_len 0 (part_count parts kind) in
+      let same = length-flat_map (part_rows parts kind) numbers in
+      let all = sum_times (λ a. length (part_rows parts kind a)) (second_count parts kind) most 0
+      (part_count parts kind) part_few in
+      let more = mul-le-mul_right most pairs_few in
+      omega (arith, same, all, more)
     where
       thirds_few : (a b : ℕ) → length (third_rows parts kind a b) ≤ most
       thirds_few a b =
@@ -133,9 +190,10 @@ module _ (parts : Parts) (kind : RowKind) where
           let few = third_few a b in
           omega (arith, same, few)
 
-      part_few : (a : ℕ) → length (part_rows parts kind a) ≤ seconds * most
+      part_few : (a : ℕ) → length (part_rows parts kind a) ≤ second_count parts kind a * most
       part_few a =
-          let all = flat_few (third_rows parts kind a) most 0 (second_count parts kind a)
-          (thirds_few a) in
-          let more = mul-le-mul_right most (second_few a) in
-          omega (arith, all, more)
+          let numbers = range_with_len 0 (second_count parts kind a) in
+          let same = length-flat_map (third_rows parts kind a) numbers in
+          let all = sum_few (λ b. length (third_rows parts kind a b)) most 0
+          (second_count parts kind a) (thirds_few a) in
+          omega (arith, same, all)

@@ -14,6 +14,7 @@ use Rattle.flow_types.specs.declared.plan.Stop.{Stop}
 use Rattle.flow_types.specs.Costs.{credit_of, plan_cost, times_cost, total_of, trip_cost}
 use Rattle.flow_types.specs.Feasible.{AreTrips}
 use Rattle.flow_types.specs.Trips.{IsOnward, IsTrip, IsWithinHours, arrival_from}
+use Rattle.flow_types.specs.Limits.{most_delay_cost}
 use Rattle.flow_types.specs.Valid.{IsFlight, IsScenario}
 use Rattle.flow_types.proofs.CostFacts.{credit_within, total_within}
 use Rattle.bytime_model.specs.declared.variables.Term.{Term}
@@ -305,10 +306,10 @@ flight_constant_near : (parts : Parts) (flight : Flight) → IsScenario parts
 flight_constant_near parts flight valid ok =
     let periods = parts.day.periods in
     let short = valid.day.periods_to in
-    let total = total_within parts.tables flight.mg flight.md (most_late periods flight) flight.cost
-    valid.tables.each ok.cost (omega (arith, short)) in
+    let total = total_within parts.tables flight.mg flight.md (most_late periods flight)
+    most_delay_cost flight.cost valid.tables.each ok.cost (omega arith) (omega (arith, short)) in
     let credit = credit_within parts.tables flight.mg flight.md (most_wait periods flight)
-    flight.cost valid.tables.each ok.cost (omega (arith, short)) in
+    most_delay_cost flight.cost valid.tables.each ok.cost (omega arith) (omega (arith, short)) in
     record {
       low = omega (arith, ints, total.low, credit.high);
       high = omega (arith, ints, total.high, credit.low);

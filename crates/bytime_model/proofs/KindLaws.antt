@@ -1,14 +1,14 @@
 -- What holds of the names of each kind of rows: a new kind has its clause in each of the first
 -- ones. The rest, the list and the order of all names, names no kind.
-use Rattle.std.proofs.Common.{◌≡◌, ◌↔◌, ℕ, zero, suc, ◌+◌, ◌*◌, ◌^◌, ◌==◌, ◌<◌, ◌≤◌, Bool, true, ◌&&◌, nat_lt, List, [], ◌∷◌, length, AllPairs, Some, slice_get, refl, sym, ap, ◌∙◌, subst, arith}
+use Rattle.std.proofs.Common.{◌≡◌, ◌↔◌, ℕ, zero, suc, ◌+◌, ◌*◌, ◌==◌, ◌<◌, ◌≤◌, Bool, true, ◌&&◌, nat_lt, List, [], ◌∷◌, length, AllPairs, Some, slice_get, refl, sym, ap, ◌∙◌, subst, arith}
 use Rattle.std.proofs.lemmas.Bool.{and_from, and_parts, eqb-true, lt-ltb, ltb-true}
 use Rattle.std.proofs.lemmas.List.{length-append}
-use Rattle.std.specs.List.{Any}
+use Rattle.std.specs.List.{Any, range_with_len, sum_by}
 use Rattle.flow_types.specs.declared.parts.Parts.{Parts}
 use Rattle.flow_types.specs.declared.place.CapKind.{CapKind}
 use Rattle.flow_types.specs.declared.place.CapKind.TheVariants as cap
 use Rattle.flow_types.specs.Capacities.{has_kind}
-use Rattle.flow_types.specs.Limits.{most_connections, most_flights, most_nodes, most_periods, most_places}
+use Rattle.flow_types.specs.Limits.{most_connections, most_nodes_in_all, most_periods, most_places}
 use Rattle.flow_types.specs.Valid.{IsScenario}
 use Rattle.flow_types.proofs.PlaceFacts.{has_kind-within}
 use Rattle.bytime_model.specs.declared.names.NodeKind.{NodeKind}
@@ -22,7 +22,7 @@ use Rattle.bytime_model.specs.Kinds.{SortKey, capacity_name, sort_key, name_at, 
 use Rattle.bytime_model.specs.Order.{IsBefore}
 use Rattle.bytime_model.specs.Rows.{goes_on, is_capacity, is_node, is_row, node_count}
 use Rattle.bytime_model.specs.Values.{has_inside}
-use Rattle.bytime_model.proofs.AllRowsFacts.{IsWithin, flight_within, goes_within, if_few, if_within, inside_within, is_node_within, kind_all, kind_has, most_rows, node_within, nodes_few, within_if}
+use Rattle.bytime_model.proofs.AllRowsFacts.{IsWithin, all_nodes, flight_within, goes_within, if_few, if_within, inside_within, is_node_within, kind_all, kind_has, most_rows, node_within, sum_few, within_if}
 use Rattle.bytime_model.proofs.NameLists.{Each, any_first, any_second, ascending_pairs, each_any, each_append}
 use Rattle.bytime_model.proofs.OrderFacts.{AreFrom, AreOf, kind_ascends, kind_then}
 
@@ -178,19 +178,18 @@ module _ (parts : Parts) where
         })
     named (Cut i) is = absurd cc
 
--- how many numbers a kind has at most
-abbrev most_firsts : RowKind → ℕ
-most_firsts (of.Nodes kind) = most_flights
-most_firsts (of.Places kind) = most_places
-most_firsts of.Connections = most_connections
-
-abbrev most_seconds : RowKind → ℕ
-most_seconds (of.Nodes kind) = most_nodes
-most_seconds (of.Places kind) = most_periods
-most_seconds of.Connections = most_periods
+-- how many pairs of a first and a second number a kind has at most, and third ones beside these
+abbrev most_pairs : RowKind → ℕ
+most_pairs (of.Nodes kind) = most_nodes_in_all
+most_pairs (of.Places kind) = most_places * most_periods
+most_pairs of.Connections = most_connections * most_periods
 
 abbrev most_thirds : RowKind → ℕ
-most_thirds (of.Nodes kind) = most_periods
+most_thirds (of.Nodes node.Mono) = most_periods
+most_thirds (of.Nodes node.Top) = 1
+most_thirds (of.Nodes node.Occupy) = most_periods
+most_thirds (of.Nodes node.Enter) = most_periods
+most_thirds (of.Nodes node.Leave) = 1
 most_thirds (of.Places kind) = 1
 most_thirds of.Connections = 1
 
@@ -198,16 +197,26 @@ module _ (parts : Parts) (scenario : IsScenario parts) where
   periods_few : parts.day.periods ≤ most_periods
   periods_few = scenario.day.periods_to
 
-  firsts_few : (kind : RowKind) → part_count parts kind ≤ most_firsts kind
-  firsts_few (of.Nodes kind) = scenario.flights.few
-  firsts_few (of.Places kind) = scenario.places.few
-  firsts_few of.Connections = scenario.connections.few
+  -- so many of each place or connection
+  parts_few : (kind : RowKind) (most : ℕ) → part_count parts kind ≤ most
+      → ((a : ℕ) → second_count parts kind a ≤ most_periods)
+      → sum_by (second_count parts kind) (range_with_len 0 (part_count parts kind))
+      ≤ most * most_periods
+  parts_few kind most few each =
+      let all = sum_few (second_count parts kind) most_periods 0 (part_count parts kind) each in
+      omega (arith, few, all)
 
-  seconds_few : (kind : RowKind) (a : ℕ) → second_count parts kind a ≤ most_seconds kind
-  seconds_few (of.Nodes kind) a = nodes_few parts a scenario
-  seconds_few (of.Places kind) a =
-      if_few (has_kind kind (slice_get parts.places a)) parts.day.periods most_periods periods_few
-  seconds_few of.Connections a = periods_few
+  pairs_few : (kind : RowKind)
+      → sum_by (second_count parts kind) (range_with_len 0 (part_count parts kind))
+      ≤ most_pairs kind
+  pairs_few (of.Nodes kind) =
+      let same = all_nodes parts in
+      let few = scenario.flights.nodes_few in
+      omega (arith, same, few)
+  pairs_few (of.Places kind) = parts_few (of.Places kind) most_places scenario.places.few (λ a.
+      if_few (has_kind kind (slice_get parts.places a)) parts.day.periods most_periods periods_few)
+  pairs_few of.Connections =
+      parts_few of.Connections most_connections scenario.connections.few (λ a. periods_few)
 
   thirds_few : (kind : RowKind) (a b : ℕ) → (thirds parts kind a b).to ≤ most_thirds kind
   thirds_few (of.Nodes node.Mono) a b = periods_few
@@ -217,7 +226,7 @@ module _ (parts : Parts) (scenario : IsScenario parts) where
   thirds_few (of.Nodes node.Enter) a b =
       if_few (nat_lt 0 b) parts.day.periods most_periods periods_few
   thirds_few (of.Nodes node.Leave) a b =
-      if_few (goes_on (slice_get parts.flights a) b) 1 most_periods (omega arith)
+      if_few (goes_on (slice_get parts.flights a) b) 1 1 (omega arith)
   thirds_few (of.Places kind) a b = omega arith
   thirds_few of.Connections a b = omega arith
 
@@ -289,7 +298,7 @@ told_order parts names are = subst (AllPairs IsBefore) (sym are) (rows_ascend pa
 
 -- how many there are at most
 abbrev most_of : RowKind → ℕ
-most_of kind = most_firsts kind * (most_seconds kind * most_thirds kind)
+most_of kind = most_pairs kind * most_thirds kind
 
 abbrev most_in : List RowKind → ℕ
 most_in [] = 0
@@ -298,8 +307,7 @@ most_in (kind ∷ list) = most_of kind + most_in list
 module _ (parts : Parts) (scenario : IsScenario parts) where
   kind_few : (kind : RowKind) → length (kind_rows parts kind) ≤ most_of kind
   kind_few kind =
-      most_rows parts kind (most_firsts kind) (most_seconds kind) (most_thirds kind)
-      (firsts_few parts scenario kind) (seconds_few parts scenario kind)
+      most_rows parts kind (most_pairs kind) (most_thirds kind) (pairs_few parts scenario kind)
       (thirds_few parts scenario kind)
 
   kinds_few : (list : List RowKind) → length (kinds_rows parts list) ≤ most_in list
@@ -310,5 +318,5 @@ module _ (parts : Parts) (scenario : IsScenario parts) where
       let more = kinds_few list in
       omega (arith, both, here, more)
 
-  pub rows_few : length (rows_of parts) ≤ 2 ^ 28
+  pub rows_few : length (rows_of parts) ≤ 35000000
   rows_few = let all = kinds_few row_kinds in omega (arith, all)

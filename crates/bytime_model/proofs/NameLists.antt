@@ -1,6 +1,5 @@
 -- Lists by parts: what holds of each item, of each two, and of one.
-use Rattle.std.proofs.Common.{◌≡◌, ℕ, zero, suc, ◌+◌, ◌*◌, ◌<◌, ◌≤◌, Bool, true, false, List, [], ◌∷◌, ◌++◌, length, map, if◌then◌else◌, All, AllPairs, inl, inr, refl, subst, arith, ◌⊎◌}
-use Rattle.std.proofs.lemmas.List.{length-append}
+use Rattle.std.proofs.Common.{◌≡◌, ℕ, zero, suc, ◌+◌, ◌<◌, ◌≤◌, Bool, true, false, List, [], ◌∷◌, ◌++◌, map, if◌then◌else◌, All, AllPairs, inl, inr, refl, subst, arith, ◌⊎◌}
 use Rattle.std.proofs.lemmas.List.Elements.{All-cons, All-nil}
 use Rattle.std.proofs.lemmas.List.Kept.{AllPairs-cons}
 use Rattle.std.specs.List.{Any, flat_map, range_with_len}
@@ -58,16 +57,6 @@ module _ {X : Type 0} where
       (each from (omega arith) (omega arith))
       (each_flat P part (from + 1) count
       (λ k past before. each k (omega (arith, past)) (omega (arith, before))))
-
-  -- no more than so many of each part
-  pub flat_few : (part : ℕ → List X) (most from count : ℕ) → ((k : ℕ) → length (part k) ≤ most)
-      → length (flat_map part (range_with_len from count)) ≤ count * most
-  flat_few part most from zero few = omega arith
-  flat_few part most from (suc count) few =
-      let both = length-append (part from) (flat_map part (range_with_len (from + 1) count)) in
-      let more = flat_few part most (from + 1) count few in
-      let here = few from in
-      omega (arith, both, more, here)
 
   pub each_all : (P : X → Type 0) (xs : List X) → Each P xs → All P xs
   each_all P [] each = All-nil P

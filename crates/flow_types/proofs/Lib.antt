@@ -1,3 +1,4 @@
+pub mod BoundFacts
 pub mod CostFacts
 pub mod PairFacts
 pub mod PlaceFacts

@@ -59,4 +59,4 @@ pub use place::{CapKind, Caps, Name, Place, PlaceKind, Places};
 pub use plan::{Plan, Stop, Trip};
 pub use scenario::Scenario;
 pub use sequence::Sequence;
-pub use words::{is_name, parse_number};
+pub use words::{is_name, parse_number, spelled_number};

@@ -1,7 +1,7 @@
 -- A trip that its line tells is read back: its stops are at nodes of the flight, in periods of the
 -- day, and no more than its nodes.
 use Rattle.std.specs.Prelude.{codes}
-use Rattle.std.proofs.Common.{◌≡◌, ◌⊎◌, ℕ, zero, suc, ◌+◌, ◌-◌, ◌*◌, ◌^◌, ◌<◌, ◌≤◌, ◌==◌, Bool, true, false, List, [], ◌∷◌, ◌++◌, length, min, Option, Some, None, Ok, All, slice_get, if◌then◌else◌, refl, sym, ap, subst, ◌∙◌, inl, inr, arith, append_assoc, length-append}
+use Rattle.std.proofs.Common.{◌≡◌, ◌⊎◌, ℕ, zero, suc, ◌+◌, ◌-◌, ◌*◌, ◌^◌, ◌<◌, ◌≤◌, true, List, [], ◌∷◌, ◌++◌, length, Option, Some, None, Ok, All, slice_get, refl, sym, ap, subst, ◌∙◌, inl, inr, arith, append_assoc, length-append}
 use Rattle.std.specs.Fmt.{decimal}
 use Rattle.std.proofs.Math.Seq.{get_or-append_seam}
 use Rattle.std.proofs.lemmas.Bool.{cases_lt, false≢true, le-ltb, lt-ltb}
@@ -14,6 +14,7 @@ use Rattle.flow_types.specs.declared.plan.Stop.{Stop}
 use Rattle.flow_types.specs.Routes.{IsLeg, is_airport, is_sector}
 use Rattle.flow_types.specs.Trips.{IsOnward, IsTrip, IsWithinHours, latest_of, place_at}
 use Rattle.flow_types.specs.Valid.{IsFlight, IsPlace, IsScenario}
+use Rattle.flow_types.proofs.CostFacts.{latest_to}
 use Rattle.text_records.specs.Names.{position_of}
 use Rattle.text_records.specs.Rows.{Fields}
 use Rattle.plan_text.specs.Lines.{place_name}
@@ -30,20 +31,13 @@ AreReadBack periods flight [] = Unit {0}
 AreReadBack periods flight (stop ∷ stops) = IsReadBack periods flight stop
     × AreReadBack periods flight stops
 
-latest_within : (a b : Bool) (x y last : ℕ)
-    → (if a then min x last else (if b then min y last else last)) ≤ last
-latest_within true b x y last = omega arith
-latest_within false true x y last = omega arith
-latest_within false false x y last = omega arith
-
 module _ (periods : ℕ) (some : 1 ≤ periods) (flight : Flight)
     (legs : All (IsLeg (length flight.nodes)) flight.legs) where
   in_day : (stop : Stop) → IsWithinHours periods flight stop → stop.time < periods
   in_day stop hours =
       let late : stop.time ≤ latest_of periods flight stop.node = hours.late in
       let last : latest_of periods flight stop.node ≤ periods - 1 =
-      latest_within (stop.node == 0) (stop.node + 1 == length flight.nodes)
-      (flight.sd + flight.mg) (flight.sa + flight.md) (periods - 1) in
+      latest_to periods flight stop.node in
       omega (arith, late, last, some)
 
   nodes_left : (stop : Stop) (rest : List Stop) → IsOnward periods flight stop rest

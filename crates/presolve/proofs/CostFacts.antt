@@ -24,7 +24,7 @@ use Rattle.exact_sums.specs.Near.{IsNear}
 use Rattle.bytime_model.specs.Rows.{over_flights, term_of}
 use Rattle.bytime_model.proofs.SmallFacts.{constant_small, cost_terms_near}
 use Rattle.bytime_model.specs.Columns.{IsThere}
-use Rattle.bytime_model.proofs.NameLists.{flat_few}
+use Rattle.presolve.proofs.FlatFacts.{flat_few}
 use Rattle.presolve.specs.Gathering.{Gathered, IsLanded, most_factor, most_gathered, size_of}
 use Rattle.presolve.specs.Landed.{coefficient_of, entries_from, fixed_of}
 use Rattle.presolve.specs.Listing.{HaveCosts}

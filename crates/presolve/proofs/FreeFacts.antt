@@ -19,7 +19,8 @@ use Rattle.bytime_model.specs.Left.{left_of}
 use Rattle.bytime_model.specs.Rows.{node_count}
 use Rattle.bytime_model.specs.Values.{has_inside}
 use Rattle.bytime_model.proofs.AllRowsFacts.{nodes_few}
-use Rattle.bytime_model.proofs.NameLists.{Each, each_all, each_append, each_flat, each_if, flat_few}
+use Rattle.bytime_model.proofs.NameLists.{Each, each_all, each_append, each_flat, each_if}
+use Rattle.presolve.proofs.FlatFacts.{flat_few}
 use Rattle.bytime_model.specs.Columns.{IsThere}
 use Rattle.presolve.specs.Listing.{most_columns}
 use Rattle.presolve.specs.Variables.{by_columns, columns_of, flight_columns, if_free, inside_columns, is_free, is_same, node_columns, periods_of}

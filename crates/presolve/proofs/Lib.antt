@@ -1,3 +1,4 @@
+pub mod FlatFacts
 pub mod ColumnFacts
 pub mod CostFacts
 pub mod CountFacts

@@ -19,3 +19,4 @@ pub mod LawFacts
 pub mod MadeFacts
 pub mod PathFacts
 pub mod PartFacts
+pub mod OneTight

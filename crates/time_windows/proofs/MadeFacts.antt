@@ -7,7 +7,7 @@ use Rattle.time_windows.specs.declared.access.Access.{Access}
 use Rattle.time_windows.specs.declared.access.Window.{Window}
 use Rattle.time_windows.specs.Boxes.{Box, IsBoxOf, IsWindowWithin, IsWithin, closed, root_box, root_row}
 use Rattle.time_windows.specs.Held.{AreLegGroupsOf, Held, IsMadeFor, box_of}
-use Rattle.time_windows.specs.Splits.{IsBranching, after, early_branch, late_branch, until}
+use Rattle.time_windows.specs.Splits.{IsBranching, after, changed_at, early_branch, late_branch, until}
 use Rattle.time_windows.specs.Tight.{IsTightened}
 use Rattle.time_windows.specs.Turns.{AreTurnsOf}
 use Rattle.time_windows.proofs.LawFacts.{changed_cases}
@@ -34,7 +34,7 @@ root_inside parts box is = record {
       ∙ root_shut parts.day.periods (slice_get parts.flights f) n shut;
 }
 
-within_inside : (parts : Parts) (old new : Box) → IsWithin new old → IsBoxOf parts old
+pub within_inside : (parts : Parts) (old new : Box) → IsWithin new old → IsBoxOf parts old
     → IsBoxOf parts new
 within_inside parts old new within inside = record {
   windows = λ f n. within_then (new f n).window (old f n).window (root_box parts f n).window
@@ -63,49 +63,38 @@ open_there (Some v) (Some o) w is within shut = absurd cc
 
 module _ (parts : Parts) (old : Box) (flight node time : ℕ)
     (branching : IsBranching (old flight node) time) (inside : IsBoxOf parts old) where
-  abbrev early : Access
-  early = record { window = until (old flight node).window time; must = true }
-
-  abbrev late : Access
-  late = record { window = after (old flight node).window time; must = (old flight node).must }
-
-  -- what holds of the root's access at each node and of the changed one
-  branch_window : (access : Access) (f n : ℕ)
-      → IsWindowWithin access.window (old flight node).window → f ≡ flight → n ≡ node
-      → IsWindowWithin access.window (root_box parts f n).window
-  branch_window access f n within same too =
-      rw (same, too)
-      (within_then access.window (old flight node).window (root_box parts flight node).window within
-      (inside.windows flight node))
-
-  early_inside : IsBoxOf parts (early_branch flight node time old)
-  early_inside = record {
+  -- with another access at the node, whose window is no wider
+  changed_inside : (access : Access) → IsWindowWithin access.window (old flight node).window
+      → ((old flight node).must ≡ true → access.must ≡ true)
+      → IsBoxOf parts (changed_at flight node access old)
+  changed_inside access within marked = record {
     windows = λ f n. changed_cases
-        (λ a. IsWindowWithin a.window (root_box parts f n).window) flight node early old f n
-        (branch_window early f n (until_within (old flight node).window time))
+        (λ a. IsWindowWithin a.window (root_box parts f n).window) flight node access old f n
+        (λ same too. rw (same, too)
+        (within_then access.window (old flight node).window (root_box parts flight node).window
+        within (inside.windows flight node)))
         (λ _. inside.windows f n);
-    marks = λ f n must. changed_cases (λ a. a.must ≡ true) flight node early old f n
-        (λ _ _. refl) (λ _. inside.marks f n must);
-    nodes = λ f n shut. changed_cases (λ a. a.must ≡ false) flight node early old f n
+    marks = λ f n must. changed_cases (λ a. a.must ≡ true) flight node access old f n
+        (λ same too. marked (inside.marks flight node (rw (same, too) at must)))
+        (λ _. inside.marks f n must);
+    nodes = λ f n shut. changed_cases (λ a. a.must ≡ false) flight node access old f n
         (λ same too. absurd (open_there (old flight node).window
         (root_box parts flight node).window branching.window branching.is_open
         (inside.windows flight node) (rw (same, too) at shut)))
         (λ _. inside.nodes f n shut);
   }
 
-  late_inside : IsBoxOf parts (late_branch flight node time old)
-  late_inside = record {
-    windows = λ f n. changed_cases
-        (λ a. IsWindowWithin a.window (root_box parts f n).window) flight node late old f n
-        (branch_window late f n (after_within (old flight node).window time))
-        (λ _. inside.windows f n);
-    marks = λ f n must. changed_cases (λ a. a.must ≡ true) flight node late old f n
-        (λ same too. inside.marks flight node (rw (same, too) at must))
-        (λ _. inside.marks f n must);
-    nodes = λ f n shut. changed_cases (λ a. a.must ≡ false) flight node late old f n
-        (λ same too. inside.nodes flight node (rw (same, too) at shut))
-        (λ _. inside.nodes f n shut);
-  }
+  pub early_inside : IsBoxOf parts (early_branch flight node time old)
+  early_inside =
+      changed_inside (record { window = until (old flight node).window time; must = true })
+      (until_within (old flight node).window time) (λ _. refl)
+
+  pub late_inside : IsBoxOf parts (late_branch flight node time old)
+  late_inside =
+      changed_inside (record {
+        window = after (old flight node).window time;
+        must = (old flight node).must;
+      }) (after_within (old flight node).window time) (λ must. must)
 
 -- a box that is the same at each node
 same_inside : (parts : Parts) (box other : Box) → ((f n : ℕ) → other f n ≡ box f n)

@@ -23,7 +23,7 @@ use Rattle.tree_search.specs.Drafts.{AreReached}
 use Rattle.tree_search.specs.Nodes.{IsNodeAt, IsNodeOf, cutoff_after}
 use Rattle.tree_search.specs.Records.{IsClosed, IsSearchRecord}
 use Rattle.tree_search.specs.Searching.{IsSearched}
-use Rattle.tree_search.proofs.BoundFacts.{near_least}
+use Rattle.flow_types.proofs.BoundFacts.{near_least}
 use Rattle.time_windows.proofs.PartFacts.{in_within}
 use Rattle.tree_search.proofs.ReachFacts.{Reaches, bound_closed, last_allowed, reaches_from, reaches_least}
 use Rattle.tree_search.proofs.SoundFacts.{searched_bounds}

@@ -1,5 +1,4 @@
 pub mod BeginFacts
-pub mod BoundFacts
 pub mod CompleteFacts
 pub mod CreditFacts
 pub mod DraftFacts

@@ -1,6 +1,6 @@
 -- What a search hands back: plans, each cheaper than the one before, a tree that proves a bound,
 -- and that it ended since the last plan is a least one, or there is none, or its budget was spent.
-use Rattle.std.specs.Prelude.{◌≡◌, ◌⊎◌, ℕ, ◌+◌, ◌<◌, ◌≤◌, List, [], length, slice_get, All, AllPairs, Some, ◌<ℤ◌}
+use Rattle.std.specs.Prelude.{◌≡◌, ◌⊎◌, ℕ, ◌+◌, ◌-◌, ◌<◌, ◌≤◌, List, [], length, slice_get, All, AllPairs, Option, Some, option_map, ℤ, ◌<ℤ◌}
 use Rattle.flow_types.specs.declared.parts.Parts.{Parts}
 use Rattle.flow_types.specs.declared.plan.Stop.{Stop}
 use Rattle.flow_types.specs.Costs.{plan_cost}
@@ -23,6 +23,13 @@ pub record IsFirst (plans : List (List (List Stop))) (counts : List ℕ)
     (plan : List (List Stop)) : Type 0 where
   pub first : slice_get plans 0 ≡ Some plan
   pub found : All (λ count. 1 ≤ count) counts
+
+-- the last plan that was found, if one was, and what it costs
+abbrev pub last_plan : Found → Option (List (List Stop))
+last_plan found = slice_get found.plans (length found.plans - 1)
+
+abbrev pub last_cost : Parts → Found → Option ℤ
+last_cost parts found = option_map (plan_cost parts.tables parts.flights) (last_plan found)
 
 -- the last plan costs the bound, or there is neither a plan nor a bound
 abbrev pub IsClosed : Parts → Found → Type 0

@@ -317,7 +317,7 @@ fn run(
 }
 
 // The least of the bounds.
-#[tactic(auto, using(crate::proofs::BoundFacts::least_more, crate::proofs::BoundFacts::least_all))]
+#[tactic(auto, using(flow_types::proofs::BoundFacts::least_more, flow_types::proofs::BoundFacts::least_all))]
 fn least_of(bounds: &[Bound]) -> Bound
     ensures { result ≡ least_of bounds.now }
 {

@@ -48,15 +48,15 @@ least_more least bounds at d within is =
     ∙ ap (λ (l : List Bound). lesser least (least_of l)) (sym (drop_more bounds at d within))
     ∙ is
 
+pub lesser_none : (b : Bound) → lesser b NoPlan ≡ b
+lesser_none NoPlan = refl
+lesser_none (AtLeast b) = refl
+
 pub least_all : (least : Bound) (bounds : List Bound) (at : ℕ) → length bounds ≤ at
     → lesser least (least_of (drop at bounds)) ≡ least_of bounds → least ≡ least_of bounds
 least_all least bounds at past is =
-    sym (none least) ∙ ap (λ (l : List Bound). lesser least (least_of l))
+    sym (lesser_none least) ∙ ap (λ (l : List Bound). lesser least (least_of l))
     (sym (drop_all at bounds past)) ∙ is
-  where
-    none : (b : Bound) → lesser b NoPlan ≡ b
-    none NoPlan = refl
-    none (AtLeast b) = refl
 
 near_lesser : (a b : Bound) → IsNearBound a → IsNearBound b → IsNearBound (lesser a b)
 near_lesser NoPlan b first second = second
