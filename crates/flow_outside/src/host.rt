@@ -4,6 +4,7 @@ ghost use Rattle.std.specs.Prelude.{◌≡◌, ◌<◌, ◌≤◌, length, Err, 
 ghost use Rattle.std.specs.Result.{result_ok};
 ghost use Rattle.flow_outside.specs.Counts.{count_after};
 
+use crate::kept_open::KeptOpen;
 use crate::schedule::one_more;
 use crate::{Failed, Files, Sink, StoreFault};
 use std::io::{ErrorKind, Read, Seek, SeekFrom};
@@ -13,11 +14,15 @@ use std::{fs, io, rt};
 /// The system's files, which tell nothing of what they hold. A name is a path. Each error raises
 /// the count that its call belongs to by one, and nothing else changes a count; contracts see the
 /// two counts.
+///
+/// A file that is read in pieces is opened once: the one that was read last stays open until
+/// another one is read, a size is asked for, or something is stored.
 #[derive(Drop)]
-pub struct HostFiles<R> {
+pub struct HostFiles<R: rt::Files> {
     rt: R,
     faults: u64,
     store_faults: u64,
+    last_read: Option<KeptOpen<R::File>>,
 }
 
 /// The standard output, which doesn't tell what was written. Each error raises the count by one,
@@ -28,7 +33,7 @@ pub struct HostSink<R> {
     faults: u64,
 }
 
-impl<R> Model for HostFiles<R> {
+impl<R: rt::Files> Model for HostFiles<R> {
     ghost use Rattle.flow_outside.specs.Counts.{FilesCounts};
 
     ghost Value = { FilesCounts };
@@ -69,12 +74,25 @@ fn file_len<R: rt::Files>(rt: &R, name: &str) -> io::Result<u64> {
 }
 
 /// One read of a file, from an offset on.
-fn read_part<R: rt::Files>(rt: &R, name: &str, offset: u64, into: &mut [u8]) -> io::Result<usize>
+fn read_part<F: Read + Seek>(file: &mut F, offset: u64, into: &mut [u8]) -> io::Result<usize>
     ensures within { IfOk result (λ n. n ≤ length into.old) }
 {
-    let mut file = fs::open(rt, name)?;
     file.seek(SeekFrom::Start(offset))?;
     file.read(into)
+}
+
+/// The file of this name: the one that was read last, or else a new one.
+fn opened<R: rt::Files>(
+    rt: &R,
+    last_read: Option<KeptOpen<R::File>>,
+    name: &str,
+) -> io::Result<KeptOpen<R::File>> {
+    if let Some(kept) = last_read {
+        if kept.has_name(name) {
+            return Ok(kept);
+        }
+    }
+    Ok(KeptOpen::new(fs::open(rt, name)?, name))
 }
 
 /// One write to the standard output. To write nothing of a piece that isn't empty is an error.
@@ -90,6 +108,8 @@ fn write_part<R: Print>(rt: &R, bytes: &[u8]) -> io::Result<usize>
 }
 
 impl<R: rt::Files> HostFiles<R> {
+    ghost use Rattle.std.specs.Prelude.{◌≡◌, ◌≤◌, length, IfOk};
+
     /// The files that the runtime of `main` reaches. Both counts are 0. It takes no memory.
     pub fn new(rt: R) -> Self
         ensures { result ≡ record { faults = 0; store_faults = 0 } }
@@ -98,7 +118,19 @@ impl<R: rt::Files> HostFiles<R> {
             rt,
             faults: 0,
             store_faults: 0,
+            last_read: None,
         }
+    }
+
+    // One read, of the file that was read last if that has the name.
+    fn read_on(&mut self, name: &str, offset: u64, into: &mut [u8]) -> io::Result<usize>
+        ensures within { IfOk result (λ n. n ≤ length into.old) }
+        ensures same { self.new ≡ self.old }
+    {
+        let mut kept = opened(&self.rt, self.last_read.take(), name)?;
+        let count = read_part(kept.file(), offset, into)?;
+        self.last_read = Some(kept);
+        Ok(count)
     }
 }
 
@@ -110,6 +142,7 @@ impl<R: rt::Files> Files for HostFiles<R> {
     fn size(&mut self, name: &str) -> Result<u64, Failed>
         ensures after { self.new ≡ record self.old { faults = count_after result self.old.faults } }
     {
+        self.last_read = None;
         counted(file_len(&self.rt, name), &mut self.faults)
     }
 
@@ -117,7 +150,8 @@ impl<R: rt::Files> Files for HostFiles<R> {
         ensures within { IfOk result (λ n. n ≤ length into.old) }
         ensures after { self.new ≡ record self.old { faults = count_after result self.old.faults } }
     {
-        counted(read_part(&self.rt, name, offset, into), &mut self.faults)
+        let answer = self.read_on(name, offset, into);
+        counted(answer, &mut self.faults)
     }
 
     fn store(&mut self, name: &str, bytes: &[u8]) -> Result<(), StoreFault>
@@ -126,6 +160,7 @@ impl<R: rt::Files> Files for HostFiles<R> {
           store_faults = count_after result self.old.store_faults;
         } }
     {
+        self.last_read = None;
         let stored = fs::write(&self.rt, name, bytes);
         counted(stored, &mut self.store_faults).map_err(|_| StoreFault::Failed)
     }

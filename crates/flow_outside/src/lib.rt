@@ -41,6 +41,7 @@
 
 mod files;
 mod host;
+mod kept_open;
 mod loading;
 mod memory_files;
 mod memory_sink;
