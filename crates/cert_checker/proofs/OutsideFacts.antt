@@ -1,9 +1,9 @@
 -- Where a plan is outside a box first; and a plan that is nowhere outside is in the box.
-use Rattle.std.proofs.Common.{◌≡◌, ◌⊎◌, inl, inr, ℕ, zero, suc, ◌+◌, ◌<◌, ◌≤◌, Bool, true, false, List, [], ◌∷◌, length, get_or, All, Option, None, Some, refl, sym, subst, ◌∙◌, arith, slice_get}
+use Rattle.std.proofs.Common.{◌≡◌, ◌⊎◌, inl, inr, ℕ, zero, suc, ◌+◌, ◌<◌, ◌≤◌, Bool, true, false, List, [], ◌∷◌, length, get_or, All, Option, None, Some, refl, sym, ap, subst, ◌∙◌, arith, slice_get}
 use Rattle.std.specs.Prelude.{◌==◌, ◌&&◌, ◌||◌, not, nat_le, option_map, if◌then◌else◌}
 use Rattle.std.specs.List.{Any, list_any}
 use Rattle.std.specs.Option.{option_or}
-use Rattle.std.proofs.lemmas.Bool.{and_parts, cases_lt, eq-eqb, eqb-true, le-ltb, leb-true}
+use Rattle.std.proofs.lemmas.Bool.{and_from, and_parts, cases_lt, eq-eqb, eqb-true, le-leb, le-ltb, leb-true}
 use Rattle.std.proofs.lemmas.List.{get_or_default}
 use Rattle.std.proofs.lemmas.List.Elements.{All-weaker}
 use Rattle.std.proofs.lemmas.List.Folds.{Any-from_list_any, list_any-from_Any}
@@ -16,7 +16,7 @@ use Rattle.flow_types.specs.Trips.{IsTrip, IsWithinHours}
 use Rattle.flow_types.specs.Valid.{IsScenario}
 use Rattle.time_windows.specs.declared.access.Access.{Access}
 use Rattle.time_windows.specs.declared.access.Window.{Window}
-use Rattle.time_windows.specs.Boxes.{Box, IsBoxOf, IsInBox, IsInWindow, root_box}
+use Rattle.time_windows.specs.Boxes.{Box, IsBoxOf, IsInBox, IsInWindow, IsTripInBox, root_box}
 use Rattle.time_windows.proofs.AnyFacts.{any_map}
 use Rattle.time_windows.proofs.PlanFacts.{legs_up, planned_flight}
 use Rattle.time_windows.proofs.RootFacts.{flight_in}
@@ -204,3 +204,75 @@ module _ (parts : Parts) (valid : IsScenario parts) (root : Box) (inside : IsBox
           at_musts (root f) trip here node below must
       by_node f trip flight there here node must (inr past) =
           absurd (no_must f node flight there past must)
+
+-- And a plan in the box is nowhere outside.
+
+all_none : (test : ℕ → Bool) (n : ℕ) → ((k : ℕ) → test k ≡ false) → first_below test n ≡ None
+unfolding first_below
+all_none test zero fails = refl
+all_none test (suc n) fails = rw (all_none test n fails, fails n) refl
+
+into_window : (window : Option Window) (time : ℕ) → IsInWindow window time
+    → is_in_window window time ≡ true
+into_window None time is = absurd is
+into_window (Some window) time is =
+    and_from (nat_le window.lo time) (nat_le time window.hi) (le-leb window.lo time is.0)
+    (le-leb time window.hi is.1)
+
+module _ (row : ℕ → Access) (stops : List Stop) (inside : IsTripInBox row stops) (node : ℕ) where
+  none_stray : list_any (is_stray (row node).window node) stops ≡ false
+  none_stray = by (list_any (is_stray (row node).window node) stops) refl
+    where
+      none : Any (λ stop. is_stray (row node).window node stop ≡ true) stops → ⊥
+      none (k, stop, below, same, stray) =
+          let both = and_parts (stop.node == node) (not (is_in_window (row node).window stop.time))
+          stray in
+          let here : stop.node ≡ node = eqb-true stop.node node both.0 in
+          let within : IsInWindow (row stop.node).window stop.time =
+          subst (λ (s : Stop). IsInWindow (row s.node).window s.time) same
+          (inside.windows k stop below) in
+          let found : is_in_window (row node).window stop.time ≡ true =
+          into_window (row node).window stop.time
+          (subst (λ n. IsInWindow (row n).window stop.time) here within) in
+          let wrong : true ≡ false = sym both.1 ∙ ap not found in cc wrong
+
+      by : (b : Bool) → list_any (is_stray (row node).window node) stops ≡ b
+          → list_any (is_stray (row node).window node) stops ≡ false
+      by false is = is
+      by true is =
+          absurd (none (Any-from_list_any (is_stray (row node).window node) stops is))
+
+  none_missing : (must : Bool) → (row node).must ≡ must
+      → (must && not (list_any (is_at node) stops)) ≡ false
+  none_missing false is = refl
+  none_missing true is =
+      let found : list_any (is_at node) stops ≡ true =
+      list_any-from_Any (is_at node) stops
+      (any_map (λ stop. stop.node ≡ node) (λ stop. is_at node stop ≡ true) stops
+      (λ stop here at. eq-eqb stop.node node at) (inside.musts node is)) in
+      rw found refl
+
+  not_outside : is_outside (row node) node stops ≡ false
+  not_outside = rw (none_stray, none_missing (row node).must refl) refl
+
+nowhere_from : (box : Box) (plan : List (List Stop)) (from : ℕ)
+    → ((f : ℕ) (trip : List Stop) → slice_get plan f ≡ Some trip
+    → IsTripInBox (box (from + f)) trip)
+    → outside_from box from plan ≡ None
+nowhere_from box [] from inside = refl
+nowhere_from box (trip ∷ plan) from inside =
+    let first : IsTripInBox (box from) trip =
+    subst (λ f. IsTripInBox (box f) trip) (omega arith) (inside 0 trip refl) in
+    let here : node_outside (box from) trip ≡ None =
+    all_none (λ node. is_outside (box from node) node trip) most_nodes
+    (not_outside (box from) trip first) in
+    let more : outside_from box (from + 1) plan ≡ None =
+    nowhere_from box plan (from + 1) (λ f other is.
+    subst (λ k. IsTripInBox (box k) other) (omega arith) (inside (suc f) other is)) in
+    rw (here, more) refl
+
+pub nowhere_outside : (box : Box) (plan : List (List Stop)) → IsInBox box plan
+    → first_outside box plan ≡ None
+nowhere_outside box plan inside =
+    nowhere_from box plan 0 (λ f trip is.
+    subst (λ k. IsTripInBox (box k) trip) (omega arith) (inside f trip is))

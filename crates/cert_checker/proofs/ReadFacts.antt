@@ -1,5 +1,5 @@
--- A check line by line: after the line of an item it has come to the next one; where the text ends or
--- is refused, or a line is, that is the verdict on a text.
+-- A check line by line: after the line of an item it has come to the next one; where the text ends
+-- or is refused, or a line is, that is the verdict on a text.
 use Rattle.std.proofs.Common.{◌≡◌, ℕ, List, [], ◌∷◌, ◌++◌, length, Option, Some, None, Result, Ok, Err, refl, sym, ap, subst, ◌∙◌, append_assoc}
 use Rattle.flow_types.specs.declared.parts.Parts.{Parts}
 use Rattle.flow_outside.specs.Held.{Held, IfTold, bytes_told}
@@ -110,7 +110,8 @@ module _ (parts : Parts) (root : Box) (digest : List ℕ) (held : Option Held)
     line_refused fault step = by (bytes_told held name) refl
       where
         decided : (rest : List ℕ)
-            → Decides parts root digest 1 (read_from parts stage.Head ((come.taken ++ line) ++ rest))
+            → Decides parts root digest 1
+            (read_from parts stage.Head ((come.taken ++ line) ++ rest))
             (front_at come.tight []) begun (Err (fault_at old.number fault))
         decided rest =
             from_here rest (Err (fault_at old.number fault))

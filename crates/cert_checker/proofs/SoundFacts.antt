@@ -1,7 +1,8 @@
--- An accepted claim holds, whoever made the text: each plan in the first box that keeps every rule is
--- allowed by the bounds so far, or is in a box whose node is still to come.
+-- An accepted claim holds, whoever made the text: each plan in the first box that keeps every rule
+-- is allowed by the bounds so far, or is in a box whose node is still to come.
 use Rattle.std.proofs.Common.{◌≡◌, ◌⊎◌, inl, inr, ℕ, zero, suc, ◌+◌, ◌-◌, Bool, true, false, List, [], ◌∷◌, ◌++◌, length, Option, None, Some, Result, Ok, Err, refl, sym, ap, subst, ℤ, arith}
-use Rattle.std.specs.Prelude.{◌&&◌, IfOk, int_le, nat_lt}
+use Rattle.std.specs.Prelude.{IfOk, int_le, nat_lt}
+use Rattle.std.proofs.lemmas.Bool.{and_parts}
 use Rattle.std.proofs.lemmas.Int.{ints}
 use Rattle.flow_outside.specs.Held.{Held}
 use Rattle.flow_types.specs.declared.bound.Bound.{Bound}
@@ -19,6 +20,7 @@ use Rattle.time_windows.specs.Plans.{IsBoundIn, IsPlanIn}
 use Rattle.time_windows.specs.Splits.{early_branch, late_branch}
 use Rattle.time_windows.specs.Tight.{IsTightened}
 use Rattle.time_windows.proofs.LawFacts.{share_plan}
+use Rattle.time_windows.proofs.MadeFacts.{early_inside, late_inside, within_inside}
 use Rattle.time_windows.proofs.PlanFacts.{plan_kept}
 use Rattle.bytime_model.specs.declared.multiplier.Multiplier.{Multiplier}
 use Rattle.branch_tree.specs.declared.leaf.Leaf.{Leaf as LeafKind}
@@ -49,7 +51,6 @@ use Rattle.cert_checker.specs.Outside.{first_outside}
 use Rattle.cert_checker.specs.Steps.{IsAfterLeaf, IsLeafAt, IsLeafLineAt, IsMadeSplit, IsRowAt, IsRowLine, IsRowsAt, IsSplitAt, IsStep, IsStepAt, IsTreeStep, Outcome, at_front, begun, bound_fault, count_fault, digest_fault, later_told, leaf_of, or_fault, outside_fault, plan_fault, plan_told, progress_told, same_cost, trip_told, trips_told, unless_fault, with_bound}
 use Rattle.cert_checker.specs.Verdicts.{IsVerdict, IsVerdictOn, claim_at, claim_told, in_line}
 use Rattle.cert_checker.proofs.OutsideFacts.{in_box}
-use Rattle.cert_checker.proofs.SideFacts.{early_inside, late_inside, within_inside}
 
 abbrev ok_or : {X E : Type 0} → X → Result X E → X
 ok_or other (Ok x) = x
@@ -60,26 +61,22 @@ in_line_ok : (line : ℕ) (found : Result CertClaim StepFault) (claim : CertClai
 in_line_ok line (Ok other) claim is = ap Ok (ap (ok_or claim) is)
 in_line_ok line (Err fault) claim is = absurd (let e : ⊥ = cc is in e)
 
-and_true : (a b : Bool) → (a && b) ≡ true → (a ≡ true) × (b ≡ true)
-and_true true b is = (refl, is)
-and_true false b is = absurd (let e : ⊥ = cc is in e)
-
 cost_is : (a b : ℤ) → same_cost a b ≡ true → b ≡ a
 cost_is a b is =
-    let both = and_true (int_le a b) (int_le b a) is in
+    let both = and_parts (int_le a b) (int_le b a) is in
     let first = both.0 in
     let second = both.1 in
     omega (arith, ints, first, second)
+
+abbrev pub AreBoxesOf : Parts → List Box → Type 0
+AreBoxesOf parts [] = Unit {0}
+AreBoxesOf parts (box ∷ boxes) = IsBoxOf parts box × AreBoxesOf parts boxes
 
 module _ (parts : Parts) (root : Box) (digest : List ℕ) (valid : IsScenario parts)
     (root_of : IsBoxOf parts root) where
   abbrev IsInNext : Option Box → List (List Stop) → Type 0
   IsInNext None plan = ⊥
   IsInNext (Some box) plan = IsInBox box plan
-
-  abbrev AreBoxesOf : List Box → Type 0
-  AreBoxesOf [] = Unit {0}
-  AreBoxesOf (box ∷ boxes) = IsBoxOf parts box × AreBoxesOf boxes
 
   -- where the plan is
   abbrev IsOpen : Option Box → List Box → Bound → List (List Stop) → Type 0
@@ -101,7 +98,7 @@ module _ (parts : Parts) (root : Box) (digest : List ℕ) (valid : IsScenario pa
     plans : (plan : List (List Stop)) → IsPlanIn parts root plan
         → IsOpen front.present front.waiting progress.bound plan
     present : IfThere (IsBoxOf parts) front.present
-    waiting : AreBoxesOf front.waiting
+    waiting : AreBoxesOf parts front.waiting
     over : front.present ≡ None → front.waiting ≡ []
     truth : IsTruth progress.told
 
@@ -117,7 +114,7 @@ module _ (parts : Parts) (root : Box) (digest : List ℕ) (valid : IsScenario pa
       inside
 
   module _ (box : Box) (boxes : List Box) (progress : Progress) (outcome : Outcome)
-      (box_of : IsBoxOf parts box) (boxes_of : AreBoxesOf boxes) (truth : IsTruth progress.told)
+      (box_of : IsBoxOf parts box) (boxes_of : AreBoxesOf parts boxes) (truth : IsTruth progress.told)
       (plans : (plan : List (List Stop)) → IsPlanIn parts root plan
       → IsOpen (Some box) boxes progress.bound plan) where
     split_sound : (flight node time : ℕ)
@@ -209,8 +206,8 @@ module _ (parts : Parts) (root : Box) (digest : List ℕ) (valid : IsScenario pa
           truth = truth;
         })
           where
-            are : AreBoxesOf (first ∷ waiting)
-            are = subst AreBoxesOf (sym same) boxes_of
+            are : AreBoxesOf parts (first ∷ waiting)
+            are = subst (AreBoxesOf parts) (sym same) boxes_of
 
             goes : (plan : List (List Stop)) → IsPlanIn parts root plan
                 → IsInOne (first ∷ waiting) plan
@@ -440,7 +437,8 @@ module _ (parts : Parts) (root : Box) (digest : List ℕ) (valid : IsScenario pa
           (λ now. later_still progress now it sound.truth))
 
   claim_sound : (front : Front) (progress : Progress) (claim : CertClaim)
-      → IsSound front progress → claim_at front.present progress ≡ Ok claim → IsTrueClaim parts root claim
+      → IsSound front progress → claim_at front.present progress ≡ Ok claim
+      → IsTrueClaim parts root claim
   claim_sound front progress claim sound is = by front.present refl is
     where
       bounded : front.present ≡ None → IsBoundIn parts root progress.bound
@@ -476,7 +474,8 @@ module _ (parts : Parts) (root : Box) (digest : List ℕ) (valid : IsScenario pa
 
   verdict_sound : (items : List CertItem) (line : ℕ) (fault : Option LineFault) (front : Front)
       (progress : Progress) (claim : CertClaim) → IsSound front progress
-      → IsVerdictOn parts root digest line items fault front progress (Ok claim) → IsTrueClaim parts root claim
+      → IsVerdictOn parts root digest line items fault front progress (Ok claim)
+      → IsTrueClaim parts root claim
   verdict_sound [] line (Some fault) front progress claim sound is =
       absurd (let e : ⊥ = cc is in e)
   verdict_sound [] line None front progress claim sound is =

@@ -4,3 +4,4 @@ pub mod Fronts
 pub mod Outside
 pub mod Steps
 pub mod Verdicts
+pub mod Accepted

@@ -15,6 +15,7 @@ ghost use Rattle.cert_checker.specs.declared.fault.CheckFault.TheVariants as che
 
 use crate::claim::CertClaim;
 use crate::fault::{CertCause, CertFault, CheckFault, StepError, StepFault, bad_kind};
+use crate::given::Given;
 use crate::progress::{Progress, Told};
 use crate::rooms::{Rooms, rooms_for};
 use crate::standing::Standing;
@@ -116,22 +117,22 @@ fn claim_of(now: Standing) -> Result<CertClaim, StepFault>
 // Reads on to the end.
 fn read_on<F: Files>(
     files: &mut F,
-    s: &Scenario,
-    root: &Boxes,
-    digest: &Digest,
+    given: Given,
     reader: &mut CertReader,
     rooms: &mut Rooms,
     begun: Standing,
 ) -> Result<CertClaim, CheckFault>
-    requires rooms { AreRoomsFor (parts_of s.now) rooms.old }
-    requires standing { IsStanding (parts_of s.now) begun }
+    requires rooms { AreRoomsFor (parts_of given.s.now) rooms.old }
+    requires standing { IsStanding (parts_of given.s.now) begun }
     requires nodes { begun.progress.nodes < reader.old.number }
-    requires come { HasCome (parts_of s.now) (box_of root.now) digest.now
+    requires come { HasCome (parts_of given.s.now) (box_of given.root.now) given.digest.now
         (F.seen files.old).held reader.old.pieces.name reader.old begun }
-    ensures ok { IfOk result (λ claim. IsChecked (parts_of s.now) (box_of root.now) digest.now
-        (F.seen files.old).held reader.old.pieces.name (Ok claim)) }
-    ensures refused { IfRefused result (λ fault. IsChecked (parts_of s.now) (box_of root.now)
-        digest.now (F.seen files.old).held reader.old.pieces.name (Err fault)) }
+    ensures ok { IfOk result (λ claim. IsChecked (parts_of given.entry.s.now)
+        (box_of given.entry.root.now) given.entry.digest.now (F.seen files.old).held
+        reader.old.pieces.name (Ok claim)) }
+    ensures refused { IfRefused result (λ fault. IsChecked (parts_of given.entry.s.now)
+        (box_of given.entry.root.now) given.entry.digest.now (F.seen files.old).held
+        reader.old.pieces.name (Err fault)) }
     ensures short { IfTooLong result (λ size. ⊥) }
     ensures read { OnReadFault result (HasName (F.seen files.old).held reader.old.pieces.name
         → Rose (F.seen files.old).faults (F.seen files.new).faults) }
@@ -142,13 +143,13 @@ fn read_on<F: Files>(
     let mut now = begun;
     loop {
         let line = reader.line();
-        let Some(item) = reader.next(files, s)? else {
+        let Some(item) = reader.next(files, given.s)? else {
             return match claim_of(now) {
                 Ok(claim) => Ok(claim),
                 Err(fault) => Err(in_line(line, StepError::Fault(fault))),
             };
         };
-        now = match step(rooms, s, root, digest, now, item) {
+        now = match step(rooms, given, now, item) {
             Ok(next) => next,
             Err(error) => return Err(in_line(line, error)),
         };
@@ -157,16 +158,16 @@ fn read_on<F: Files>(
 
 /// Checks the certificate that the name holds, of the plans in the first box, which lies within the
 /// root box of the scenario. Where it is accepted its claim holds, whoever wrote it: no plan in the
-/// first box that keeps every rule costs less than the bound; and a plan that is claimed keeps every
-/// rule, costs the claimed cost, and is in the first box.
+/// first box that keeps every rule costs less than the bound; and a plan that is claimed keeps
+/// every rule, costs the claimed cost, and is in the first box.
 ///
 /// `Refused` has the first fault of the text. It and the claim are the verdict on what the name
-/// holds, where the files tell that. `Read` comes only where the files' count of faults rose in this
-/// call or stands at its last value, or the files tell that they don't have the name; `TooLong`
-/// where the name holds more than 1 GiB, and says how many bytes. After any other answer than `Read`
-/// the count stays. It takes memory for the room of leaves (`LeafWork`), loads, the first box and
-/// the changes on the path down from it, a piece and a line of the text, and the rows of a leaf and
-/// the plan; so it doesn't grow with the text.
+/// holds, where the files tell that. `Read` comes only where the files' count of faults rose in
+/// this call or stands at its last value, or the files tell that they don't have the name;
+/// `TooLong` where the name holds more than 1 GiB, and says how many bytes. After any other answer
+/// than `Read` the count stays. It takes memory for the room of leaves (`LeafWork`), loads, the
+/// first box and the changes on the path down from it, a piece and a line of the text, and the rows
+/// of a leaf and the plan; so it doesn't grow with the text.
 pub fn check_from<F: Files>(
     alloc: Global,
     s: &Scenario,
@@ -194,12 +195,13 @@ pub fn check_from<F: Files>(
     let mut reader = CertReader::new(alloc, files, name)?;
     let mut rooms = rooms_for(alloc, s)?;
     let begun = start(alloc, s, root)?;
-    read_on(files, s, root, digest, &mut reader, &mut rooms, begun)
+    let given = Given { s, root, digest };
+    read_on(files, given, &mut reader, &mut rooms, begun)
 }
 
-/// Checks the certificate that the name holds, of all plans: the first box is the root box, in which
-/// each plan is that keeps every rule (`time_windows::trips_are_in_the_root_box`). Its answers are
-/// those of `check_from`; besides, it takes the memory of a root box.
+/// Checks the certificate that the name holds, of all plans: the first box is the root box, in
+/// which each plan is that keeps every rule (`time_windows::trips_are_in_the_root_box`). Its
+/// answers are those of `check_from`; besides, it takes the memory of a root box.
 pub fn check<F: Files>(
     alloc: Global,
     s: &Scenario,

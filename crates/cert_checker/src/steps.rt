@@ -2,12 +2,12 @@
 ghost use Rattle.std.specs.Prelude.{◌≡◌, ◌<◌, ◌^◌, IfOk, Some, []};
 ghost use Rattle.flow_types.specs.Scenario.{parts_of};
 ghost use Rattle.time_windows.specs.Held.{box_of};
-ghost use Rattle.time_windows.specs.Boxes.{Box};
 ghost use Rattle.cert_checker.specs.Checks.{AreRoomsFor, HasNodes, IfThere, IsFitItem, IsOnPath, IsOpenDraft, IsStanding, StepsTo, TellsTo};
 ghost use Rattle.cert_checker.specs.Fronts.{front_of};
 ghost use Rattle.cert_checker.specs.Steps.{IsStep, later_told};
 
 use crate::fault::{StepError, bad_kind};
+use crate::given::Given;
 use crate::plan_lines::{check_bound, check_count, check_digest, plan_line, trip_line};
 use crate::progress::{LeafDraft, Progress, RowLeaf};
 use crate::rooms::Rooms;
@@ -15,10 +15,8 @@ use crate::standing::Standing;
 use crate::tree_lines::{leaf_line, row_line, rows_line, split_line};
 use branch_tree::{Branch, Leaf, Walk};
 use bytime_model::Multipliers;
-use certificate::{CertItem, Digest};
-use flow_types::Scenario;
+use certificate::CertItem;
 use std::alloc::Global;
-use time_windows::Boxes;
 
 // A leaf of so many rows, of which none was read.
 fn begin_leaf(alloc: Global, kind: RowLeaf, weight: u64, rows: u32) -> LeafDraft
@@ -35,26 +33,27 @@ fn begin_leaf(alloc: Global, kind: RowLeaf, weight: u64, rows: u32) -> LeafDraft
 // A line where a node of the tree is to come.
 fn tree_line(
     rooms: &mut Rooms,
-    s: &Scenario,
-    digest: &Digest,
+    given: Given,
     walk: Walk,
     leaf: Option<LeafDraft>,
     progress: Progress,
     item: CertItem,
 ) -> Result<Standing, StepError>
-    requires rooms { AreRoomsFor (parts_of s.now) rooms.old }
-    requires path { IsOnPath (parts_of s.now) walk }
+    requires rooms { AreRoomsFor (parts_of given.s.now) rooms.old }
+    requires path { IsOnPath (parts_of given.s.now) walk }
     requires leaf { IfThere IsOpenDraft leaf }
     requires few { progress.nodes < 2 ^ 62 }
     requires item { IsFitItem item }
-    ensures step { (root : Box) → StepsTo result (IsStep (parts_of s.now) root digest.now
-        (front_of (Some walk) leaf) progress item) }
-    ensures standing { IfOk result (IsStanding (parts_of s.now)) }
+    ensures step { StepsTo result (IsStep (parts_of given.entry.s.now)
+        (box_of given.entry.root.now) given.entry.digest.now (front_of (Some walk) leaf) progress
+        item) }
+    ensures standing { IfOk result (IsStanding (parts_of given.entry.s.now)) }
     ensures nodes { IfOk result (HasNodes progress.nodes) }
-    ensures rooms { AreRoomsFor (parts_of s.now) rooms.new }
+    ensures rooms { AreRoomsFor (parts_of given.entry.s.now) rooms.new }
 {
+    let s = given.s;
     match item {
-        CertItem::Head(stated) => match check_digest(digest, stated) {
+        CertItem::Head(stated) => match check_digest(given.digest, stated) {
             Err(fault) => Err(StepError::Fault(fault)),
             Ok(()) => Ok(Standing {
                 walk: Some(walk),
@@ -86,24 +85,22 @@ fn tree_line(
 // A line after the tree.
 fn later_line(
     rooms: &mut Rooms,
-    s: &Scenario,
-    root: &Boxes,
-    digest: &Digest,
+    given: Given,
     progress: Progress,
     item: CertItem,
 ) -> Result<Progress, StepError>
-    requires rooms { AreRoomsFor (parts_of s.now) rooms.old }
-    ensures told { TellsTo result
-        (later_told (parts_of s.now) (box_of root.now) digest.now progress item) }
-    ensures rooms { AreRoomsFor (parts_of s.now) rooms.new }
+    requires rooms { AreRoomsFor (parts_of given.s.now) rooms.old }
+    ensures told { TellsTo result (later_told (parts_of given.entry.s.now)
+        (box_of given.entry.root.now) given.entry.digest.now progress item) }
+    ensures rooms { AreRoomsFor (parts_of given.entry.s.now) rooms.new }
 {
     match item {
-        CertItem::Head(stated) => match check_digest(digest, stated) {
+        CertItem::Head(stated) => match check_digest(given.digest, stated) {
             Err(fault) => Err(StepError::Fault(fault)),
             Ok(()) => Ok(progress),
         },
-        CertItem::Plan(cost) => plan_line(rooms, s, root, progress, cost),
-        CertItem::Trip(trip) => trip_line(rooms, s, root, progress, trip),
+        CertItem::Plan(cost) => plan_line(rooms, given.s, given.root, progress, cost),
+        CertItem::Trip(trip) => trip_line(rooms, given.s, given.root, progress, trip),
         CertItem::Bound(stated) => match check_bound(&progress, stated) {
             Err(fault) => Err(StepError::Fault(fault)),
             Ok(()) => Ok(progress),
@@ -119,21 +116,20 @@ fn later_line(
 /// Takes the item of the next line.
 pub fn step(
     rooms: &mut Rooms,
-    s: &Scenario,
-    root: &Boxes,
-    digest: &Digest,
+    given: Given,
     now: Standing,
     item: CertItem,
 ) -> Result<Standing, StepError>
-    requires rooms { AreRoomsFor (parts_of s.now) rooms.old }
-    requires standing { IsStanding (parts_of s.now) now }
+    requires rooms { AreRoomsFor (parts_of given.s.now) rooms.old }
+    requires standing { IsStanding (parts_of given.s.now) now }
     requires few { now.progress.nodes < 2 ^ 62 }
     requires item { IsFitItem item }
-    ensures step { StepsTo result (IsStep (parts_of s.now) (box_of root.now) digest.now
-        (front_of now.walk now.leaf) now.progress item) }
-    ensures standing { IfOk result (IsStanding (parts_of s.now)) }
+    ensures step { StepsTo result (IsStep (parts_of given.entry.s.now)
+        (box_of given.entry.root.now) given.entry.digest.now (front_of now.walk now.leaf)
+        now.progress item) }
+    ensures standing { IfOk result (IsStanding (parts_of given.entry.s.now)) }
     ensures nodes { IfOk result (HasNodes now.progress.nodes) }
-    ensures rooms { AreRoomsFor (parts_of s.now) rooms.new }
+    ensures rooms { AreRoomsFor (parts_of given.entry.s.now) rooms.new }
 {
     let Standing {
         walk,
@@ -141,9 +137,9 @@ pub fn step(
         progress,
     } = now;
     match walk {
-        Some(walk) => tree_line(rooms, s, digest, walk, leaf, progress, item),
+        Some(walk) => tree_line(rooms, given, walk, leaf, progress, item),
         None => {
-            let progress = later_line(rooms, s, root, digest, progress, item)?;
+            let progress = later_line(rooms, given, progress, item)?;
             Ok(Standing {
                 walk: None,
                 leaf,

@@ -1,5 +1,5 @@
 -- What is read of a leaf's line and of its rows is within its range.
-use Rattle.std.proofs.Common.{◌≡◌, ℕ, ◌≤◌, Bool, true, false, List, length, Option, Some, None, Result, Ok, Err, refl, ap, subst, arith}
+use Rattle.std.proofs.Common.{◌≡◌, ℕ, ◌≤◌, Bool, true, false, List, length, Option, Some, None, Result, Ok, Err, refl, ap, subst}
 use Rattle.std.specs.Prelude.{nat_le, nat_lt, ◌&&◌, slice_get}
 use Rattle.std.proofs.lemmas.Bool.{and_parts, leb-true}
 use Rattle.flow_types.specs.declared.flight.Flight.{Flight}
@@ -99,7 +99,8 @@ module _ (left : FieldsLeft) (it : CertItem) where
   head_ranged is =
       let version = bind_ok (number_from 1 1 left) _ it is in
       let word = bind_ok (field_from version.0.1) _ it version.2 in
-      let digest = bind_ok (digest_or_bad version.0.1.number (digest_of_word word.0.0)) _ it word.2 in
+      let digest =
+      bind_ok (digest_or_bad version.0.1.number (digest_of_word word.0.0)) _ it word.2 in
       let ended = bind_ok (end_of_line word.0.1) _ it digest.2 in
       is_item (item.Head digest.0) it tt ended.2
 

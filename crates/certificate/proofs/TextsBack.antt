@@ -22,7 +22,7 @@ use Rattle.certificate.specs.declared.stage.Stage.{Stage}
 use Rattle.certificate.specs.declared.stage.Stage.TheVariants as stage
 use Rattle.certificate.specs.ItemLines.{cert_items, item_text, leaf_items, node_items, plan_items, row_items, tree_items, trip_items}
 use Rattle.certificate.specs.Lines.{line_of, row_fields, stop_fields}
-use Rattle.certificate.specs.Ranges.{IsCountInRange, IsItemInRange, IsTripInRange}
+use Rattle.certificate.specs.Ranges.{IsItemInRange, IsTripInRange}
 use Rattle.certificate.specs.Reading.{Read, read_from, read_whole, with_item}
 use Rattle.certificate.specs.Stages.{is_cut, is_node, may_stand, next_at, rows_left, stage_after, trees_left, trips_left, waiting_at}
 use Rattle.certificate.specs.Texts.{Certified, bound_text, cert_text, count_text, head_text, leaf_text, node_text, plan_text, rows_text, tree_text, trips_text}

@@ -7,6 +7,7 @@ use std::marker::Model;
 
 /// What a certificate says of a day: the digest of the day's text, the tree by which the bound was
 /// found, a plan, if one was found, and the bound. Contracts see these.
+#[derive(Drop)]
 pub struct Certificate<'a> {
     pub(crate) digest: Digest,
     pub(crate) tree: &'a Tree,

@@ -23,6 +23,7 @@ impl Model for Digest {
 
 impl Digest {
     ghost use Rattle.std.specs.Prelude.{◌≡◌, length};
+    ghost use Rattle.hex.specs.Hex.{encode_lower};
     ghost use Rattle.sha2.specs.Sha256.{sha256};
 
     /// The digest of a text. It takes no memory, and time for each byte.
@@ -39,6 +40,15 @@ impl Digest {
         ensures { result ≡ self.now }
     {
         Digest { bytes: self.bytes }
+    }
+
+    /// Its 64 digits, letters in lower case.
+    pub fn digits(&self) -> [u8; 64]
+        ensures { result ≡ encode_lower self.now }
+    {
+        let mut word = [0; 64];
+        hex::encode_to_slice(&self.bytes, &mut word).unwrap();
+        word
     }
 
     /// Its bytes.

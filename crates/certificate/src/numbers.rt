@@ -1,8 +1,8 @@
 //! Numbers as certificates spell them: in one form each.
 ghost use Rattle.std.specs.Prelude.{◌≡◌, ◌<◌, ◌≤◌, ◌^◌, IfSome, None, Some, if◌then◌else◌, length, option_map, pos, unsigned_abs};
-ghost use Rattle.std.specs.Str.{all_ascii_digits};
-ghost use Rattle.std.specs.Str.Parse.{digits_value};
-ghost use Rattle.certificate.specs.Numbers.{is_bare, most_digits, natural_of, negative_of, whole_of};
+ghost use Rattle.certificate.specs.Numbers.{is_bare, natural_of, negative_of, whole_of};
+
+use flow_types::spelled_number;
 
 // As many digits as the largest number has that has a range.
 const MOST_DIGITS: usize = 38;
@@ -39,23 +39,6 @@ fn is_bare(bytes: &[u8]) -> bool
         None => false,
         Some((first, rest)) => rest.is_empty() || *first != b'0',
     }
-}
-
-// The number that the bytes spell, if they are all digits.
-fn spelled_number(bytes: &[u8]) -> Option<u128>
-    requires { length bytes.now ≤ most_digits }
-    ensures value { result ≡ (if all_ascii_digits bytes.now then Some (digits_value 10 bytes.now)
-        else None) }
-    ensures small { IfSome result (λ n. n < 10 ^ 38) }
-{
-    let mut value = 0u128;
-    for byte in bytes {
-        if !byte.is_ascii_digit() {
-            return None;
-        }
-        value = 10 * value + u128::from(*byte - b'0');
-    }
-    Some(value)
 }
 
 // The negative of a number that isn't 0.

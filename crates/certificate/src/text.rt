@@ -5,7 +5,6 @@ ghost use Rattle.std.specs.Option.{option_copied};
 ghost use Rattle.flow_types.specs.Feasible.{IsFeasible};
 ghost use Rattle.flow_types.specs.Scenario.{parts_of};
 ghost use Rattle.flow_types.specs.Trips.{place_at};
-ghost use Rattle.hex.specs.Hex.{encode_lower};
 ghost use Rattle.text_records.specs.Lines.{field_text};
 ghost use Rattle.certificate.specs.Items.{name_at};
 ghost use Rattle.certificate.specs.Lines.{bound_number, fields_text, leaf_fields, line_of, row_fields, split_fields, stop_fields, whole_word};
@@ -72,17 +71,8 @@ fn put_head<O: Out>(out: &mut O, digest: &Digest) -> Result<(), O::Error>
         (head_text digest.now) }
 {
     out.put(b"cert,1")?;
-    put_field(out, &digits_of(digest))?;
+    put_field(out, &digest.digits())?;
     out.put(b"\n")
-}
-
-// The 64 digits of a digest.
-fn digits_of(digest: &Digest) -> [u8; 64]
-    ensures { result ≡ encode_lower digest.now }
-{
-    let mut word = [0; 64];
-    hex::encode_to_slice(digest.bytes(), &mut word).unwrap();
-    word
 }
 
 // Adds the line of a word alone.

@@ -10,10 +10,10 @@ invariant-loop-now g l =
     let before = g.F.Files.seen l.fn.files in
     let now = g.F.Files.seen l.files in
     record {
-      come : HasCome (parts_of l.s) (box_of l.root) l.digest before.held
-          l.fn.reader.pieces.name l.reader l.now;
-      standing : IsStanding (parts_of l.s) l.now;
-      rooms : AreRoomsFor (parts_of l.s) l.rooms;
+      come : HasCome (parts_of l.given.s.now) (box_of l.given.root.now) l.given.digest.now
+          before.held l.fn.reader.pieces.name l.reader l.now;
+      standing : IsStanding (parts_of l.given.s.now) l.now;
+      rooms : AreRoomsFor (parts_of l.given.s.now) l.rooms;
       nodes : l.now.progress.nodes < l.reader.number;
       held : now.held ≡ before.held;
       stores : now.store_faults ≡ before.store_faults;
