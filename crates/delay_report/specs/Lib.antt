@@ -1,3 +1,4 @@
 pub mod Claims
+pub mod Refusals
 pub mod Texts
 pub mod Verdicts

@@ -1,5 +1,5 @@
-//! What is printed of a day that was planned, and of a plan that was judged: texts of values, which
-//! name no file and no search.
+//! What is printed of a day that was planned, of a plan that was judged, and of a certificate that
+//! was checked: texts of values, which name no file and no search.
 //!
 //!     // The four lines that say how good a plan is.
 //!     fn lines(
@@ -16,20 +16,23 @@
 //! A [`Claim`] is a plan, if there is one, what it costs, a bound and the number of nodes of the
 //! tree that proves it. Only [`Claim::of`] makes one: it counts the cost once, and says what it is.
 //! `plan_report` gives the claim's four lines and a line for each trip of its plan, `claim_report`
-//! the four lines alone, and `broken_line` and `keeps_line` what is printed of a plan that was
-//! judged: each byte by byte as in `specs/Texts.antt` and `specs/Verdicts.antt`. A report is read
-//! as its plan (`reports_are_read_as_their_plans`), and two of the same bytes tell the same cost,
-//! bound and number of nodes (`reports_tell_their_claims`).
+//! the four lines alone, `broken_line` and `keeps_line` what is printed of a plan that was judged,
+//! and `refused_line` the first fault of a certificate: each byte by byte as in `specs/Texts.antt`,
+//! `specs/Verdicts.antt` and `specs/Refusals.antt`. A report is read as its plan
+//! (`reports_are_read_as_their_plans`), and two of the same bytes tell the same cost, bound and
+//! number of nodes (`reports_tell_their_claims`).
 //!
 //! Memory: the text that is made, and one line. Time: the length of the text.
 #![tactic(auto)]
 
 mod claim;
 mod laws;
+mod refusals;
 mod report;
 mod verdicts;
 
 pub use claim::{Claim, Outcome};
 pub use laws::{reports_are_read_as_their_plans, reports_tell_their_claims};
+pub use refusals::refused_line;
 pub use report::{claim_report, plan_report};
 pub use verdicts::{broken_line, keeps_line};

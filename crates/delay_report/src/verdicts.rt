@@ -37,8 +37,8 @@ pub fn broken_line(
     Ok(line)
 }
 
-// Adds the fields that say which rule is broken, and where.
-fn put_broken(
+/// Adds the fields that say which rule is broken, and where.
+pub fn put_broken(
     alloc: Global,
     out: &mut Vec<u8>,
     s: &Scenario,

@@ -4,6 +4,7 @@ use Rattle.flow_outside.specs.Counts.{Rose}
 use Rattle.flow_outside.specs.Held.{Held, HasName}
 use Rattle.flow_outside.specs.Seen.{AreKept, FilesSeen}
 use Rattle.flow_types.specs.declared.parts.Parts.{Parts}
+use Rattle.flow_types.specs.Limits.{most_text_bytes}
 use Rattle.flow_cli.specs.declared.answer.Answer.{Answer}
 use Rattle.flow_cli.specs.declared.answer.EarlyEnd.{EarlyEnd}
 use Rattle.flow_cli.specs.declared.answer.EarlyEnd.TheVariants.{Answered, OutOfMemory}
@@ -13,14 +14,14 @@ use Rattle.flow_cli.specs.Outside.{Printed, change, printed_by}
 use Rattle.flow_cli.specs.Reading.{IsDayOf, IsFailed, IsTooMany}
 
 -- a count that rose since some later moment rose since before it
-rose_since : (before mid now : ℕ) → before ≤ mid → Rose mid now → Rose before now
+pub rose_since : (before mid now : ℕ) → before ≤ mid → Rose mid now → Rose before now
 rose_since before mid now later rose few = let after = rose few in omega arith
 
 -- What holds of the files of a moment holds of those of an earlier one, from which on they were
 -- kept.
 module _ (before mid now : FilesSeen) (kept : AreKept before mid) (parts : Parts)
     (plan : List ℕ) where
-  failed_since : (answer : Printed) → IsFailed (change mid now) plan answer
+  pub failed_since : (answer : Printed) → IsFailed (change mid now) plan answer
       → IsFailed (change before now) plan answer
   failed_since answer fault =
       record {
@@ -38,7 +39,8 @@ module _ (before mid now : FilesSeen) (kept : AreKept before mid) (parts : Parts
   since answer (inr (inl none)) =
       inr (inl (subst (λ (held : Option Held). IsNoPlan held parts plan answer) kept.held none))
   since answer (inr (inr (inl many))) =
-      inr (inr (inl (subst (λ (held : Option Held). IsTooMany held plan answer) kept.held many)))
+      inr (inr (inl (subst (λ (held : Option Held). IsTooMany most_text_bytes held plan answer)
+      kept.held many)))
   since answer (inr (inr (inr fault))) = inr (inr (inr (failed_since answer fault)))
 
   module _ (name : List ℕ) (day : IsDayOf before.held name parts) where

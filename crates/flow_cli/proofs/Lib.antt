@@ -1,4 +1,6 @@
 pub mod AnswerFacts
+pub mod CertifyingFacts
+pub mod CheckingFacts
 pub mod JudgingFacts
 mod WorkedCases
 mod WorkedRuns

@@ -1,5 +1,5 @@
 -- What the record of a search of the root box says of its day.
-use Rattle.std.proofs.Common.{List, [], ◌∷◌, length, slice_get, ◌≡◌, ℕ, zero, suc, ◌+◌, ◌-◌, ◌*◌, ◌≤◌, ◌⊎◌, inl, inr, Option, None, Some, IfSome, option_map, ℤ, All, refl, ap, ◌∙◌, subst, if◌then◌else◌, arith}
+use Rattle.std.proofs.Common.{List, [], ◌∷◌, length, slice_get, ◌≡◌, ℕ, zero, suc, ◌+◌, ◌-◌, ◌*◌, ◌≤◌, ◌⊎◌, inl, inr, Option, None, Some, IfSome, option_map, ℤ, All, refl, sym, ap, ◌∙◌, subst, if◌then◌else◌, arith}
 use Rattle.std.proofs.Math.Path.{fun_ext}
 use Rattle.std.proofs.lemmas.List.Elements.{All-head, All-tail, All-weaker}
 use Rattle.std.proofs.lemmas.Cmp.{int_eq_equiv}
@@ -17,12 +17,13 @@ use Rattle.time_windows.proofs.BoxFacts.{in_box_same}
 use Rattle.time_windows.specs.Plans.{IsBoundIn, IsPlanIn}
 use Rattle.tree_search.specs.Budgets.{options_in}
 use Rattle.tree_search.specs.Nodes.{cost_of, cutoff_after}
-use Rattle.tree_search.specs.Records.{IsClosed, IsSearchRecord}
+use Rattle.tree_search.specs.Records.{IsClosed, IsSearchRecord, last_cost, last_plan}
 use Rattle.tree_search.specs.declared.found.Budget.{Budget}
 use Rattle.tree_search.specs.declared.found.Found.{Found}
 use Rattle.delay_report.specs.declared.claim.Outcome.TheVariants.{Open, Optimal}
 use Rattle.flow_cli.specs.declared.status.Status.TheVariants.{Done, Infeasible, OpenGap}
-use Rattle.flow_cli.specs.Planning.{IsEnough, IsOpen, IsSpent, last_cost, last_plan}
+use Rattle.flow_cli.specs.Outside.{Printed}
+use Rattle.flow_cli.specs.Planning.{IsEnough, IsOpen, IsPlannedDay, IsSpent, TellsRecord}
 use Rattle.flow_cli.specs.Status.{status_by, status_of}
 
 -- a record on a box that is the root box is one on that
@@ -118,3 +119,20 @@ closed_of_day parts budget found valid closes is enough gap =
     closed_is_shut parts found
     (closes parts (root_box parts) enough.tight budget found valid enough.tight_is is enough.nodes)
     gap
+
+-- the answer that tells a record is one to the day
+abbrev pub planned_day : (parts : Parts) (budget : Budget) (found : Found) (answer : Printed)
+    → IsSearchRecord parts (root_box parts) budget found
+    → IfSome (last_plan found) (IsFeasible parts) → IsBound parts found.bound
+    → (IsOpen parts found → IsSpent budget found)
+    → (IsEnough parts budget → IsOpen parts found → ⊥)
+    → TellsRecord parts found answer → IsPlannedDay parts budget answer
+planned_day parts budget found answer searched feasible below spent closed told = record {
+  found = found;
+  told = told;
+  searched = searched;
+  feasible = feasible;
+  below = below;
+  spent = λ open_gap. spent (sym told.ends ∙ open_gap);
+  closed = λ enough open_gap. closed enough (sym told.ends ∙ open_gap);
+}

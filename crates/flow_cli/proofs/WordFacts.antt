@@ -1,11 +1,10 @@
 -- What words ask for, an option after another.
 use Rattle.std.proofs.Common.{ℕ, List, ◌∷◌, false, ◌≡◌, sym, ap, ap₂, ◌∙◌, map, option_map, if◌then◌else◌, Option, Some}
 use Rattle.std.specs.Option.{option_and_then}
-use Rattle.flow_cli.specs.declared.words.Given.{Given}
-use Rattle.flow_cli.specs.Words.{Asked, Planned, asked_plan, budget_of, is_word_for_name, with_option, with_options}
+use Rattle.flow_cli.specs.Words.{Asked, Wanted, asked_plan, is_word_for_name, planned_by, with_option, with_options}
 
 -- words that begin with an option and its number
-module _ {A : Type 0} (bytes : A → List ℕ) (given next : Given) (words behind rest : List A)
+module _ {A : Type 0} (bytes : A → List ℕ) (given next : Wanted) (words behind rest : List A)
     (option number : A) (first second : List ℕ) where
   with_is : first ≡ bytes option → second ≡ bytes number
       → Some next ≡ with_option given first second
@@ -16,7 +15,7 @@ module _ {A : Type 0} (bytes : A → List ℕ) (given next : Given) (words behin
       → map bytes words ≡ bytes option ∷ bytes number ∷ map bytes rest
   all_words begin behind_is = ap (map bytes) (begin ∙ ap (λ ws. option ∷ ws) behind_is)
 
-  pub one_more_option : (result : Option Given) → words ≡ option ∷ behind
+  pub one_more_option : (result : Option Wanted) → words ≡ option ∷ behind
       → behind ≡ number ∷ rest → first ≡ bytes option → second ≡ bytes number
       → Some next ≡ with_option given first second → result ≡ with_options next (map bytes rest)
       → result ≡ with_options given (map bytes words)
@@ -36,7 +35,7 @@ module _ {A : Type 0} (bytes : A → List ℕ) (given next : Given) (words behin
       ∙ ap (option_and_then (λ more. asked_plan more (map bytes rest)))
       (with_is first_is second_is is)
       ∙ ap (λ b. if b
-      then option_map (λ all. Planned (bytes option) (budget_of all))
+      then option_map (planned_by (bytes option))
       (with_options given (bytes number ∷ map bytes rest))
       else option_and_then (λ more. asked_plan more (map bytes rest))
       (with_option given (bytes option) (bytes number)))

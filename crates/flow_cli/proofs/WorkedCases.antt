@@ -7,7 +7,7 @@ use Rattle.flow_types.specs.Feasible.{IsFeasible, KeepsTurn}
 use Rattle.worked_days.specs.Days.{plan_with, trip_at, two_flights}
 use Rattle.worked_days.proofs.WorkedDay.{beside_is, feasible_is, there_is}
 use Rattle.tree_search.specs.declared.found.Budget.{Budget}
-use Rattle.flow_cli.specs.Words.{Judged, Planned, asked}
+use Rattle.flow_cli.specs.Words.{Checked, Judged, Planned, asked}
 
 abbrev pub on_time : List (List Stop)
 on_time = plan_with (trip_at 0 2)
@@ -24,13 +24,13 @@ default_budget = budget 2001 20000 2000000 64
 abbrev day : List ℕ
 day = codes "day.csv"
 
-a_day_to_plan : asked (codes "plan" ∷ day ∷ []) ≡ Some (Planned day default_budget)
+a_day_to_plan : asked (codes "plan" ∷ day ∷ []) ≡ Some (Planned day default_budget None)
 a_day_to_plan = refl
 
 options_before_and_behind :
     asked (codes "plan" ∷ codes "--cells" ∷ codes "16000000" ∷ day ∷ codes "--pivots" ∷ codes "0"
     ∷ codes "--nodes" ∷ codes "00000021" ∷ codes "--rounds" ∷ codes "1000" ∷ [])
-    ≡ Some (Planned day (budget 21 0 16000000 1000))
+    ≡ Some (Planned day (budget 21 0 16000000 1000) None)
 options_before_and_behind = refl
 
 a_plan_to_judge : asked (codes "judge" ∷ day ∷ codes "plan.csv" ∷ [])
@@ -81,9 +81,26 @@ an_option_and_its_number_in_a_word = refl
 too_many_rounds : asked (codes "plan" ∷ day ∷ codes "--rounds" ∷ codes "1001" ∷ []) ≡ None
 too_many_rounds = refl
 
-an_option_that_is_not_there_yet :
-    asked (codes "plan" ∷ day ∷ codes "--cert" ∷ codes "day.cert" ∷ []) ≡ None
-an_option_that_is_not_there_yet = refl
+a_certificate_to_store :
+    asked (codes "plan" ∷ codes "--cert" ∷ codes "day.cert" ∷ day ∷ codes "--nodes" ∷ codes "1"
+    ∷ [])
+    ≡ Some (Planned day (budget 1 20000 2000000 64) (Some (codes "day.cert")))
+a_certificate_to_store = refl
+
+a_certificate_without_a_name :
+    asked (codes "plan" ∷ day ∷ codes "--cert" ∷ codes "-" ∷ []) ≡ None
+a_certificate_without_a_name = refl
+
+two_certificates :
+    asked (codes "plan" ∷ day ∷ codes "--cert" ∷ day ∷ codes "--cert" ∷ day ∷ []) ≡ None
+two_certificates = refl
+
+a_certificate_to_check : asked (codes "check" ∷ day ∷ codes "day.cert" ∷ [])
+    ≡ Some (Checked day (codes "day.cert"))
+a_certificate_to_check = refl
+
+no_certificate_to_check : asked (codes "check" ∷ day ∷ []) ≡ None
+no_certificate_to_check = refl
 
 a_word_too_many : asked (codes "plan" ∷ day ∷ day ∷ []) ≡ None
 a_word_too_many = refl

@@ -114,11 +114,13 @@ module _ (text plan : List ℕ) (few : length text ≤ most_text_bytes)
   no_day read = record {
     bytes = text;
     source = day_text;
-    fault = fault;
-    read = read;
-    ends = refl;
-    text = sym fault_is_printed;
-    no_record = refl;
+    refused = record {
+      fault = fault;
+      read = read;
+      ends = refl;
+      text = sym fault_is_printed;
+      no_record = refl;
+    };
   }
 
   plan_is_refused : scenario_of text ≡ Err fault

@@ -1,15 +1,17 @@
 -- How a run ends.
 use Rattle.std.specs.Prelude.{◌≡◌, ◌⊎◌, ℕ, List, [], Option, None, Some}
 use Rattle.flow_outside.specs.Counts.{Rose}
-use Rattle.flow_outside.specs.Seen.{FilesSeen, SinkSeen}
+use Rattle.flow_outside.specs.Seen.{AreKept, FilesSeen, SinkSeen}
 use Rattle.flow_outside.specs.Written.{appended, AppendsPart}
 use Rattle.flow_cli.specs.declared.answer.Ran.{Ran}
 use Rattle.flow_cli.specs.declared.status.Status.TheVariants.{OutOfMemory, Usage, WriteFault}
+use Rattle.flow_cli.specs.Certifying.{AreOthersKept, IsOfCertified}
+use Rattle.flow_cli.specs.Checking.{IsOfCheck}
 use Rattle.flow_cli.specs.Judging.{IsOfJudge}
 use Rattle.flow_cli.specs.Outside.{Change, Printed}
 use Rattle.flow_cli.specs.Planning.{IsOfPlan}
 use Rattle.flow_cli.specs.Reading.{IsQuiet}
-use Rattle.flow_cli.specs.Words.{Asked, Judged, Planned, asked, usage_text}
+use Rattle.flow_cli.specs.Words.{Asked, Checked, Judged, Planned, asked, usage_text}
 
 -- the answer to words that make no command
 pub record IsUsage (answer : Printed) : Type 0 where
@@ -20,8 +22,16 @@ pub record IsUsage (answer : Printed) : Type 0 where
 -- the answer to what is asked for
 abbrev pub IsAnswer : Change FilesSeen → Option Asked → Printed → Type 0
 IsAnswer files None answer = IsUsage answer
-IsAnswer files (Some (Planned name budget)) answer = IsOfPlan files name budget answer
+IsAnswer files (Some (Planned name budget None)) answer = IsOfPlan files name budget answer
+IsAnswer files (Some (Planned name budget (Some cert))) answer =
+    IsOfCertified files name cert budget answer
+IsAnswer files (Some (Checked name cert)) answer = IsOfCheck files name cert answer
 IsAnswer files (Some (Judged name plan)) answer = IsOfJudge files name plan answer
+
+-- Files are as before where no certificate is stored.
+abbrev pub KeepFiles : Option (List ℕ) → FilesSeen → FilesSeen → Type 0
+KeepFiles None before now = AreKept before now
+KeepFiles (Some cert) before now = AreOthersKept before now cert
 
 -- the whole answer is written, and its records are handed back
 pub record IsWritten (files : Change FilesSeen) (out : Change SinkSeen) (words : List (List ℕ))
@@ -45,12 +55,14 @@ pub record IsCutShort (files : Change FilesSeen) (out : Change SinkSeen) (words 
   pub part : AppendsPart out.before.written out.now.written answer.text
   pub failed : Rose out.before.faults out.now.faults
 
--- there was no memory for the answer: nothing is written, and the count of faults is as it was
+-- there was no memory for the answer: nothing is stored or written, and the counts of faults are as
+-- they were
 pub record IsUnwritten (files : Change FilesSeen) (out : Change SinkSeen)
     (ran : Ran) : Type 0 where
   pub ends : ran.status ≡ OutOfMemory
   pub no_record : ran.records ≡ []
   pub quiet : IsQuiet files ran.status
+  pub kept : AreKept files.before files.now
   pub same : out.now.written ≡ out.before.written
   pub unfailed : out.now.faults ≡ out.before.faults
 

@@ -31,3 +31,9 @@ IfEarly (Err early) P = OnEarlyEnd early P
 abbrev pub IfAnswered : Result Answer EarlyEnd → (Printed → Type 0) → Type 0
 IfAnswered (Ok answer) P = P (printed_by answer)
 IfAnswered (Err early) P = OnEarlyEnd early P
+
+-- a fact where there was no memory
+abbrev pub OnNoMemory : Result Answer EarlyEnd → Type 0 → Type 0
+OnNoMemory (Ok answer) P = Unit {0}
+OnNoMemory (Err (Answered answer)) P = Unit {0}
+OnNoMemory (Err OutOfMemory) P = P

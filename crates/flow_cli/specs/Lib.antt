@@ -1,5 +1,7 @@
 pub mod Answer
 pub mod Answers
+pub mod Certifying
+pub mod Checking
 pub mod Exit
 pub mod Faults
 pub mod Judging

@@ -1,5 +1,6 @@
 -- What is read under a name: a text, the day of a text, or why there is none.
 use Rattle.std.specs.Prelude.{◌≡◌, ◌⊎◌, ℕ, ◌<◌, ◌≤◌, List, [], length, codes, Option, Ok, Err}
+use Rattle.sha2.specs.Sha256.{sha256}
 use Rattle.flow_outside.specs.Counts.{Rose}
 use Rattle.flow_outside.specs.Held.{Held, IfTold, HasName}
 use Rattle.flow_outside.specs.Seen.{FilesSeen}
@@ -23,13 +24,14 @@ pub record IsTextOf (held : Option Held) (name bytes : List ℕ) : Type 0 where
   pub source : IfTold held name (λ told. bytes ≡ told)
   pub within : length bytes ≤ most_text_bytes
 
--- the name is there and holds more bytes than a text may have
-pub record IsTooMany (held : Option Held) (name : List ℕ) (answer : Printed) : Type 0 where
+-- the name is there and holds more bytes than so many, as a text may have
+pub record IsTooMany (most : ℕ) (held : Option Held) (name : List ℕ) (answer : Printed)
+    : Type 0 where
   pub present : HasName held name
   pub ends : answer.status ≡ TooLong
   pub size : ℕ
   pub source : IfTold held name (λ told. size ≡ length told)
-  pub above : most_text_bytes < size
+  pub above : most < size
   pub text : answer.text ≡ too_long_text size
   pub no_record : answer.records ≡ []
 
@@ -42,7 +44,8 @@ pub record IsFailed (files : Change FilesSeen) (name : List ℕ) (answer : Print
 
 -- the answer where the text of a name isn't read
 abbrev pub IsUnread : Change FilesSeen → List ℕ → Printed → Type 0
-IsUnread files name answer = IsTooMany files.before.held name answer ⊎ IsFailed files name answer
+IsUnread files name answer =
+    IsTooMany most_text_bytes files.before.held name answer ⊎ IsFailed files name answer
 
 -- the name holds the text of this scenario, which is a valid one
 pub record IsDayOf (held : Option Held) (name : List ℕ) (parts : Parts) : Type 0 where
@@ -51,15 +54,25 @@ pub record IsDayOf (held : Option Held) (name : List ℕ) (parts : Parts) : Type
   pub read : scenario_of bytes ≡ Ok parts
   pub valid : IsScenario parts
 
--- the name holds a text that is no scenario: what is printed is its first fault
-pub record IsNoDay (held : Option Held) (name : List ℕ) (answer : Printed) : Type 0 where
-  pub bytes : List ℕ
-  pub source : IsTextOf held name bytes
+-- this is the digest of its text
+pub record IsSignedDay (held : Option Held) (name : List ℕ) (parts : Parts) (digest : List ℕ)
+    : Type 0 where
+  pub day : IsDayOf held name parts
+  pub signed : digest ≡ sha256 day.bytes
+
+-- a text that is no scenario: what is printed is its first fault
+pub record IsRefused (bytes : List ℕ) (answer : Printed) : Type 0 where
   pub fault : Fault
   pub read : scenario_of bytes ≡ Err fault
   pub ends : answer.status ≡ BadScenario
   pub text : answer.text ≡ fault_text fault
   pub no_record : answer.records ≡ []
+
+-- the name holds one
+pub record IsNoDay (held : Option Held) (name : List ℕ) (answer : Printed) : Type 0 where
+  pub bytes : List ℕ
+  pub source : IsTextOf held name bytes
+  pub refused : IsRefused bytes answer
 
 -- the answer where there is no day under the name
 abbrev pub IsWithoutDay : Change FilesSeen → List ℕ → Printed → Type 0

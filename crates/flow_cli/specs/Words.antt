@@ -1,6 +1,7 @@
 -- The words of the command line.
 use Rattle.std.specs.Prelude.{ℕ, ◌==◌, ◌<◌, ◌≤◌, Bool, false, ◌&&◌, not, List, [], ◌∷◌, length, Option, Some, None, IfSome, is_some, nat_le, option_map, unwrap_or, codes, if◌then◌else◌}
-use Rattle.std.specs.Option.{option_and_then}
+use Rattle.std.specs.Borrow.{Bor}
+use Rattle.std.specs.Option.{option_and_then, option_copied}
 use Rattle.std.specs.Str.{bytes_eq}
 use Rattle.flow_types.specs.Words.{number_of}
 use Rattle.tree_search.specs.declared.found.Budget.{Budget}
@@ -9,6 +10,7 @@ use Rattle.flow_cli.specs.declared.words.Command.TheVariants as command
 use Rattle.flow_cli.specs.declared.words.Given.{Given}
 use Rattle.flow_cli.specs.declared.words.Limit.{Limit}
 use Rattle.flow_cli.specs.declared.words.Limit.TheVariants.{Cells, Nodes, Pivots, Rounds}
+use Rattle.flow_cli.specs.declared.words.Options.{Options}
 use Rattle.flow_cli.specs.declared.words.Range.{Range}
 
 -- a name isn't empty and doesn't begin with `-`
@@ -66,15 +68,39 @@ with_limit given word limit =
     if is_given given limit then None
     else option_map (with_number given limit) (number_within (range_of limit) word)
 
-abbrev pub with_option : Given → List ℕ → List ℕ → Option Given
-with_option given option word = option_and_then (with_limit given word) (limit_of option)
+abbrev pub with_limit_of : Given → List ℕ → List ℕ → Option Given
+with_limit_of given option word = option_and_then (with_limit given word) (limit_of option)
 
--- options alone, each with its number behind it
-abbrev pub with_options : Given → List (List ℕ) → Option Given
-with_options given [] = Some given
-with_options given (option ∷ []) = None
-with_options given (option ∷ word ∷ words) =
-    option_and_then (λ more. with_options more words) (with_option given option word)
+-- what is given with the options of `plan`: a certificate's name, and numbers
+pub record Wanted : Type 0 where
+  pub cert : Option (List ℕ)
+  pub limits : Given
+
+abbrev pub nothing_wanted : Wanted
+nothing_wanted = record { cert = None; limits = nothing_given }
+
+abbrev pub with_limits : Wanted → Given → Wanted
+with_limits wanted limits = record { cert = wanted.cert; limits = limits }
+
+-- the name of a certificate, at most once
+abbrev pub with_cert : Wanted → List ℕ → Option Wanted
+with_cert wanted name =
+    if is_some wanted.cert then None
+    else if is_word_for_name name then Some (record { cert = Some name; limits = wanted.limits })
+    else None
+
+-- an option and the word behind it
+abbrev pub with_option : Wanted → List ℕ → List ℕ → Option Wanted
+with_option wanted option word =
+    if bytes_eq option (codes "--cert") then with_cert wanted word
+    else option_map (with_limits wanted) (with_limit_of wanted.limits option word)
+
+-- options alone, each with its word behind it
+abbrev pub with_options : Wanted → List (List ℕ) → Option Wanted
+with_options wanted [] = Some wanted
+with_options wanted (option ∷ []) = None
+with_options wanted (option ∷ word ∷ words) =
+    option_and_then (λ more. with_options more words) (with_option wanted option word)
 
 -- what a search may spend: what is given, and else what holds without the option
 abbrev pub budget_of : Given → Budget
@@ -87,52 +113,82 @@ budget_of given = record {
   rounds = unwrap_or given.rounds (range_of Rounds).default;
 }
 
--- what is asked for: that the day of a name is planned, and what that may spend, or that a plan of
--- it is judged
+-- what is asked for: that the day of a name is planned, what that may spend, and under which name a
+-- certificate is stored, if under one; that a certificate of it is checked, or a plan of it judged
 pub data Asked : Type 0 where
-  Planned : (name : List ℕ) (budget : Budget) → Asked
+  Planned : (name : List ℕ) (budget : Budget) (cert : Option (List ℕ)) → Asked
+  Checked : (name cert : List ℕ) → Asked
   Judged : (name plan : List ℕ) → Asked
 
--- what the words behind `plan` ask for: they are one name, with options before it and behind it
-abbrev pub asked_plan : Given → List (List ℕ) → Option Asked
-asked_plan given [] = None
-asked_plan given (word ∷ []) =
-    if is_word_for_name word then Some (Planned word (budget_of given)) else None
-asked_plan given (word ∷ next ∷ words) =
-    if is_word_for_name word
-    then option_map (λ all. Planned word (budget_of all)) (with_options given (next ∷ words))
-    else option_and_then (λ more. asked_plan more words) (with_option given word next)
+abbrev pub planned_by : List ℕ → Wanted → Asked
+planned_by name wanted = Planned name (budget_of wanted.limits) wanted.cert
 
--- what the words behind `judge` ask for: they are two names
+-- what the words behind `plan` ask for: they are one name, with options before it and behind it
+abbrev pub asked_plan : Wanted → List (List ℕ) → Option Asked
+asked_plan wanted [] = None
+asked_plan wanted (word ∷ []) =
+    if is_word_for_name word then Some (planned_by word wanted) else None
+asked_plan wanted (word ∷ next ∷ words) =
+    if is_word_for_name word
+    then option_map (planned_by word) (with_options wanted (next ∷ words))
+    else option_and_then (λ more. asked_plan more words) (with_option wanted word next)
+
+-- two names
+abbrev pub two_names : List (List ℕ) → Option (List ℕ × List ℕ)
+two_names (first ∷ second ∷ []) =
+    if is_word_for_name first && is_word_for_name second then Some (first, second) else None
+two_names words = None
+
+-- what the words behind `check` and `judge` ask for
+abbrev pub asked_check : List (List ℕ) → Option Asked
+asked_check words = option_map (λ names. Checked names.0 names.1) (two_names words)
+
 abbrev pub asked_verdict : List (List ℕ) → Option Asked
-asked_verdict (name ∷ plan ∷ []) =
-    if is_word_for_name name && is_word_for_name plan then Some (Judged name plan) else None
-asked_verdict words = None
+asked_verdict words = option_map (λ names. Judged names.0 names.1) (two_names words)
 
 -- what the words ask for: the first one is the command
 abbrev pub asked : List (List ℕ) → Option Asked
 asked [] = None
 asked (command ∷ words) =
-    if bytes_eq command (codes "plan") then asked_plan nothing_given words
+    if bytes_eq command (codes "plan") then asked_plan nothing_wanted words
+    else if bytes_eq command (codes "check") then asked_check words
     else if bytes_eq command (codes "judge") then asked_verdict words
     else None
 
--- what a command asks for
+-- the name under which a certificate is stored
+abbrev pub cert_in : Option Asked → Option (List ℕ)
+cert_in None = None
+cert_in (Some (Planned name budget cert)) = cert
+cert_in (Some (Checked name cert)) = None
+cert_in (Some (Judged name plan)) = None
+
+-- what options and a command ask for
+abbrev pub wanted_by : Options → Wanted
+wanted_by options = record { cert = option_copied options.cert; limits = options.limits }
+
 abbrev pub asked_by : Command → Asked
-asked_by (command.Plan name budget) = Planned name.now budget
+asked_by (command.Plan name budget cert) = Planned name.now budget (option_copied cert)
+asked_by (command.Check name cert) = Checked name.now cert.now
 asked_by (command.Judge name plan) = Judged name.now plan.now
+
+abbrev pub names_told : Bor (List ℕ) × Bor (List ℕ) → List ℕ × List ℕ
+names_told names = (names.0.now, names.1.now)
 
 -- a number is within its range
 pub record IsWithin (range : Range) (number : ℕ) : Type 0 where
   pub low : range.least ≤ number
   pub high : number ≤ range.most
 
--- a search has a node at least
+-- how many nodes a search may have: one at least
+abbrev pub IsNodeCount : ℕ → Type 0
+IsNodeCount nodes = (0 < nodes) × (nodes ≤ 200000)
+
 abbrev pub IsAllowed : Given → Type 0
-IsAllowed given = IfSome given.nodes (λ n. 0 < n)
+IsAllowed given = IfSome given.nodes IsNodeCount
 
 abbrev pub MaySearch : Command → Type 0
-MaySearch (command.Plan name budget) = 0 < budget.nodes
+MaySearch (command.Plan name budget cert) = IsNodeCount budget.nodes
+MaySearch (command.Check name cert) = Unit {0}
 MaySearch (command.Judge name plan) = Unit {0}
 
 -- the commands, and the words that each one takes

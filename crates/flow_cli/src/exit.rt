@@ -2,10 +2,10 @@
 ghost use Rattle.std.specs.Prelude.{◌≡◌, IfOk, drop, map, string_bytes};
 ghost use Rattle.std.specs.Process.{exit_status};
 ghost use Rattle.std.specs.Vec.Iter.{into_iter_items};
-ghost use Rattle.flow_outside.specs.Seen.{AreKept};
-ghost use Rattle.flow_cli.specs.Answer.{Ends};
+ghost use Rattle.flow_cli.specs.Answer.{Ends, KeepFiles};
 ghost use Rattle.flow_cli.specs.Exit.{ExitsWith, words_given};
 ghost use Rattle.flow_cli.specs.Outside.{change};
+ghost use Rattle.flow_cli.specs.Words.{asked, cert_in};
 
 use crate::answer::Ran;
 use crate::running::run;
@@ -18,8 +18,8 @@ use std::{env, io};
 
 /// Runs the program on what the environment answers about its words, and gives what the process is
 /// to end with: the number of `run`'s status for the words behind the program's name. Words of
-/// which one isn't UTF-8 are those of no command. What the files hold stays as it was. It takes
-/// memory for the words, besides that of `run`.
+/// which one isn't UTF-8 are those of no command. No name but that of a certificate that is stored
+/// changes. It takes memory for the words, besides that of `run`.
 pub fn exit_code<F: Files, S: Sink>(
     alloc: Global,
     args: io::Result<env::Args>,
@@ -28,7 +28,8 @@ pub fn exit_code<F: Files, S: Sink>(
 ) -> ExitCode
     ensures exits { ExitsWith (change (F.seen files.old) (F.seen files.new))
         (change (S.seen out.old) (S.seen out.new)) (words_given args) (exit_status result) }
-    ensures kept { AreKept (F.seen files.old) (F.seen files.new) }
+    ensures kept { KeepFiles (cert_in (asked (words_given args))) (F.seen files.old)
+        (F.seen files.new) }
 {
     let ran = run_given(alloc, args, files, out);
     ExitCode::from(ran.status.number())
@@ -43,7 +44,8 @@ fn run_given<F: Files, S: Sink>(
 ) -> Ran
     ensures ends { Ends (change (F.seen files.old) (F.seen files.new))
         (change (S.seen out.old) (S.seen out.new)) (words_given args) result }
-    ensures kept { AreKept (F.seen files.old) (F.seen files.new) }
+    ensures kept { KeepFiles (cert_in (asked (words_given args))) (F.seen files.old)
+        (F.seen files.new) }
 {
     match words_of(alloc, args) {
         Ok(words) => run(alloc, &words, files, out),

@@ -15,7 +15,8 @@
 //!     }
 //!
 //! What is printed and how a run ends is said by `run`'s contract: in `specs/Answer.antt`, and for
-//! each command in `specs/Planning.antt` and `specs/Judging.antt`; what words ask for is said in
+//! each command in `specs/Planning.antt`, `specs/Certifying.antt`, `specs/Checking.antt` and
+//! `specs/Judging.antt`; what words ask for is said in
 //! `specs/Words.antt`, and the reports and verdicts, byte by byte, in `delay_report`. Where a day
 //! was planned, `run` hands back the record of the search whose numbers it printed. From the status
 //! to the number that the process ends with, and from the words of the environment to those of
@@ -26,6 +27,8 @@
 #![tactic(auto)]
 
 mod answer;
+mod certifying;
+mod checking;
 mod exit;
 mod faults;
 mod judging;

@@ -5,11 +5,11 @@ ghost use Rattle.flow_types.specs.Scenario.{parts_of};
 ghost use Rattle.flow_types.specs.Bounds.{IsBound};
 ghost use Rattle.flow_types.specs.Feasible.{IsFeasible};
 ghost use Rattle.time_windows.specs.Boxes.{root_box};
-ghost use Rattle.tree_search.specs.Records.{IsSearchRecord};
+ghost use Rattle.tree_search.specs.Records.{IsSearchRecord, last_cost, last_plan};
 ghost use Rattle.delay_report.specs.Texts.{report_text};
 ghost use Rattle.flow_cli.specs.Answers.{IfAnswered, work_status};
 ghost use Rattle.flow_cli.specs.Outside.{change, printed_by};
-ghost use Rattle.flow_cli.specs.Planning.{IsEnough, IsOfPlan, IsOpen, IsPlannedDay, IsSpent, last_cost, last_plan};
+ghost use Rattle.flow_cli.specs.Planning.{IsEnough, IsOfPlan, IsOpen, IsPlannedDay, IsSpent, TellsRecord};
 ghost use Rattle.flow_cli.specs.Reading.{IsQuiet};
 ghost use Rattle.flow_cli.specs.Status.{status_of};
 
@@ -46,8 +46,16 @@ fn plan_day(alloc: Global, s: &Scenario, budget: Budget) -> Result<Answer, OutOf
     ensures { IfOk result (λ answer. IsPlannedDay (parts_of s.now) budget (printed_by answer)) }
 {
     let found = search_day(alloc, s, budget)?;
+    answer_of(alloc, s, found)
+}
+
+/// The answer that tells a record.
+pub fn answer_of(alloc: Global, s: &Scenario, found: Found) -> Result<Answer, OutOfMemory>
+    requires { IfSome (last_plan found) (IsFeasible (parts_of s.now)) }
+    ensures { IfOk result (λ answer. TellsRecord (parts_of s.now) found (printed_by answer)) }
+{
     let (text, status) = report_of(alloc, s, &found)?;
-    Ok(Answer::of_record(alloc, text, status, found)?)
+    Answer::of_record(alloc, text, status, found)
 }
 
 // What is printed of a record, and the status that belongs to it.
@@ -69,9 +77,9 @@ fn report_of(alloc: Global, s: &Scenario, found: &Found) -> Result<(Vec<u8>, Sta
     Ok((text, Status::of_outcome(claim.outcome())))
 }
 
-// The record of a search of all plans of the day.
+/// The record of a search of all plans of the day.
 #[tactic(auto, using(crate::proofs::PlanningFacts::record_of_day, crate::proofs::PlanningFacts::bound_of_day, crate::proofs::PlanningFacts::last_is_feasible, crate::proofs::PlanningFacts::spent_of_day, crate::proofs::PlanningFacts::closed_of_day))]
-fn search_day(alloc: Global, s: &Scenario, budget: Budget) -> Result<Found, OutOfMemory>
+pub fn search_day(alloc: Global, s: &Scenario, budget: Budget) -> Result<Found, OutOfMemory>
     requires nodes { 0 < budget.nodes }
     ensures record { IfOk result
         (IsSearchRecord (parts_of s.now) (root_box (parts_of s.now)) budget) }

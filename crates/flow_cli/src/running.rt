@@ -1,14 +1,16 @@
 //! A run of the program, from its words to its status.
-ghost use Rattle.std.specs.Prelude.{◌≡◌, ◌≤◌, IfOk, OnErr, map, string_bytes};
+ghost use Rattle.std.specs.Prelude.{◌≡◌, ◌⊎◌, ◌≤◌, IfOk, OnErr, map, string_bytes};
 ghost use Rattle.flow_outside.specs.Counts.{Rose};
 ghost use Rattle.flow_outside.specs.Seen.{AreKept};
-ghost use Rattle.flow_cli.specs.Answer.{Ends, IsAnswer};
-ghost use Rattle.flow_cli.specs.Answers.{IfAnswered, work_status};
+ghost use Rattle.flow_cli.specs.Answer.{Ends, IsAnswer, KeepFiles};
+ghost use Rattle.flow_cli.specs.Answers.{IfAnswered, OnNoMemory, work_status};
 ghost use Rattle.flow_cli.specs.Outside.{change, printed_by};
 ghost use Rattle.flow_cli.specs.Reading.{IsQuiet};
-ghost use Rattle.flow_cli.specs.Words.{asked};
+ghost use Rattle.flow_cli.specs.Words.{asked, cert_in};
 
 use crate::answer::{Answer, EarlyEnd, Ran};
+use crate::certifying::certify_named;
+use crate::checking::check_named;
 use crate::judging::judge_named;
 use crate::planning::plan_named;
 use crate::status::Status;
@@ -28,27 +30,36 @@ trial N
 ";
 
 /// Runs the program: the words are `plan` and the name of a day, with options that say how much its
-/// search may spend, or `judge`, the name of a day and that of a plan. The texts are read from the
-/// files, at most 64 MiB of each, the day's first; the day is planned, or its plan is judged, and
-/// the answer is written.
+/// search may spend and under which name a certificate is stored; or `check`, the name of a day and
+/// that of a certificate; or `judge`, the name of a day and that of a plan. The texts are read from
+/// the files, at most 64 MiB of each, and 1 GiB of a certificate, the day's first; the day is
+/// planned, its certificate is checked or its plan judged, and the answer is written. A certificate
+/// is stored before.
 ///
 /// The status says what the answer is. `Done`, `Infeasible` and `OpenGap` come for a day that is
 /// planned, with the record whose numbers were printed: `OpenGap` only where its nodes and two more
-/// are more than it might have. `Done` and `Broken` come for a plan that is judged; then and with
-/// every other status there is no record. `Usage` comes for any other words,
-/// `ReadFault` where a name isn't there or a call fails, `TooLong` for a longer text, `BadScenario`
-/// for a text that is no scenario, `BadPlan` for a text that is no plan, `WriteFault` where the
-/// answer isn't written to its end, and `OutOfMemory` where there is no memory; then nothing is
-/// written. What the files hold stays as it was, and so does their count of faults where the answer
-/// isn't that a read failed. It takes memory for a text, the scenario, its search or the plan with
-/// its loads, and the answer.
+/// are more than it might have. `Done` and `BadCertificate` come for a certificate that is checked,
+/// `Done` and `Broken` for a plan that is judged. `Usage` comes for any other words, `ReadFault`
+/// where a name isn't there or a call fails, `TooLong` for a longer text, `BadScenario` for a text
+/// that is no scenario, `BadPlan` for a text that is no plan, `WriteFault` where the certificate
+/// isn't stored or the answer isn't written to its end, and `OutOfMemory` where there is no memory;
+/// then nothing is stored or written. `TooLong` also comes where the certificate that is to be
+/// stored would be longer than 1 GiB: then nothing is stored, and its record is handed back. With
+/// any other status there is no record.
+///
+/// No name but that of the certificate changes, and without one what the files hold stays as it
+/// was. Their count of faults stays where the answer isn't that a read failed. It takes memory for a
+/// text, the scenario, its search, what a check takes or the plan with its loads, and the answer
+/// with the certificate.
 pub fn run<F: Files, S: Sink>(alloc: Global, words: &[String], files: &mut F, out: &mut S) -> Ran
     ensures answered { Ends (change (F.seen files.old) (F.seen files.new))
         (change (S.seen out.old) (S.seen out.new)) (map string_bytes words.now) result }
-    // WriteFault comes only where the output failed.
+    // WriteFault comes only where the store of a certificate or the output failed.
     ensures write_fault { result.status ≡ Status.WriteFault
-        → Rose (S.seen out.old).faults (S.seen out.new).faults }
-    ensures kept { AreKept (F.seen files.old) (F.seen files.new) }
+        → Rose (F.seen files.old).store_faults (F.seen files.new).store_faults
+        ⊎ Rose (S.seen out.old).faults (S.seen out.new).faults }
+    ensures kept { KeepFiles (cert_in (asked (map string_bytes words.now))) (F.seen files.old)
+        (F.seen files.new) }
     ensures write_counts { (S.seen out.old).faults ≤ (S.seen out.new).faults }
 {
     match answer_to(alloc, words, files) {
@@ -75,7 +86,9 @@ fn answer_to<F: Files>(
     ensures quiet { IfOk result
         (λ answer. IsQuiet (change (F.seen files.old) (F.seen files.new)) answer.status) }
     ensures unfailed { OnErr result ((F.seen files.new).faults ≡ (F.seen files.old).faults) }
-    ensures kept { AreKept (F.seen files.old) (F.seen files.new) }
+    ensures kept { KeepFiles (cert_in (asked (map string_bytes words.now))) (F.seen files.old)
+        (F.seen files.new) }
+    ensures lost { OnErr result (AreKept (F.seen files.old) (F.seen files.new)) }
 {
     match work(alloc, words, files) {
         Ok(answer) => Ok(answer),
@@ -89,10 +102,26 @@ fn work<F: Files>(alloc: Global, words: &[String], files: &mut F) -> Result<Answ
     ensures answered { IfAnswered result (IsAnswer (change (F.seen files.old) (F.seen files.new))
         (asked (map string_bytes words.now))) }
     ensures quiet { IsQuiet (change (F.seen files.old) (F.seen files.new)) (work_status result) }
-    ensures kept { AreKept (F.seen files.old) (F.seen files.new) }
+    ensures kept { KeepFiles (cert_in (asked (map string_bytes words.now))) (F.seen files.old)
+        (F.seen files.new) }
+    ensures lost { OnNoMemory result (AreKept (F.seen files.old) (F.seen files.new)) }
 {
     match command_of(words) {
-        Some(Command::Plan { name, budget }) => plan_named(alloc, files, name, budget),
+        Some(
+            Command::Plan {
+                name,
+                budget,
+                cert: None,
+            },
+        ) => plan_named(alloc, files, name, budget),
+        Some(
+            Command::Plan {
+                name,
+                budget,
+                cert: Some(cert),
+            },
+        ) => certify_named(alloc, files, name, budget, cert),
+        Some(Command::Check { name, cert }) => check_named(alloc, files, name, cert),
         Some(Command::Judge { name, plan }) => judge_named(alloc, files, name, plan),
         None => Ok(Answer::fixed(alloc, USAGE, Status::Usage)),
     }

@@ -1,6 +1,6 @@
 //! The words of the command line.
-ghost use Rattle.std.specs.Prelude.{◌≡◌, ◌<◌, IfSome, map, option_map, string_bytes};
-ghost use Rattle.flow_cli.specs.Words.{IsAllowed, IsWithin, MaySearch, asked, asked_by, asked_plan, asked_verdict, between, budget_of, is_given, is_word_for_name, limit_of, number_within, range_of, with_number, with_option, with_options};
+ghost use Rattle.std.specs.Prelude.{◌≡◌, IfSome, map, option_map, string_bytes};
+ghost use Rattle.flow_cli.specs.Words.{IsAllowed, IsNodeCount, IsWithin, MaySearch, asked, asked_by, asked_check, asked_plan, asked_verdict, between, budget_of, is_given, is_word_for_name, limit_of, names_told, nothing_wanted, number_within, range_of, two_names, wanted_by, with_cert, with_limit_of, with_number, with_option, with_options};
 
 use flow_types::parse_number;
 use relaxed_bound::Limits;
@@ -9,10 +9,23 @@ use tree_search::Budget;
 /// What is to be done.
 #[derive(Clone, Copy)]
 pub enum Command<'a> {
-    /// To plan the day of this name, by a search that may spend so much.
-    Plan { name: &'a str, budget: Budget },
+    /// To plan the day of this name, by a search that may spend so much, and to store a certificate
+    /// under a name, if one is given.
+    Plan {
+        name: &'a str,
+        budget: Budget,
+        cert: Option<&'a str>,
+    },
+    /// To check the certificate of the second name by the day of the first.
+    Check {
+        name: &'a str,
+        cert: &'a str,
+    },
     /// To judge the plan of the second name by the day of the first.
-    Judge { name: &'a str, plan: &'a str },
+    Judge {
+        name: &'a str,
+        plan: &'a str,
+    },
 }
 
 /// What an option limits.
@@ -45,6 +58,13 @@ pub struct Given {
     pub rounds: Option<u32>,
 }
 
+/// What is given with the options of `plan`.
+#[derive(Clone, Copy)]
+pub struct Options<'a> {
+    pub cert: Option<&'a str>,
+    pub limits: Given,
+}
+
 const NOTHING_GIVEN: Given = Given {
     nodes: None,
     pivots: None,
@@ -55,16 +75,20 @@ const NOTHING_GIVEN: Given = Given {
 // How many digits the number of an option may have.
 const MOST_DIGITS: usize = 8;
 
-/// The command in the words, which are `plan`, a name and any options of it, or `judge` and two
-/// names. A name isn't empty and doesn't begin with `-`. An option is one of two words, the second
-/// of which is its number; each stands once at most, before the name or behind it.
+/// The command in the words, which are `plan`, a name and any options of it, or `check` or `judge`
+/// and two names. A name isn't empty and doesn't begin with `-`. An option is one of two words, the
+/// second of which is a certificate's name or a number; each stands once at most, before the name
+/// or behind it.
 pub fn command_of(words: &[String]) -> Option<Command<'_>>
     ensures asked { option_map asked_by result ≡ asked (map string_bytes words.now) }
     ensures may { IfSome result MaySearch }
 {
     let (command, words) = words.split_first()?;
     if command.as_str() == "plan" {
-        return asked_plan(NOTHING_GIVEN, words);
+        return asked_plan(nothing_wanted(), words);
+    }
+    if command.as_str() == "check" {
+        return asked_check(words);
     }
     if command.as_str() == "judge" {
         return asked_verdict(words);
@@ -72,20 +96,45 @@ pub fn command_of(words: &[String]) -> Option<Command<'_>>
     None
 }
 
+// No option is given yet.
+fn nothing_wanted<'a>() -> Options<'a>
+    ensures wanted { wanted_by result ≡ nothing_wanted }
+    ensures allowed { IsAllowed result.limits }
+{
+    Options {
+        cert: None,
+        limits: NOTHING_GIVEN,
+    }
+}
+
 // The command in the words behind `plan`.
-fn asked_plan(given: Given, words: &[String]) -> Option<Command<'_>>
-    requires given { IsAllowed given }
-    ensures asked { option_map asked_by result ≡ asked_plan given (map string_bytes words.now) }
+fn asked_plan<'a>(options: Options<'a>, words: &'a [String]) -> Option<Command<'a>>
+    requires given { IsAllowed options.limits }
+    ensures asked { option_map asked_by result
+        ≡ asked_plan (wanted_by options.entry) (map string_bytes words.now) }
     ensures may { IfSome result MaySearch }
 {
     let (word, words) = words.split_first()?;
     let name = word.as_str();
     if is_word_for_name(name) {
-        let budget = budget_of(with_options(given, words)?);
-        return Some(Command::Plan { name, budget });
+        let options = with_options(options, words)?;
+        return Some(Command::Plan {
+            name,
+            budget: budget_of(options.limits),
+            cert: options.cert,
+        });
     }
-    let (number, words) = words.split_first()?;
-    asked_plan(with_option(given, name, number.as_bytes())?, words)
+    let (value, words) = words.split_first()?;
+    asked_plan(with_option(options, name, value.as_str())?, words)
+}
+
+// The command in the words behind `check`.
+fn asked_check(words: &[String]) -> Option<Command<'_>>
+    ensures asked { option_map asked_by result ≡ asked_check (map string_bytes words.now) }
+    ensures may { IfSome result MaySearch }
+{
+    let (name, cert) = two_names(words)?;
+    Some(Command::Check { name, cert })
 }
 
 // The command in the words behind `judge`.
@@ -93,13 +142,18 @@ fn asked_verdict(words: &[String]) -> Option<Command<'_>>
     ensures asked { option_map asked_by result ≡ asked_verdict (map string_bytes words.now) }
     ensures may { IfSome result MaySearch }
 {
+    let (name, plan) = two_names(words)?;
+    Some(Command::Judge { name, plan })
+}
+
+// The two names that the words are.
+fn two_names(words: &[String]) -> Option<(&str, &str)>
+    ensures { option_map names_told result ≡ two_names (map string_bytes words.now) }
+{
     match words {
-        [name, plan] => {
-            if is_word_for_name(name.as_str()) && is_word_for_name(plan.as_str()) {
-                return Some(Command::Judge {
-                    name: name.as_str(),
-                    plan: plan.as_str(),
-                });
+        [first, second] => {
+            if is_word_for_name(first.as_str()) && is_word_for_name(second.as_str()) {
+                return Some((first.as_str(), second.as_str()));
             }
             None
         }
@@ -118,25 +172,58 @@ fn is_word_for_name(word: &str) -> bool
 }
 
 // What is given with the options that the words are.
-fn with_options(given: Given, words: &[String]) -> Option<Given>
-    requires given { IsAllowed given }
-    ensures with { result ≡ with_options given (map string_bytes words.now) }
-    ensures allowed { IfSome result IsAllowed }
+fn with_options<'a>(options: Options<'a>, words: &'a [String]) -> Option<Options<'a>>
+    requires given { IsAllowed options.limits }
+    ensures with { option_map wanted_by result
+        ≡ with_options (wanted_by options.entry) (map string_bytes words.now) }
+    ensures allowed { IfSome result (λ more. IsAllowed more.limits) }
 {
     let Some((option, words)) = words.split_first() else {
-        return Some(given);
+        return Some(options);
     };
-    let (number, words) = words.split_first()?;
+    let (value, words) = words.split_first()?;
     with_options(
-        with_option(given, option.as_str(), number.as_bytes())?,
+        with_option(options, option.as_str(), value.as_str())?,
         words,
     )
 }
 
-// What is given with the option and the number behind it: each option at most once.
-fn with_option(given: Given, option: &str, number: &[u8]) -> Option<Given>
+// What is given with the option and the word behind it: each option at most once.
+fn with_option<'a>(options: Options<'a>, option: &str, value: &'a str) -> Option<Options<'a>>
+    requires given { IsAllowed options.limits }
+    ensures with { option_map wanted_by result
+        ≡ with_option (wanted_by options.entry) option.now value.now }
+    ensures allowed { IfSome result (λ more. IsAllowed more.limits) }
+{
+    if option == "--cert" {
+        return with_cert(options, value);
+    }
+    let limits = with_limit(options.limits, option, value.as_bytes())?;
+    Some(Options {
+        cert: options.cert,
+        limits,
+    })
+}
+
+// What is given with the name of a certificate.
+fn with_cert<'a>(options: Options<'a>, name: &'a str) -> Option<Options<'a>>
+    requires given { IsAllowed options.limits }
+    ensures with { option_map wanted_by result ≡ with_cert (wanted_by options.entry) name.now }
+    ensures allowed { IfSome result (λ more. IsAllowed more.limits) }
+{
+    if options.cert.is_some() || !is_word_for_name(name) {
+        return None;
+    }
+    Some(Options {
+        cert: Some(name),
+        limits: options.limits,
+    })
+}
+
+// What is given with an option that is a limit, and the number behind it.
+fn with_limit(given: Given, option: &str, number: &[u8]) -> Option<Given>
     requires given { IsAllowed given }
-    ensures with { result ≡ with_option given option.now number.now }
+    ensures with { result ≡ with_limit_of given option.now number.now }
     ensures allowed { IfSome result IsAllowed }
 {
     let limit = limit_of(option)?;
@@ -237,7 +324,7 @@ fn number_within(range: Range, word: &[u8]) -> Option<u64>
 fn budget_of(given: Given) -> Budget
     requires given { IsAllowed given }
     ensures budget { result ≡ budget_of given }
-    ensures nodes { 0 < result.nodes }
+    ensures nodes { IsNodeCount result.nodes }
 {
     Budget {
         nodes: given.nodes.unwrap_or(range_of(Limit::Nodes).default),

@@ -95,6 +95,66 @@ fn a_call_that_fails_is_answered(rt: HostRuntime) -> Result<(), Fail> {
     Ok(())
 }
 
+const CLAIM: &str = "status,optimal
+cost,1
+bound,1
+nodes,1
+";
+
+const UNSTORED: &str = "fault,write\n";
+
+// Runs over one set of files: a certificate is stored, and what is stored is accepted.
+#[test]
+fn a_certificate_is_stored_and_accepted(rt: HostRuntime) -> Result<(), Fail> {
+    let alloc = rt.alloc();
+    let mut files = MemoryFiles::new(alloc);
+    files.add("day.csv", TWO_FLIGHTS)?;
+    // the first store, since calls are counted over all runs
+    files.fail(3)?;
+    let rows = [
+        ("plan day.csv --cert day.cert", UNSTORED, Status::WriteFault),
+        ("check day.csv day.cert", FAULT, Status::ReadFault),
+        ("plan day.csv --cert day.cert", REPORT, Status::Done),
+        ("check day.csv day.cert", CLAIM, Status::Done),
+        ("plan --cert day.csv day.csv", REPORT, Status::Done),
+        (
+            "check day.csv day.cert",
+            "refused,1,1,NoDay\n",
+            Status::BadScenario,
+        ),
+    ];
+    for (line, written, status) in rows {
+        let mut out = MemorySink::new(alloc, 1_000, 1_000)?;
+        let ran = run(alloc, &words_of(alloc, line)?, &mut files, &mut out);
+        assert_eq!(rt; ran.status, status, "{line}");
+        assert_eq!(rt; out.bytes(), written.as_bytes(), "{line}");
+    }
+    Ok(())
+}
+
+// A fault is told as soon as it is met: so a read behind it isn't made.
+#[test]
+fn a_certificate_is_read_in_pieces(rt: HostRuntime) -> Result<(), Fail> {
+    let alloc = rt.alloc();
+    let mut cert = Vec::from_slice(alloc, b"x,1\n")?;
+    cert.resize(70_000, b'0')?;
+    for (call, written, status) in [
+        (4, FAULT, Status::ReadFault),
+        (5, "refused,1,1,BadKind\n", Status::BadCertificate),
+    ] {
+        let mut files = MemoryFiles::new(alloc);
+        files.add("day.csv", TWO_FLIGHTS)?;
+        files.add("day.cert", &cert)?;
+        files.fail(call)?;
+        let mut out = MemorySink::new(alloc, 1_000, 1_000)?;
+        let words = words_of(alloc, "check day.csv day.cert")?;
+        let ran = run(alloc, &words, &mut files, &mut out);
+        assert_eq!(rt; ran.status, status, "{call}");
+        assert_eq!(rt; out.bytes(), written.as_bytes(), "{call}");
+    }
+    Ok(())
+}
+
 // What the second flight costs by tables: the greedy plan lets it wait, for 3, and the least one
 // lets the first flight wait, for 1.
 const TABLES: &[u8] = b"table,TT,0,5,10,15,20,25
