@@ -6,7 +6,7 @@ use Rattle.flow_types.specs.declared.plan.Stop.{Stop}
 use Rattle.time_windows.specs.Boxes.{Box, IsInBox}
 use Rattle.time_windows.specs.Held.{Held, IsMadeFor, box_of}
 use Rattle.time_windows.specs.Splits.{IsBranching, late_branch}
-use Rattle.time_windows.specs.Tight.{IsTightened}
+use Rattle.time_windows.specs.Tight.{IsTight, IsTightened}
 use Rattle.branch_tree.specs.declared.walk.Branch.{Branch}
 use Rattle.branch_tree.specs.declared.walk.Step.{Step}
 use Rattle.branch_tree.specs.declared.walk.Step.TheVariants.{Early, Late}
@@ -38,9 +38,10 @@ abbrev pub ArePartsOf : Box → List Held → Type 0
 ArePartsOf top [] = Unit {0}
 ArePartsOf top (held ∷ above) = IsPartOf top held × ArePartsOf top above
 
--- a box that may be split so
+-- a tight box that may be split so
 pub record IsFork (parts : Parts) (held : Held) (branch : Branch) : Type 0 where
   pub made : IsMadeFor parts held
+  pub tight : IsTight parts (box_of held)
   pub there : branch.flight < length parts.flights
   pub branching : IsBranching (box_of held branch.flight branch.node) branch.time
 

@@ -120,7 +120,8 @@ if_to : (b : Bool) (x y most : ℕ) → x ≤ most → y ≤ most → (if b then
 if_to true x y most first second = first
 if_to false x y most first second = second
 
-pub latest_to : (periods : ℕ) (flight : Flight) (node : ℕ) → latest_of periods flight node ≤ periods - 1
+pub latest_to : (periods : ℕ) (flight : Flight) (node : ℕ)
+    → latest_of periods flight node ≤ periods - 1
 latest_to periods flight node =
     if_to (node == 0) (min (flight.sd + flight.mg) (periods - 1)) _ (periods - 1) (omega arith)
     (if_to (node + 1 == length flight.nodes) (min (flight.sa + flight.md) (periods - 1))

@@ -44,7 +44,7 @@ leg_out_same a b same n window leg joins = record {
   time = subst (λ (x : Access). LeadsOn x.window leg.least window) (sym (same leg.to)) joins.time;
 }
 
-row_same : (flight : Flight) (a b : ℕ → Access) → ((n : ℕ) → b n ≡ a n) → IsTightRow flight a
+pub row_same : (flight : Flight) (a b : ℕ → Access) → ((n : ℕ) → b n ≡ a n) → IsTightRow flight a
     → IsTightRow flight b
 row_same flight a b same tight = record {
   proper = λ n. subst (λ (x : Access). IsProper x.window) (sym (same n)) (tight.proper n);

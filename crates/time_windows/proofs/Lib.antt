@@ -20,3 +20,4 @@ pub mod MadeFacts
 pub mod PathFacts
 pub mod PartFacts
 pub mod OneTight
+pub mod NotedFacts

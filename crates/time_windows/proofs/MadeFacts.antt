@@ -8,7 +8,8 @@ use Rattle.time_windows.specs.declared.access.Window.{Window}
 use Rattle.time_windows.specs.Boxes.{Box, IsBoxOf, IsWindowWithin, IsWithin, closed, root_box, root_row}
 use Rattle.time_windows.specs.Held.{AreLegGroupsOf, Held, IsMadeFor, box_of}
 use Rattle.time_windows.specs.Splits.{IsBranching, after, changed_at, early_branch, late_branch, until}
-use Rattle.time_windows.specs.Tight.{IsTightened}
+use Rattle.time_windows.specs.Narrowing.{Narrows}
+use Rattle.time_windows.specs.Tight.{IsTight, IsTightened}
 use Rattle.time_windows.specs.Turns.{AreTurnsOf}
 use Rattle.time_windows.proofs.LawFacts.{changed_cases}
 use Rattle.time_windows.proofs.WindowFacts.{if_lt, within_same, within_then}
@@ -132,11 +133,24 @@ late_made parts old new flight node time made branching leg_groups turns is = re
       (late_inside parts (box_of old) flight node time branching made.inside);
 }
 
+within_made : (parts : Parts) (old new : Held) → IsMadeFor parts old
+    → new.leg_groups ≡ old.leg_groups
+    → new.turns ≡ old.turns → IsWithin (box_of new) (box_of old) → IsMadeFor parts new
+within_made parts old new made leg_groups turns within = record {
+  leg_groups = subst (AreLegGroupsOf parts) (sym leg_groups) made.leg_groups;
+  turns = subst (AreTurnsOf parts) (sym turns) made.turns;
+  inside = within_inside parts (box_of old) (box_of new) within made.inside;
+}
+
 pub tight_made : (parts : Parts) (old new : Held) → IsMadeFor parts old
     → new.leg_groups ≡ old.leg_groups
     → new.turns ≡ old.turns → IsTightened parts (box_of old) (box_of new) → IsMadeFor parts new
-tight_made parts old new made leg_groups turns tight = record {
-  leg_groups = subst (AreLegGroupsOf parts) (sym leg_groups) made.leg_groups;
-  turns = subst (AreTurnsOf parts) (sym turns) made.turns;
-  inside = within_inside parts (box_of old) (box_of new) tight.within made.inside;
-}
+tight_made parts old new made leg_groups turns tight =
+    within_made parts old new made leg_groups turns tight.within
+
+pub narrow_made : (parts : Parts) (old new : Held) → IsMadeFor parts old
+    → new.leg_groups ≡ old.leg_groups
+    → new.turns ≡ old.turns → Narrows (IsTight parts) old.accesses new.accesses
+    → IsMadeFor parts new
+narrow_made parts old new made leg_groups turns narrows =
+    within_made parts old new made leg_groups turns narrows.within

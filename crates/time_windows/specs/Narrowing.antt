@@ -142,6 +142,18 @@ pub record IsSettled (parts : Parts) (number : ℕ) (old new : List Access) : Ty
   pub row : (flight : Flight) → slice_get parts.flights number ≡ Some flight
       → IsTightRow flight (access_at new number)
 
+-- tight, but for the windows of one flight
+pub record IsTightApart (parts : Parts) (number : ℕ) (box : Box) : Type 0 where
+  pub rows : (f : ℕ) (flight : Flight) → f ≢ number → slice_get parts.flights f ≡ Some flight
+      → IsTightRow flight (box f)
+  pub turns : All (λ c. c.first ≢ number → c.second ≢ number → IsTightTurn parts box c)
+      parts.connections
+
+-- each flight waits, or is noted as it is
+abbrev pub AreNoted : List Access → List Access → List ℕ → Type 0
+AreNoted noted accesses words = (f : ℕ) → IsIn words f
+    ⊎ ((n : ℕ) → access_at noted f n ≡ access_at accesses f n)
+
 -- every tight box within keeps to the window at the node
 abbrev pub KeepsAt : Parts → ℕ → ℕ → Option Window → List Access → Type 0
 KeepsAt parts flight node window old = (other : Box) → IsTight parts other

@@ -3,15 +3,17 @@ ghost use Rattle.std.specs.Prelude.{◌≡◌};
 
 use crate::access::{Access, Window};
 use crate::accesses::access_at;
-use crate::connections::tighten_all;
+use crate::connections::{settle_flight, tighten_all};
 use crate::groups::Groups;
 use crate::leg_groups::{leg_groups_of, legs_from};
 use crate::marks::{first_closed, has_closed_must, have_one_option, options_of};
 use crate::root::root_access;
+use crate::rows::settle;
 use crate::tightening::Tight;
 use crate::turns::Turns;
 use crate::windows::{after, until};
 use flow_types::{Leg, MOST_NODES, OutOfMemory, Scenario};
+use number_set::FewNumbers;
 use std::alloc::Global;
 use std::marker::Model;
 
@@ -43,7 +45,7 @@ impl Model for Boxes {
 }
 
 impl Boxes {
-    ghost use Rattle.std.specs.Prelude.{ℕ, ◌+◌, ◌*◌, ◌<◌, ◌↔◌, IsTrue, IfOk, List, [], All, get_or, length};
+    ghost use Rattle.std.specs.Prelude.{◌≡◌, ℕ, ◌+◌, ◌*◌, ◌<◌, ◌↔◌, IsTrue, IfOk, List, [], All, get_or, length, set};
     ghost use Rattle.flow_types.specs.declared.parts.Parts.{Parts};
     ghost use Rattle.flow_types.specs.declared.plan.Stop.{Stop};
     ghost use Rattle.flow_types.specs.Feasible.{AreTrips, KeepsTurn};
@@ -51,7 +53,7 @@ impl Boxes {
     ghost use Rattle.flow_types.specs.Scenario.{parts_of};
     ghost use Rattle.time_windows.specs.Boxes.{IsClosedMust, IsInBox, IsProper, options_of, root_box};
     ghost use Rattle.time_windows.specs.Held.{IsMadeFor, box_of};
-    ghost use Rattle.time_windows.specs.Narrowing.{AreAccesses};
+    ghost use Rattle.time_windows.specs.Narrowing.{AreAccesses, IsDone, IsSettled, IsSound, IsStep};
     ghost use Rattle.time_windows.specs.Path.{with_accesses};
     ghost use Rattle.time_windows.specs.Splits.{IsBranching, early_branch, late_branch};
     ghost use Rattle.time_windows.specs.Tight.{IsTightened, IsTightAnswer};
@@ -199,7 +201,55 @@ impl Boxes {
             → IsInBox (box_of self.old) plan → IsInBox (box_of self.new) plan }
     {
         tighten_all(&mut self.accesses, &self.leg_groups, &self.turns, s);
+        self.told()
+    }
+
+    /// Whether a node that must be entered is closed.
+    pub(crate) fn told(&self) -> Tight
+        ensures { IsTightAnswer (box_of self.now) result }
+    {
         first_closed(&self.accesses)
+    }
+
+    /// Narrows the windows of the flight until each has a leg in and a leg out.
+    #[tactic(auto, using(crate::proofs::MadeFacts::narrow_made))]
+    pub(crate) fn settle(&mut self, s: &Scenario, flight: u32)
+        requires made { IsMadeFor (parts_of s.now) self.old }
+        requires flight { flight < length (parts_of s.now).flights }
+        ensures settled { IsSettled (parts_of s.now) flight self.old.accesses self.new.accesses }
+        ensures made { IsMadeFor (parts_of s.now) self.new }
+        ensures rest { self.old ≡ with_accesses self.new self.old.accesses }
+        ensures count { length self.new.accesses ≡ length self.old.accesses }
+    {
+        settle(&mut self.accesses, &self.leg_groups, s, flight);
+    }
+
+    /// Narrows the windows at the connections of the flight. Each flight whose windows that moves
+    /// waits then.
+    #[tactic(auto, using(crate::proofs::MadeFacts::narrow_made))]
+    pub(crate) fn settle_turns(&mut self, s: &Scenario, waiting: &mut FewNumbers, flight: u32)
+        requires made { IsMadeFor (parts_of s.now) self.old }
+        requires flight { flight < length (parts_of s.now).flights }
+        ensures step { IsStep (parts_of s.now) self.old.accesses self.new.accesses waiting.old
+            waiting.new }
+        ensures departures { All (λ connection. connection.second ≡ flight
+            → IsDone (parts_of s.now) self.new.accesses waiting.new connection)
+            (parts_of s.now).connections }
+        ensures arrivals { All (λ connection. connection.first ≡ flight
+            → IsDone (parts_of s.now) self.new.accesses waiting.new connection)
+            (parts_of s.now).connections }
+        ensures made { IsMadeFor (parts_of s.now) self.new }
+        ensures rest { self.old ≡ with_accesses self.new self.old.accesses }
+        ensures count { length self.new.accesses ≡ length self.old.accesses }
+    {
+        settle_flight(
+            &mut self.accesses,
+            waiting,
+            &self.leg_groups,
+            &self.turns,
+            s,
+            flight,
+        );
     }
 
     /// What the box says of each of 32 nodes a flight.
@@ -208,6 +258,15 @@ impl Boxes {
         ensures sound { AreAccesses self.now.accesses }
     {
         &self.accesses
+    }
+
+    /// Puts another access in the place of one.
+    pub(crate) fn put_access(&mut self, index: usize, access: Access)
+        requires index { index < length self.old.accesses }
+        requires sound { IsSound access.window }
+        ensures { self.new ≡ with_accesses self.old (set self.old.accesses index access) }
+    {
+        self.accesses[index] = access;
     }
 
     /// Puts other accesses in their place.

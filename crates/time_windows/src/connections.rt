@@ -56,8 +56,9 @@ fn settle_connections(
     }
 }
 
-// Narrows the windows at the connections of the flight.
-fn settle_flight(
+/// Narrows the windows at the connections of the flight. Each flight whose windows that moves waits
+/// then.
+pub fn settle_flight(
     accesses: &mut [Access],
     waiting: &mut FewNumbers,
     leg_groups: &Groups<Leg>,

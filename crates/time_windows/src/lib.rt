@@ -43,10 +43,12 @@
 //! and 16 a flight. In a root box what is of the legs and the connections may take up to twice
 //! that, since those lists grow there. `tighten`, the splits and the look-ups take none. A trail
 //! takes 8 bytes for each of 32 nodes a flight beside its box, and 16 for each step of its log, one
-//! for each node that a step down has changed and one for the step; the log may take up to twice
-//! that, since it grows. `up` takes none. Time: `tighten` goes over the legs of each flight
-//! twice, and over its connections; and again over both as often as a connection has moved one of
-//! its windows, which is at most once for each period of its ends.
+//! for each change of a node and one for the step down; the log may take up to twice that, since it
+//! grows. `up` takes none. Time: `tighten` goes over the legs of each flight twice, and over its
+//! connections; and again over both as often as a connection has moved one of its windows, which is
+//! at most once for each period of its ends. `Trail::down` goes over the legs of the flight that is
+//! split, and from there on as `tighten` does; then once over the marks of all nodes. `up` puts
+//! back what was noted.
 #![tactic(auto)]
 
 mod access;

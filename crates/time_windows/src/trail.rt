@@ -1,7 +1,9 @@
 //! Paths of boxes: down the sides of splits, and up again.
-ghost use Rattle.std.specs.Prelude.{◌≡◌, ◌∷◌, ◌<◌, ◌^◌, ◌↔◌, ℕ, IsTrue, List, OnErr, OnOk, All, get_or, length, reverse, set};
+ghost use Rattle.std.specs.Prelude.{◌≡◌, ◌≢◌, ◌∷◌, ◌<◌, ◌^◌, ◌↔◌, ℕ, IsTrue, List, OnErr, OnOk, All, get_or, length, reverse, set};
+ghost use Rattle.flow_types.specs.declared.parts.Parts.{Parts};
 ghost use Rattle.flow_types.specs.Scenario.{parts_of};
-ghost use Rattle.time_windows.specs.Held.{Held, IsMadeFor, box_of};
+ghost use Rattle.time_windows.specs.Held.{Held, IsMadeFor, access_at, box_of};
+ghost use Rattle.time_windows.specs.Narrowing.{IsTightApart};
 ghost use Rattle.time_windows.specs.Path.{above_of, branch_of, with_accesses};
 ghost use Rattle.time_windows.specs.Splits.{IsBranching};
 ghost use Rattle.time_windows.specs.Tight.{IsTightened, IsTightAnswer};
@@ -10,7 +12,8 @@ ghost use Rattle.time_windows.specs.Trail.{IsChange, IsSoundAccess};
 use crate::access::{Access, Window};
 use crate::boxes::Boxes;
 use crate::tightening::Tight;
-use flow_types::{OutOfMemory, Scenario};
+use flow_types::{MOST_NODES, OutOfMemory, Scenario};
+use number_set::FewNumbers;
 use std::alloc::Global;
 use std::marker::Model;
 
@@ -61,13 +64,13 @@ impl Model for Trail {
 }
 
 impl Trail {
-    ghost use Rattle.std.specs.Prelude.{◌≡◌, ◌≢◌, ◌∷◌, ℕ, IfOk, List, OnErr, OnOk, [], length};
+    ghost use Rattle.std.specs.Prelude.{◌≡◌, ◌≢◌, ◌∷◌, ◌<◌, ℕ, IfOk, List, OnErr, OnOk, [], length};
     ghost use Rattle.flow_types.specs.declared.parts.Parts.{Parts};
     ghost use Rattle.flow_types.specs.Scenario.{parts_of};
     ghost use Rattle.time_windows.specs.Held.{Held, IsMadeFor, box_of};
     ghost use Rattle.time_windows.specs.Path.{branch_of};
     ghost use Rattle.time_windows.specs.Splits.{IsBranching};
-    ghost use Rattle.time_windows.specs.Tight.{IsTightened, IsTightAnswer};
+    ghost use Rattle.time_windows.specs.Tight.{IsTight, IsTightened, IsTightAnswer};
 
     /// The path of this box alone. It takes the box in any case.
     pub fn new(alloc: Global, boxes: Boxes) -> Result<Trail, OutOfMemory>
@@ -97,9 +100,12 @@ impl Trail {
         self.depth
     }
 
-    /// Goes down to the tight box of a side of a split of the present one, and tells whether a node
-    /// that must be entered is closed there, as `Boxes::tighten` does. Without the memory for it,
-    /// the path stays as it was.
+    /// Goes down to the tight box of a side of a split of the present one, which is tight itself,
+    /// and tells whether a node that must be entered is closed there, as `Boxes::tighten` does.
+    /// Without the memory for it, the path stays as it was.
+    ///
+    /// It goes over the legs of the flight, and then, as `Boxes::tighten`, over those of the flights
+    /// whose ends a connection moves.
     pub fn down(
         &mut self,
         s: &Scenario,
@@ -109,6 +115,8 @@ impl Trail {
         side: Side,
     ) -> Result<Tight, OutOfMemory>
         requires made { IsMadeFor (parts_of s.now) self.old.present }
+        requires tight { IsTight (parts_of s.now) (box_of self.old.present) }
+        requires flight { flight < length (parts_of s.now).flights }
         requires branching { IsBranching (box_of self.old.present flight node) time }
         ensures above { OnOk result (self.new.above ≡ self.old.present ∷ self.old.above) }
         ensures tight { OnOk result (IsTightened (parts_of s.now)
@@ -119,15 +127,21 @@ impl Trail {
         ensures err { OnErr result (self.new ≡ self.old) }
     {
         self.log.push(Change::Descent)?;
-        let told = narrow(&mut self.boxes, s, flight, node, time, side);
-        match note_changes(self.boxes.accesses(), &mut self.accesses, &mut self.log) {
+        narrow(&mut self.boxes, flight, node, time, side);
+        match tighten_noted(
+            &mut self.boxes,
+            s,
+            flight,
+            &mut self.accesses,
+            &mut self.log,
+        ) {
             Ok(()) => {
                 self.depth += 1;
-                Ok(told)
+                Ok(self.boxes.told())
             }
             Err(error) => {
-                take_back(&mut self.accesses, &mut self.log);
                 self.boxes.put_back(&self.accesses);
+                take_back(&mut self.boxes, &mut self.accesses, &mut self.log);
                 Err(error)
             }
         }
@@ -138,20 +152,17 @@ impl Trail {
         requires below { self.old.above ≢ [] }
         ensures { self.old.above ≡ self.new.present ∷ self.new.above }
     {
-        take_back(&mut self.accesses, &mut self.log);
-        self.boxes.put_back(&self.accesses);
+        take_back(&mut self.boxes, &mut self.accesses, &mut self.log);
         self.depth -= 1;
     }
 }
 
-// Leaves the tight box of the side.
-fn narrow(boxes: &mut Boxes, s: &Scenario, flight: u32, node: u16, time: u16, side: Side) -> Tight
-    requires made { IsMadeFor (parts_of s.now) boxes.old }
+// Narrows the window of the node to that of the side.
+fn narrow(boxes: &mut Boxes, flight: u32, node: u16, time: u16, side: Side)
     requires branching { IsBranching (box_of boxes.old flight node) time }
-    ensures tight { IsTightened (parts_of s.now)
-        (branch_of side flight node time (box_of boxes.old)) (box_of boxes.new) }
-    ensures told { IsTightAnswer (box_of boxes.new) result }
-    ensures made { IsMadeFor (parts_of s.now) boxes.new }
+    ensures branch { (f n : ℕ) → box_of boxes.new f n
+        ≡ branch_of side flight node time (box_of boxes.old) f n }
+    ensures made { (parts : Parts) → IsMadeFor parts boxes.old → IsMadeFor parts boxes.new }
     ensures rest { boxes.old ≡ with_accesses boxes.new boxes.old.accesses }
     ensures count { length boxes.new.accesses ≡ length boxes.old.accesses }
 {
@@ -159,22 +170,66 @@ fn narrow(boxes: &mut Boxes, s: &Scenario, flight: u32, node: u16, time: u16, si
         Side::Early => boxes.narrow_by(flight, node, time),
         Side::Late => boxes.narrow_after(flight, node, time),
     }
-    boxes.tighten(s)
 }
 
-// Notes each access that is another one now, and what it was. Where the memory for it runs out,
-// those that were noted are.
+// Leaves the tight box, where no windows but those of this flight were narrowed since a tight one,
+// and notes what has changed since. Where the memory for that runs out, what was noted is.
+fn tighten_noted(
+    boxes: &mut Boxes,
+    s: &Scenario,
+    flight: u32,
+    accesses: &mut Vec<Access>,
+    log: &mut Vec<Change>,
+) -> Result<(), OutOfMemory>
+    requires made { IsMadeFor (parts_of s.now) boxes.old }
+    requires flight { flight < length (parts_of s.now).flights }
+    requires apart { IsTightApart (parts_of s.now) flight (box_of boxes.old) }
+    requires others { (f n : ℕ) → f ≢ flight
+        → access_at accesses.old.items f n ≡ box_of boxes.old f n }
+    requires count { length boxes.old.accesses ≡ length accesses.old.items }
+    requires few { length accesses.old.items < 2 ^ 32 }
+    requires sound { All IsSoundAccess accesses.old.items }
+    requires changes { All (IsChange (length accesses.old.items)) log.old.items }
+    ensures noted { OnOk result (accesses.new.items ≡ boxes.new.accesses) }
+    ensures tight { OnOk result (IsTightened (parts_of s.now) (box_of boxes.old)
+        (box_of boxes.new)) }
+    ensures made { IsMadeFor (parts_of s.now) boxes.new }
+    ensures rest { boxes.old ≡ with_accesses boxes.new boxes.old.accesses }
+    ensures path { (held : Held)
+        → above_of (with_accesses held accesses.new.items) (reverse log.new.items)
+        ≡ above_of (with_accesses held accesses.old.items) (reverse log.old.items) }
+    ensures count { length accesses.new.items ≡ length accesses.old.items }
+    ensures boxes_count { length boxes.new.accesses ≡ length boxes.old.accesses }
+    ensures sound { All IsSoundAccess accesses.new.items }
+    ensures changes { All (IsChange (length accesses.new.items)) log.new.items }
+{
+    boxes.settle(s, flight);
+    let mut waiting = FewNumbers::below(0);
+    waiting.insert(flight);
+    while let Some(moved) = waiting.pop_first() {
+        note_changes(boxes.accesses(), accesses, log, moved)?;
+        boxes.settle_turns(s, &mut waiting, moved);
+    }
+    Ok(())
+}
+
+// Notes each access of the flight that is another one now, and what it was. Where the memory for it
+// runs out, those that were noted are.
 fn note_changes(
     now: &[Access],
     accesses: &mut Vec<Access>,
     log: &mut Vec<Change>,
+    flight: u32,
 ) -> Result<(), OutOfMemory>
     requires count { length now.now ≡ length accesses.old.items }
     requires few { length accesses.old.items < 2 ^ 32 }
     requires known { All IsSoundAccess now.now }
     requires sound { All IsSoundAccess accesses.old.items }
     requires changes { All (IsChange (length accesses.old.items)) log.old.items }
-    ensures noted { OnOk result (accesses.new.items ≡ now.now) }
+    ensures here { OnOk result ((n : ℕ)
+        → access_at accesses.new.items flight n ≡ access_at now.now flight n) }
+    ensures others { OnOk result ((f n : ℕ) → f ≢ flight
+        → access_at accesses.new.items f n ≡ access_at accesses.old.items f n) }
     ensures path { (held : Held)
         → above_of (with_accesses held accesses.new.items) (reverse log.new.items)
         ≡ above_of (with_accesses held accesses.old.items) (reverse log.old.items) }
@@ -182,7 +237,9 @@ fn note_changes(
     ensures sound { All IsSoundAccess accesses.new.items }
     ensures changes { All (IsChange (length accesses.new.items)) log.new.items }
 {
-    for index in 0..now.len() {
+    let start = (flight as usize * MOST_NODES).min(now.len());
+    let end = (start + MOST_NODES).min(now.len());
+    for index in start..end {
         note_change(accesses, log, index, now[index])?;
     }
     Ok(())
@@ -238,7 +295,8 @@ fn is_same_window(a: Option<Window>, b: Option<Window>) -> bool
 }
 
 // Takes back the changes since the last step down, and the step.
-fn take_back(accesses: &mut Vec<Access>, log: &mut Vec<Change>)
+fn take_back(boxes: &mut Boxes, accesses: &mut Vec<Access>, log: &mut Vec<Change>)
+    requires same { boxes.old.accesses ≡ accesses.old.items }
     requires few { length accesses.old.items < 2 ^ 32 }
     requires sound { All IsSoundAccess accesses.old.items }
     requires changes { All (IsChange (length accesses.old.items)) log.old.items }
@@ -246,6 +304,7 @@ fn take_back(accesses: &mut Vec<Access>, log: &mut Vec<Change>)
         → above_of (with_accesses held accesses.old.items) (reverse log.old.items) ≡ next ∷ above
         → (with_accesses held accesses.new.items ≡ next)
         × (above_of next (reverse log.new.items) ≡ above) }
+    ensures put { boxes.new ≡ with_accesses boxes.old accesses.new.items }
     ensures count { length accesses.new.items ≡ length accesses.old.items }
     ensures sound { All IsSoundAccess accesses.new.items }
     ensures changes { All (IsChange (length accesses.new.items)) log.new.items }
@@ -253,7 +312,10 @@ fn take_back(accesses: &mut Vec<Access>, log: &mut Vec<Change>)
     while let Some(change) = log.pop() {
         match change {
             Change::Descent => return,
-            Change::Was { index, access } => accesses[index as usize] = access,
+            Change::Was { index, access } => {
+                accesses[index as usize] = access;
+                boxes.put_access(index as usize, access);
+            }
         }
     }
 }

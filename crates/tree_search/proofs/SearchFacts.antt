@@ -148,6 +148,7 @@ module _ (parts : Parts) (budget : Budget) (path : Path) (old new : RecordDraft)
         steps = (
           record {
             made = arrived.made;
+            tight = arrived.tight;
             there = seen.branch_is.there;
             branching = seen.branch_is.branching;
           },

@@ -9,7 +9,7 @@
 //!     let visits = Visits::new(alloc, &s)?;
 //!     let rows = [Multiplier { row: RowName::Dep { place, period }, value: 3 }];
 //!     match dual_value(&mut sums, &mut buffer, &columns, &visits, &s, &boxes, 1, &rows) {
-//!         Ok(value) => println!("so many times the cost and the rows come to {value} at the least"),
+//!         Ok(value) => println!("they come to {value} at the least"),
 //!         Err(position) => println!("there is no row with the name at {position}"),
 //!     }
 //!

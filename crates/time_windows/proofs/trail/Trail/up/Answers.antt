@@ -6,7 +6,7 @@ use Rattle.time_windows.proofs.trail.Trail.up.Goals as goal
 
 pub returns : goal.returns
 returns c =
-    rw (← c.self.view_is, c.put_back.ensures, c.deref.ensures.value)
+    rw (← c.self.view_is, c.take_back.ensures.put)
     (taken_back c.self.inside.boxes c.self.inside.accesses.items c.take_back.new.accesses.items
     c.self.inside.log.items c.take_back.new.log.items c.take_back.ensures.back
     c.self.invariant.same
