@@ -1,5 +1,5 @@
--- The certificate of a lawful tree is accepted. Its lines go down the tree; the late side of a split
--- is made tight when its turn comes, and is then the box that the lawful tree has there.
+-- The certificate of a lawful tree is accepted. Its lines go down the tree; the late side of a
+-- split is made tight when its turn comes, and is then the box that the lawful tree has there.
 use Rattle.std.proofs.Common.{◌≡◌, inl, inr, ℕ, suc, ◌+◌, ◌-◌, ◌<◌, true, false, List, [], ◌∷◌, ◌++◌, length, drop, slice_get, append_assoc, Option, None, Some, Ok, refl, sym, ◌∙◌, ap, ap₂, subst, ℤ, arith}
 use Rattle.std.specs.Prelude.{int_le, nat_eq, nat_lt, slice_index_or}
 use Rattle.std.proofs.lemmas.Bool.{and_from, eq-eqb, le-ltb, lt-ltb}
@@ -320,58 +320,58 @@ module _ (parts : Parts) (valid : IsScenario parts) (root : Box) (inside : IsBox
     ended (line + 1) told.NoPlan (rw none refl),
   )
 
-  module _ (plan : List (List Stop)) (is : cert.plan ≡ Some plan) (in_root : IsPlanIn parts root plan)
-    where
-      abbrev cost : ℤ
-      cost = plan_cost parts.tables parts.flights plan
+  module _ (plan : List (List Stop)) (is : cert.plan ≡ Some plan)
+      (in_root : IsPlanIn parts root plan) where
+    abbrev cost : ℤ
+    cost = plan_cost parts.tables parts.flights plan
 
-      same_length : length plan ≡ length parts.flights
-      same_length = AreTrips-length parts.day.periods parts.flights plan in_root.feasible.trips
+    same_length : length plan ≡ length parts.flights
+    same_length = AreTrips-length parts.day.periods parts.flights plan in_root.feasible.trips
 
-      -- of such a plan there is nothing wrong
-      no_fault : plan_fault parts root plan cost (first_broken parts plan) ≡ None
-      no_fault =
-          rw (
-            feasible_to parts plan valid in_root.feasible,
-            cost_same cost,
-            nowhere_outside root plan in_root.inside,
-          ) refl
+    -- of such a plan there is nothing wrong
+    no_fault : plan_fault parts root plan cost (first_broken parts plan) ≡ None
+    no_fault =
+        rw (
+          feasible_to parts plan valid in_root.feasible,
+          cost_same cost,
+          nowhere_outside root plan in_root.inside,
+        ) refl
 
-      told_now : (rest done : List (List Stop)) → done ++ rest ≡ plan
-          → trips_told parts root cost done ≡ Ok (told_before rest cost done)
-      told_now [] done same =
-          let whole : done ≡ plan = sym (append-nil done) ∙ same in
-          let past_all : nat_lt (length plan) (length parts.flights) ≡ false =
-          le-ltb (length plan) (length parts.flights) (omega (arith, same_length)) in
-          subst (λ trips. trips_told parts root cost trips ≡ Ok (told.Whole cost trips)) (sym whole)
-          (rw (past_all, no_fault) refl)
-      told_now (trip ∷ rest) done same =
-          let sizes = length-append done (trip ∷ rest) in
-          let all = ap (λ (trips : List (List Stop)). length trips) same in
-          let fewer : nat_lt (length done) (length parts.flights) ≡ true =
-          lt-ltb (length done) (length parts.flights) (omega (arith, sizes, all, same_length)) in
-          rw fewer refl
+    told_now : (rest done : List (List Stop)) → done ++ rest ≡ plan
+        → trips_told parts root cost done ≡ Ok (told_before rest cost done)
+    told_now [] done same =
+        let whole : done ≡ plan = sym (append-nil done) ∙ same in
+        let past_all : nat_lt (length plan) (length parts.flights) ≡ false =
+        le-ltb (length plan) (length parts.flights) (omega (arith, same_length)) in
+        subst (λ trips. trips_told parts root cost trips ≡ Ok (told.Whole cost trips)) (sym whole)
+        (rw (past_all, no_fault) refl)
+    told_now (trip ∷ rest) done same =
+        let sizes = length-append done (trip ∷ rest) in
+        let all = ap (λ (trips : List (List Stop)). length trips) same in
+        let fewer : nat_lt (length done) (length parts.flights) ≡ true =
+        lt-ltb (length done) (length parts.flights) (omega (arith, sizes, all, same_length)) in
+        rw fewer refl
 
-      trips_end : (rest done : List (List Stop)) → done ++ rest ≡ plan → (line : ℕ)
-          → Ends line (trip_items rest ++ last_items) (past (told_before rest cost done))
-      trips_end [] done same line =
-          let whole : done ≡ plan = sym (append-nil done) ∙ same in
-          ended line (told.Whole cost done) (rw (is, whole) refl)
-      trips_end (trip ∷ rest) done same line =
-          let again : (done ++ trip ∷ []) ++ rest ≡ plan =
-          append_assoc done (trip ∷ []) rest ∙ same in (
-            Ok (none_left, past (told_before rest cost (done ++ trip ∷ []))),
-            rw (told_now rest (done ++ trip ∷ []) again) refl,
-            trips_end rest (done ++ trip ∷ []) again (line + 1),
-          )
+    trips_end : (rest done : List (List Stop)) → done ++ rest ≡ plan → (line : ℕ)
+        → Ends line (trip_items rest ++ last_items) (past (told_before rest cost done))
+    trips_end [] done same line =
+        let whole : done ≡ plan = sym (append-nil done) ∙ same in
+        ended line (told.Whole cost done) (rw (is, whole) refl)
+    trips_end (trip ∷ rest) done same line =
+        let again : (done ++ trip ∷ []) ++ rest ≡ plan =
+        append_assoc done (trip ∷ []) rest ∙ same in (
+          Ok (none_left, past (told_before rest cost (done ++ trip ∷ []))),
+          rw (told_now rest (done ++ trip ∷ []) again) refl,
+          trips_end rest (done ++ trip ∷ []) again (line + 1),
+        )
 
-      some_plan : (line : ℕ)
-          → Ends line (item.Plan (Some cost) ∷ trip_items plan ++ last_items) (past told.Nothing)
-      some_plan line = (
-        Ok (none_left, past (told_before plan cost [])),
-        rw (told_now plan [] refl) refl,
-        trips_end plan [] refl (line + 1),
-      )
+    some_plan : (line : ℕ)
+        → Ends line (item.Plan (Some cost) ∷ trip_items plan ++ last_items) (past told.Nothing)
+    some_plan line = (
+      Ok (none_left, past (told_before plan cost [])),
+      rw (told_now plan [] refl) refl,
+      trips_end plan [] refl (line + 1),
+    )
 
   plan_end : (plan : Option (List (List Stop))) → cert.plan ≡ plan → (line : ℕ)
       → Ends line (plan_items parts plan ++ last_items) (past told.Nothing)

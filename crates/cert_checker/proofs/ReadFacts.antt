@@ -20,7 +20,7 @@ use Rattle.cert_checker.specs.declared.fault.StepError.{StepError}
 use Rattle.cert_checker.specs.declared.fault.StepError.TheVariants as error
 use Rattle.cert_checker.specs.declared.fault.StepFault.{StepFault}
 use Rattle.cert_checker.specs.declared.standing.Standing.{Standing}
-use Rattle.cert_checker.specs.Checks.{HasCome, IfRefused, IfTooLong, IsChecked, IsStarted, OnError, WhereFound, check_fault, refusal_fault}
+use Rattle.cert_checker.specs.Checks.{HasCome, IfRefused, IfTooLong, IsChecked, IsReadable, IsStarted, OnError, WhereFound, check_fault, refusal_fault}
 use Rattle.cert_checker.specs.Fronts.{front_at, front_of}
 use Rattle.cert_checker.specs.Steps.{IsStep, begun}
 use Rattle.cert_checker.specs.Verdicts.{Decides, Verdict, claim_at, fault_at, in_line, text_fault}
@@ -88,6 +88,7 @@ module _ (parts : Parts) (root : Box) (digest : List ℕ) (held : Option Held)
       tight = come.tight;
       tight_is = come.tight_is;
       taken = come.taken ++ line;
+      readable = come.readable;
       name_is = read.taken.taken.name ∙ come.name_is;
       none = none;
       told = told_on;
@@ -122,11 +123,13 @@ module _ (parts : Parts) (root : Box) (digest : List ℕ) (held : Option Held)
         by : (found : Option (List ℕ)) → bytes_told held name ≡ found
             → IsChecked parts root digest held name (Err (fault_at old.number fault))
         by None is = record {
+          readable = come.readable;
           text = (come.taken ++ line) ++ [];
           told = λ bytes told. absurd (let e : ⊥ = cc (sym is ∙ told) in e);
           is = record { tight = come.tight; tight_is = come.tight_is; decided = decided [] };
         }
         by (Some bytes) is = record {
+          readable = come.readable;
           text = (come.taken ++ line) ++ left_in new.pieces bytes;
           told = λ other told.
               let same : bytes ≡ other = cc (sym is ∙ told) in
@@ -163,6 +166,7 @@ module _ (parts : Parts) (root : Box) (digest : List ℕ) (held : Option Held)
         → IsChecked parts root digest held name
         (in_line reader.number (claim_at (front_of now.walk now.leaf).present now.progress))
     text_ended new finished taken ended = record {
+      readable = come.readable;
       text = come.taken ++ [];
       told = λ bytes is.
           let before = come.told bytes is in
@@ -186,6 +190,7 @@ module _ (parts : Parts) (root : Box) (digest : List ℕ) (held : Option Held)
         → IsChecked parts root digest held name
         (Err (fault_at reader.number (text_fault fault)))
     text_refused fault is = record {
+      readable = come.readable;
       text = come.taken ++ is.rest;
       told = λ bytes is_told.
           let before = come.told bytes is_told in
@@ -224,14 +229,17 @@ module _ (parts : Parts) (root : Box) (digest : List ℕ) (held : Option Held)
       → (reader.pieces.offset ≡ 0) × (reader.pieces.ahead ≡ []) × (reader.stage ≡ stage.Head)
       × (reader.number ≡ 1) × (reader.kept ≡ None)
       → IfTold held name (λ bytes. length bytes ≡ reader.pieces.size)
+      → IsReadable held name
       → IsStarted parts root now → HasCome parts root digest held name reader now
-  come_first reader now name_is (offset, ahead, at_head, first, none) size started = record {
-    tight = started.tight;
-    tight_is = started.tight_is;
-    taken = [];
-    name_is = name_is;
-    none = none;
-    told = λ bytes is. (size bytes is, rw (offset, ahead) refl);
-    whole = λ rest verdict decided.
-        rw (at_head, first, started.front, started.nothing) at decided;
-  }
+  come_first reader now name_is (offset, ahead, at_head, first, none) size readable started =
+      record {
+        tight = started.tight;
+        tight_is = started.tight_is;
+        taken = [];
+        readable = readable;
+        name_is = name_is;
+        none = none;
+        told = λ bytes is. (size bytes is, rw (offset, ahead) refl);
+        whole = λ rest verdict decided.
+            rw (at_head, first, started.front, started.nothing) at decided;
+      }

@@ -114,7 +114,8 @@ module _ (parts : Parts) (root : Box) (digest : List ℕ) (valid : IsScenario pa
       inside
 
   module _ (box : Box) (boxes : List Box) (progress : Progress) (outcome : Outcome)
-      (box_of : IsBoxOf parts box) (boxes_of : AreBoxesOf parts boxes) (truth : IsTruth progress.told)
+      (box_of : IsBoxOf parts box) (boxes_of : AreBoxesOf parts boxes)
+      (truth : IsTruth progress.told)
       (plans : (plan : List (List Stop)) → IsPlanIn parts root plan
       → IsOpen (Some box) boxes progress.bound plan) where
     split_sound : (flight node time : ℕ)

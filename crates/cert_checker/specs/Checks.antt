@@ -1,8 +1,8 @@
 -- What a check stands on from line to line, and what its functions answer. Of these the public
 -- clauses cite `IsChecked`, and which answer a fact is of.
-use Rattle.std.specs.Prelude.{◌≡◌, ℕ, ◌+◌, ◌^◌, ◌<◌, ◌≤◌, List, [], ◌++◌, length, All, Option, None, Some, Result, Ok, Err, true, slice_get}
+use Rattle.std.specs.Prelude.{◌≡◌, ℕ, ◌+◌, ◌^◌, ◌<◌, ◌≤◌, List, [], ◌++◌, length, All, Option, None, Some, Result, Ok, Err, Bool, true, false, slice_get}
 use Rattle.flow_types.specs.declared.parts.Parts.{Parts}
-use Rattle.flow_outside.specs.Held.{Held, IfTold}
+use Rattle.flow_outside.specs.Held.{HasName, Held, IfTold}
 use Rattle.plan_rules.specs.Loads.{IsMadeFor as AreLoadsFor}
 use Rattle.time_windows.specs.Boxes.{Box}
 use Rattle.time_windows.specs.Held.{IsMadeFor, box_of}
@@ -19,7 +19,7 @@ use Rattle.certificate.specs.declared.fault.CertRefusal.TheVariants as refusal
 use Rattle.certificate.specs.declared.item.CertItem.{CertItem}
 use Rattle.certificate.specs.declared.item.CertItem.TheVariants as item
 use Rattle.certificate.specs.declared.stage.Stage.TheVariants as stage
-use Rattle.certificate.specs.Limits.{most_rows}
+use Rattle.certificate.specs.Limits.{most_cert_bytes, most_rows}
 use Rattle.certificate.specs.Reading.{read_from}
 use Rattle.certificate.specs.Readers.{ReaderSeen, left_in}
 use Rattle.cert_checker.specs.declared.claim.CertClaim.{CertClaim}
@@ -30,6 +30,7 @@ use Rattle.cert_checker.specs.declared.fault.StepError.{StepError}
 use Rattle.cert_checker.specs.declared.fault.StepFault.{StepFault}
 use Rattle.cert_checker.specs.declared.fault.StepError.TheVariants as error
 use Rattle.cert_checker.specs.declared.progress.LeafDraft.{LeafDraft}
+use Rattle.cert_checker.specs.declared.progress.Progress.{Progress}
 use Rattle.cert_checker.specs.declared.rooms.Rooms.{Rooms}
 use Rattle.cert_checker.specs.declared.standing.Standing.{Standing}
 use Rattle.cert_checker.specs.Fronts.{front_at, front_of}
@@ -78,10 +79,6 @@ pub record IsStanding (parts : Parts) (now : Standing) : Type 0 where
   pub path : IfThere (IsOnPath parts) now.walk
   pub leaf : IfThere IsOpenDraft now.leaf
 
--- at most a node more
-abbrev pub HasNodes : ℕ → Standing → Type 0
-HasNodes nodes now = now.progress.nodes ≤ nodes + 1
-
 -- at the first box, where nothing was told
 pub record IsStarted (parts : Parts) (root : Box) (now : Standing) : Type 0 where
   pub tight : Box
@@ -95,23 +92,52 @@ abbrev pub OnError : StepError → (Outcome → Type 0) → Type 0
 OnError (error.Fault fault) P = P (Err fault)
 OnError error.OutOfMemory P = Unit {0}
 
-abbrev pub StepsTo : Result Standing StepError → (Outcome → Type 0) → Type 0
-StepsTo (Ok now) P = P (Ok (front_of now.walk now.leaf, now.progress))
-StepsTo (Err error) P = OnError error P
+abbrev pub step_of : {X : Type 0} → Result X StepFault → Result X StepError
+step_of (Ok x) = Ok x
+step_of (Err fault) = Err (error.Fault fault)
+
+-- where it stands after a line
+abbrev pub StepsTo : {X : Type 0} → Result X StepError → Standing → (Outcome → Type 0) → Type 0
+StepsTo (Ok x) now P = P (Ok (front_of now.walk now.leaf, now.progress))
+StepsTo (Err error) now P = OnError error P
+
+-- the path, where a node is to come
+abbrev pub path_if : Bool → Path → Option Path
+path_if true path = Some path
+path_if false path = None
+
+-- whether a node is to come after a line of the tree, and what was told then
+abbrev pub GoesTo : Result Bool StepError → Path → Option LeafDraft → Progress
+    → (Outcome → Type 0) → Type 0
+GoesTo (Ok more) path leaf progress P = P (Ok (front_of (path_if more path) leaf, progress))
+GoesTo (Err error) path leaf progress P = OnError error P
 
 abbrev pub TellsTo : {X : Type 0} → Result X StepError → Result X StepFault → Type 0
 TellsTo (Ok x) found = found ≡ Ok x
 TellsTo (Err (error.Fault fault)) found = found ≡ Err fault
 TellsTo (Err error.OutOfMemory) found = Unit {0}
 
+-- what was told after a line
+abbrev pub TellsNow : {X : Type 0} → Result X StepError → Progress → Result Progress StepFault
+    → Type 0
+TellsNow (Ok x) progress found = found ≡ Ok progress
+TellsNow (Err (error.Fault fault)) progress found = found ≡ Err fault
+TellsNow (Err error.OutOfMemory) progress found = Unit {0}
+
 -- an answer gives the fault, if there is one
 abbrev pub Faults : {X : Type 0} → Result X StepFault → Option StepFault → Type 0
 Faults (Ok x) fault = fault ≡ None
 Faults (Err found) fault = fault ≡ Some found
 
+-- The name is there, unless the files tell that it isn't, and what they tell of it isn't too long.
+pub record IsReadable (held : Option Held) (name : List ℕ) : Type 0 where
+  pub present : HasName held name
+  pub within : IfTold held name (λ bytes. length bytes ≤ most_cert_bytes)
+
 -- The verdict on a text; where the files tell what the name holds, on that.
 pub record IsChecked (parts : Parts) (root : Box) (digest : List ℕ) (held : Option Held)
     (name : List ℕ) (verdict : Verdict) : Type 0 where
+  pub readable : IsReadable held name
   pub text : List ℕ
   pub told : IfTold held name (λ bytes. bytes ≡ text)
   pub is : IsVerdict parts root digest text verdict
@@ -123,6 +149,7 @@ pub record HasCome (parts : Parts) (root : Box) (digest : List ℕ) (held : Opti
   pub tight : Box
   pub tight_is : IsTightened parts root tight
   pub taken : List ℕ
+  pub readable : IsReadable held name
   pub name_is : reader.pieces.name ≡ name
   pub none : reader.kept ≡ None
   pub told : IfTold held name (λ bytes. (length bytes ≡ reader.pieces.size)

@@ -254,24 +254,28 @@ later_told parts root digest progress (item.End nodes) =
     unless_fault progress (count_fault progress nodes)
 later_told parts root digest progress other = Err bad_kind
 
+-- where a node is to come no line of what follows the tree can stand, and no head
+abbrev pub IsNodeStep : Parts → Front → Box → Progress → CertItem → Outcome → Type 0
+IsNodeStep parts front box progress (item.Split flight node time cutoff) outcome =
+    IsSplitAt parts box front.waiting progress flight node time outcome
+IsNodeStep parts front box progress item.Empty outcome =
+    IsLeafAt parts box front.waiting progress leaf.Empty outcome
+IsNodeStep parts front box progress item.Unit outcome =
+    IsLeafAt parts box front.waiting progress leaf.Unit outcome
+IsNodeStep parts front box progress (item.Dual weight rows) outcome =
+    IsLeafLineAt parts box front.waiting progress Dual weight rows outcome
+IsNodeStep parts front box progress (item.Lag weight rows) outcome =
+    IsLeafLineAt parts box front.waiting progress Lag weight rows outcome
+IsNodeStep parts front box progress (item.Row multiplier) outcome =
+    IsRowLine parts box front.waiting progress front.leaf multiplier outcome
+IsNodeStep parts front box progress other outcome = outcome ≡ Err bad_kind
+
 module _ (parts : Parts) (root : Box) (digest : List ℕ) where
-  -- where a node is to come no line of what follows the tree can stand
+  -- but the head of the text
   abbrev pub IsTreeStep : Front → Box → Progress → CertItem → Outcome → Type 0
   IsTreeStep front box progress (item.Head stated) outcome =
       outcome ≡ at_front front (unless_fault progress (digest_fault digest stated))
-  IsTreeStep front box progress (item.Split flight node time cutoff) outcome =
-      IsSplitAt parts box front.waiting progress flight node time outcome
-  IsTreeStep front box progress item.Empty outcome =
-      IsLeafAt parts box front.waiting progress leaf.Empty outcome
-  IsTreeStep front box progress item.Unit outcome =
-      IsLeafAt parts box front.waiting progress leaf.Unit outcome
-  IsTreeStep front box progress (item.Dual weight rows) outcome =
-      IsLeafLineAt parts box front.waiting progress Dual weight rows outcome
-  IsTreeStep front box progress (item.Lag weight rows) outcome =
-      IsLeafLineAt parts box front.waiting progress Lag weight rows outcome
-  IsTreeStep front box progress (item.Row multiplier) outcome =
-      IsRowLine parts box front.waiting progress front.leaf multiplier outcome
-  IsTreeStep front box progress other outcome = outcome ≡ Err bad_kind
+  IsTreeStep front box progress other outcome = IsNodeStep parts front box progress other outcome
 
   abbrev pub IsStepAt : Option Box → Front → Progress → CertItem → Outcome → Type 0
   IsStepAt (Some box) front progress item outcome = IsTreeStep front box progress item outcome

@@ -149,10 +149,9 @@ fn read_on<F: Files>(
                 Err(fault) => Err(in_line(line, StepError::Fault(fault))),
             };
         };
-        now = match step(rooms, given, now, item) {
-            Ok(next) => next,
-            Err(error) => return Err(in_line(line, error)),
-        };
+        if let Err(error) = step(rooms, given, &mut now, item) {
+            return Err(in_line(line, error));
+        }
     }
 }
 

@@ -23,8 +23,9 @@
 //! has what contracts say of a check on its way.
 //!
 //! Proved: what is answered is the verdict on a text, the claim or the first fault by line, field
-//! and cause (`ok`, `refused`); where the files tell what the name holds, and that is what it was
-//! when the check began, it is the verdict on that. A claim that is answered holds (`holds`): no
+//! and cause (`ok`, `refused`); the name is there and holds no more than 1 GiB, as far as the files
+//! tell, and where they tell what it holds, and that is what it was when the check began, it is the
+//! verdict on that. A claim that is answered holds (`holds`): no
 //! plan in the first box that keeps every rule costs less than the bound; a plan keeps every rule,
 //! is in the first box, and costs what is claimed. So it is of any text whose verdict is a claim
 //! (`accepted_claims_hold`). A read fails only where the files' count of faults rose or stands at
@@ -32,8 +33,8 @@
 //!
 //! Memory: the room of leaves (`LeafWork`), loads, the first box and the present one with the
 //! changes on the way to it, a piece and a line of the text, the rows of one leaf, and the plan.
-//! All of these are bounded by the day, so a longer text takes no more. Time: each line once, a box
-//! for each node, and each leaf's bound.
+//! All of these are bounded by the day, so a longer text takes no more. Time: each line once, a step
+//! on the path of boxes for each node, and each leaf's bound.
 #![tactic(auto)]
 
 mod checking;

@@ -3,7 +3,7 @@ ghost use Rattle.std.specs.Prelude.{◌≡◌};
 ghost use Rattle.flow_types.specs.Scenario.{parts_of};
 ghost use Rattle.time_windows.specs.Held.{box_of};
 ghost use Rattle.plan_rules.specs.FirstBroken.{first_broken};
-ghost use Rattle.cert_checker.specs.Checks.{AreRoomsFor, Faults, TellsTo};
+ghost use Rattle.cert_checker.specs.Checks.{AreRoomsFor, Faults, TellsNow, TellsTo};
 ghost use Rattle.cert_checker.specs.Steps.{bound_fault, count_fault, digest_fault, or_fault, plan_fault, plan_told, progress_told, same_bound, trip_told, trips_told};
 ghost use Rattle.cert_checker.specs.declared.progress.Told.TheVariants as told;
 
@@ -14,6 +14,7 @@ use crate::rooms::Rooms;
 use certificate::Digest;
 use flow_types::{Bound, Plan, Scenario, Trip};
 use plan_rules::{Verdict, judge};
+use std::mem;
 use time_windows::Boxes;
 
 // What a whole plan tells, of which this cost is stated.
@@ -115,17 +116,17 @@ pub fn plan_line(
     rooms: &mut Rooms,
     s: &Scenario,
     root: &Boxes,
-    progress: Progress,
+    progress: &mut Progress,
     cost: Option<i64>,
-) -> Result<Progress, StepError>
+) -> Result<(), StepError>
     requires { AreRoomsFor (parts_of s.now) rooms.old }
-    ensures told { TellsTo result (progress_told progress
-        (plan_told (parts_of s.now) (box_of root.now) progress.told cost)) }
+    ensures told { TellsNow result progress.new (progress_told progress.old
+        (plan_told (parts_of s.now) (box_of root.now) progress.old.told cost)) }
     ensures rooms { AreRoomsFor (parts_of s.now) rooms.new }
 {
-    let Progress { bound, nodes, told } = progress;
-    let told = plan_told(rooms, s, root, told, cost)?;
-    Ok(Progress { bound, nodes, told })
+    let told = mem::replace(&mut progress.told, Told::Nothing);
+    progress.told = plan_told(rooms, s, root, told, cost)?;
+    Ok(())
 }
 
 /// The line of a trip.
@@ -133,17 +134,17 @@ pub fn trip_line(
     rooms: &mut Rooms,
     s: &Scenario,
     root: &Boxes,
-    progress: Progress,
+    progress: &mut Progress,
     trip: Trip,
-) -> Result<Progress, StepError>
+) -> Result<(), StepError>
     requires { AreRoomsFor (parts_of s.now) rooms.old }
-    ensures told { TellsTo result (progress_told progress
-        (trip_told (parts_of s.now) (box_of root.now) progress.told trip)) }
+    ensures told { TellsNow result progress.new (progress_told progress.old
+        (trip_told (parts_of s.now) (box_of root.now) progress.old.told trip)) }
     ensures rooms { AreRoomsFor (parts_of s.now) rooms.new }
 {
-    let Progress { bound, nodes, told } = progress;
-    let told = trip_told(rooms, s, root, told, trip)?;
-    Ok(Progress { bound, nodes, told })
+    let told = mem::replace(&mut progress.told, Told::Nothing);
+    progress.told = trip_told(rooms, s, root, told, trip)?;
+    Ok(())
 }
 
 fn same_bound(stated: Bound, real: Bound) -> bool

@@ -59,26 +59,19 @@ impl Progress {
     }
 
     /// A split more.
-    pub fn with_node(self) -> Progress
-        requires { self.nodes < 2 ^ 63 }
-        ensures { result ≡ with_node self }
+    pub fn add_node(&mut self)
+        requires { self.old.nodes < 2 ^ 63 }
+        ensures { self.new ≡ with_node self.old }
     {
-        Progress {
-            bound: self.bound,
-            nodes: self.nodes + 1,
-            told: self.told,
-        }
+        self.nodes += 1;
     }
 
     /// A leaf more, of this bound.
-    pub fn with_bound(self, bound: Bound) -> Progress
-        requires { self.nodes < 2 ^ 63 }
-        ensures { result ≡ with_bound self bound }
+    pub fn add_bound(&mut self, bound: Bound)
+        requires { self.old.nodes < 2 ^ 63 }
+        ensures { self.new ≡ with_bound self.old bound }
     {
-        Progress {
-            bound: self.bound.lesser(bound),
-            nodes: self.nodes + 1,
-            told: self.told,
-        }
+        self.bound = self.bound.lesser(bound);
+        self.nodes += 1;
     }
 }

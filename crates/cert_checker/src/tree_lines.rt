@@ -1,19 +1,18 @@
 //! The lines of a tree: splits, leaves and their rows.
-ghost use Rattle.std.specs.Prelude.{◌≡◌, ◌<◌, ◌^◌, ◌↔◌, ◌++◌, ◌∷◌, ◌-◌, IfNone, IfOk, IfSome, IsTrue, None, [], slice_get};
+ghost use Rattle.std.specs.Prelude.{◌≡◌, ◌<◌, ◌^◌, ◌↔◌, ◌+◌, ◌++◌, ◌≤◌, ◌∷◌, ◌-◌, IfNone, IfOk, IfSome, IsTrue, None, OnOk, [], slice_get};
 ghost use Rattle.flow_types.specs.Scenario.{parts_of};
 ghost use Rattle.time_windows.specs.Held.{box_of};
 ghost use Rattle.time_windows.specs.Splits.{IsBranching};
 ghost use Rattle.bytime_model.specs.Rows.{is_node};
 ghost use Rattle.branch_tree.specs.Leaves.{IsInRange};
 ghost use Rattle.branch_tree.specs.Paths.{waiting_boxes};
-ghost use Rattle.cert_checker.specs.Checks.{AreRoomsFor, HasNodes, IfThere, IsFitDraft, IsGoodSplit, IsOnPath, IsOpenDraft, IsStanding, StepsTo};
+ghost use Rattle.cert_checker.specs.Checks.{AreRoomsFor, GoesTo, IfThere, IsFitDraft, IsGoodSplit, IsOnPath, IsOpenDraft, path_if};
 ghost use Rattle.cert_checker.specs.Fronts.{GoesOn, front_of};
 ghost use Rattle.cert_checker.specs.Steps.{IsBadSplit, IsLeafAt, IsLeafLineAt, IsRowLine, IsRowsAt, IsSplitAt, leaf_cause, leaf_of, may_name};
 
 use crate::fault::{CertCause, StepError, StepFault, bad_kind, in_field};
 use crate::progress::{LeafDraft, Progress, RowLeaf};
 use crate::rooms::Rooms;
-use crate::standing::Standing;
 use branch_tree::{Branch, Leaf, Walk};
 use bytime_model::{Multiplier, RowName, is_row};
 use dual_leaf::{LeafFault, is_priceable};
@@ -64,30 +63,31 @@ fn bad_field(s: &Scenario, boxes: &Boxes, branch: Branch) -> Option<usize>
     None
 }
 
-/// A split of the present box: the next node is on its early side.
+/// A split of the present box: the next node is on its early side. Tells that it is to come.
 pub fn split_line(
     s: &Scenario,
-    walk: Walk,
-    progress: Progress,
+    walk: &mut Walk,
+    leaf: &mut Option<LeafDraft>,
+    progress: &mut Progress,
     branch: Branch,
-) -> Result<Standing, StepError>
-    requires path { IsOnPath (parts_of s.now) walk }
-    requires few { progress.nodes < 2 ^ 62 }
-    ensures step { StepsTo result (IsSplitAt (parts_of s.now) (box_of walk.present)
-        (waiting_boxes walk.above walk.steps) progress branch.flight branch.node branch.time) }
-    ensures standing { IfOk result (IsStanding (parts_of s.now)) }
-    ensures nodes { IfOk result (HasNodes progress.nodes) }
+) -> Result<bool, StepError>
+    requires path { IsOnPath (parts_of s.now) walk.old }
+    requires few { progress.old.nodes < 2 ^ 62 }
+    ensures step { GoesTo result walk.new leaf.new progress.new (IsSplitAt (parts_of s.now)
+        (box_of walk.old.present) (waiting_boxes walk.old.above walk.old.steps) progress.old
+        branch.flight branch.node branch.time) }
+    ensures path { IfOk result (λ more. IfThere (IsOnPath (parts_of s.now))
+        (path_if more walk.new)) }
+    ensures leaf { OnOk result (IfThere IsOpenDraft leaf.new) }
+    ensures nodes { OnOk result (progress.new.nodes ≤ progress.old.nodes + 1) }
 {
     if let Some(field) = bad_field(s, walk.boxes(), branch) {
         return Err(StepError::Fault(in_field(field, CertCause::BadSplit)));
     }
-    let mut walk = walk;
     walk.split(s, branch)?;
-    Ok(Standing {
-        walk: Some(walk),
-        leaf: None,
-        progress: progress.with_node(),
-    })
+    progress.add_node();
+    *leaf = None;
+    Ok(true)
 }
 
 fn leaf_cause(fault: LeafFault) -> StepFault
@@ -102,47 +102,70 @@ fn leaf_cause(fault: LeafFault) -> StepFault
     }
 }
 
-// After a leaf: the path to the box that waits next, if one does.
-fn next_walk(s: &Scenario, walk: Walk) -> Result<Option<Walk>, OutOfMemory>
-    requires { IsOnPath (parts_of s.now) walk }
-    ensures goes_on { IfOk result (λ next. GoesOn (parts_of s.now)
-        (waiting_boxes walk.above walk.steps) (front_of next None)) }
-    ensures path { IfOk result (IfThere (IsOnPath (parts_of s.now))) }
+// After a leaf: goes on to the box that waits next, and tells whether one does.
+fn go_on(s: &Scenario, walk: &mut Walk) -> Result<bool, OutOfMemory>
+    requires { IsOnPath (parts_of s.now) walk.old }
+    ensures goes_on { IfOk result (λ more. GoesOn (parts_of s.now)
+        (waiting_boxes walk.old.above walk.old.steps) (front_of (path_if more walk.new) None)) }
+    ensures path { IfOk result (λ more. IfThere (IsOnPath (parts_of s.now))
+        (path_if more walk.new)) }
 {
-    let mut walk = walk;
-    if walk.next(s)? {
-        Ok(Some(walk))
-    } else {
-        Ok(None)
-    }
+    walk.next(s)
 }
 
-/// A leaf on the present box, with all of its rows.
-pub fn leaf_line(
+// A leaf on the present box, with all of its rows. Tells whether a node is to come.
+fn leaf_read(
     rooms: &mut Rooms,
     s: &Scenario,
-    walk: Walk,
-    progress: Progress,
+    walk: &mut Walk,
+    progress: &mut Progress,
     leaf: &Leaf,
-) -> Result<Standing, StepError>
+) -> Result<bool, StepError>
     requires rooms { AreRoomsFor (parts_of s.now) rooms.old }
-    requires path { IsOnPath (parts_of s.now) walk }
+    requires path { IsOnPath (parts_of s.now) walk.old }
     requires range { IsInRange leaf.now }
-    requires few { progress.nodes < 2 ^ 62 }
-    ensures step { StepsTo result (IsLeafAt (parts_of s.now) (box_of walk.present)
-        (waiting_boxes walk.above walk.steps) progress leaf.now) }
-    ensures standing { IfOk result (IsStanding (parts_of s.now)) }
-    ensures nodes { IfOk result (HasNodes progress.nodes) }
+    requires few { progress.old.nodes < 2 ^ 62 }
+    ensures step { GoesTo result walk.new None progress.new (IsLeafAt (parts_of s.now)
+        (box_of walk.old.present) (waiting_boxes walk.old.above walk.old.steps) progress.old
+        leaf.now) }
+    ensures path { IfOk result (λ more. IfThere (IsOnPath (parts_of s.now))
+        (path_if more walk.new)) }
+    ensures nodes { OnOk result (progress.new.nodes ≤ progress.old.nodes + 1) }
     ensures rooms { AreRoomsFor (parts_of s.now) rooms.new }
 {
     match rooms.leaves.leaf_bound(s, &rooms.pool, walk.boxes(), leaf) {
         Err(fault) => Err(StepError::Fault(leaf_cause(fault))),
-        Ok(bound) => Ok(Standing {
-            walk: next_walk(s, walk)?,
-            leaf: None,
-            progress: progress.with_bound(bound),
-        }),
+        Ok(bound) => {
+            progress.add_bound(bound);
+            Ok(go_on(s, walk)?)
+        }
     }
+}
+
+/// The line of a leaf that has no rows. Tells whether a node is to come.
+pub fn leaf_line(
+    rooms: &mut Rooms,
+    s: &Scenario,
+    walk: &mut Walk,
+    draft: &mut Option<LeafDraft>,
+    progress: &mut Progress,
+    leaf: &Leaf,
+) -> Result<bool, StepError>
+    requires rooms { AreRoomsFor (parts_of s.now) rooms.old }
+    requires path { IsOnPath (parts_of s.now) walk.old }
+    requires range { IsInRange leaf.now }
+    requires few { progress.old.nodes < 2 ^ 62 }
+    ensures step { GoesTo result walk.new draft.new progress.new (IsLeafAt (parts_of s.now)
+        (box_of walk.old.present) (waiting_boxes walk.old.above walk.old.steps) progress.old
+        leaf.now) }
+    ensures path { IfOk result (λ more. IfThere (IsOnPath (parts_of s.now))
+        (path_if more walk.new)) }
+    ensures leaf { OnOk result (IfThere IsOpenDraft draft.new) }
+    ensures nodes { OnOk result (progress.new.nodes ≤ progress.old.nodes + 1) }
+    ensures rooms { AreRoomsFor (parts_of s.now) rooms.new }
+{
+    *draft = None;
+    leaf_read(rooms, s, walk, progress, leaf)
 }
 
 // The leaf that was drafted.
@@ -161,58 +184,63 @@ fn leaf_of(draft: LeafDraft) -> Leaf
     }
 }
 
-// A leaf of which so many rows were read.
+// A leaf of which so many rows were read. Tells whether a node is to come, which is this leaf as
+// long as rows are left.
 fn rows_read(
     rooms: &mut Rooms,
     s: &Scenario,
-    walk: Walk,
-    progress: Progress,
+    walk: &mut Walk,
+    leaf: &mut Option<LeafDraft>,
+    progress: &mut Progress,
     draft: LeafDraft,
-) -> Result<Standing, StepError>
+) -> Result<bool, StepError>
     requires rooms { AreRoomsFor (parts_of s.now) rooms.old }
-    requires path { IsOnPath (parts_of s.now) walk }
+    requires path { IsOnPath (parts_of s.now) walk.old }
     requires draft { IsFitDraft draft }
-    requires few { progress.nodes < 2 ^ 62 }
-    ensures step { StepsTo result (IsRowsAt (parts_of s.now) (box_of walk.present)
-        (waiting_boxes walk.above walk.steps) progress draft.kind draft.weight draft.left
-        draft.rows) }
-    ensures standing { IfOk result (IsStanding (parts_of s.now)) }
-    ensures nodes { IfOk result (HasNodes progress.nodes) }
+    requires few { progress.old.nodes < 2 ^ 62 }
+    ensures step { GoesTo result walk.new leaf.new progress.new (IsRowsAt (parts_of s.now)
+        (box_of walk.old.present) (waiting_boxes walk.old.above walk.old.steps) progress.old
+        draft.kind draft.weight draft.left draft.rows) }
+    ensures path { IfOk result (λ more. IfThere (IsOnPath (parts_of s.now))
+        (path_if more walk.new)) }
+    ensures leaf { OnOk result (IfThere IsOpenDraft leaf.new) }
+    ensures nodes { OnOk result (progress.new.nodes ≤ progress.old.nodes + 1) }
     ensures rooms { AreRoomsFor (parts_of s.now) rooms.new }
 {
     if draft.left == 0 {
-        return leaf_line(rooms, s, walk, progress, &leaf_of(draft));
+        return leaf_line(rooms, s, walk, leaf, progress, &leaf_of(draft));
     }
-    Ok(Standing {
-        walk: Some(walk),
-        leaf: Some(draft),
-        progress,
-    })
+    *leaf = Some(draft);
+    Ok(true)
 }
 
-/// The line of a leaf whose rows follow.
+/// The line of a leaf whose rows follow. Tells whether a node is to come.
 pub fn rows_line(
     rooms: &mut Rooms,
     s: &Scenario,
-    walk: Walk,
-    progress: Progress,
+    walk: &mut Walk,
+    leaf: &mut Option<LeafDraft>,
+    progress: &mut Progress,
     draft: LeafDraft,
-) -> Result<Standing, StepError>
+) -> Result<bool, StepError>
     requires rooms { AreRoomsFor (parts_of s.now) rooms.old }
-    requires path { IsOnPath (parts_of s.now) walk }
+    requires path { IsOnPath (parts_of s.now) walk.old }
     requires draft { IsFitDraft draft }
     requires none { draft.rows ≡ [] }
-    requires few { progress.nodes < 2 ^ 62 }
-    ensures step { StepsTo result (IsLeafLineAt (parts_of s.now) (box_of walk.present)
-        (waiting_boxes walk.above walk.steps) progress draft.kind draft.weight draft.left) }
-    ensures standing { IfOk result (IsStanding (parts_of s.now)) }
-    ensures nodes { IfOk result (HasNodes progress.nodes) }
+    requires few { progress.old.nodes < 2 ^ 62 }
+    ensures step { GoesTo result walk.new leaf.new progress.new (IsLeafLineAt (parts_of s.now)
+        (box_of walk.old.present) (waiting_boxes walk.old.above walk.old.steps) progress.old
+        draft.kind draft.weight draft.left) }
+    ensures path { IfOk result (λ more. IfThere (IsOnPath (parts_of s.now))
+        (path_if more walk.new)) }
+    ensures leaf { OnOk result (IfThere IsOpenDraft leaf.new) }
+    ensures nodes { OnOk result (progress.new.nodes ≤ progress.old.nodes + 1) }
     ensures rooms { AreRoomsFor (parts_of s.now) rooms.new }
 {
     if walk.boxes().is_empty() {
         return Err(StepError::Fault(in_field(1, CertCause::Closed)));
     }
-    rows_read(rooms, s, walk, progress, draft)
+    rows_read(rooms, s, walk, leaf, progress, draft)
 }
 
 // Whether a leaf of this kind may name the row.
@@ -249,31 +277,34 @@ fn with_row(draft: LeafDraft, multiplier: Multiplier) -> Result<LeafDraft, OutOf
     })
 }
 
-/// A row of the leaf.
+/// A row of the leaf. Tells whether a node is to come, which is this leaf as long as rows are left.
 pub fn row_line(
     rooms: &mut Rooms,
     s: &Scenario,
-    walk: Walk,
-    leaf: Option<LeafDraft>,
-    progress: Progress,
+    walk: &mut Walk,
+    leaf: &mut Option<LeafDraft>,
+    progress: &mut Progress,
     multiplier: Multiplier,
-) -> Result<Standing, StepError>
+) -> Result<bool, StepError>
     requires rooms { AreRoomsFor (parts_of s.now) rooms.old }
-    requires path { IsOnPath (parts_of s.now) walk }
-    requires leaf { IfThere IsOpenDraft leaf }
+    requires path { IsOnPath (parts_of s.now) walk.old }
+    requires leaf { IfThere IsOpenDraft leaf.old }
     requires value { multiplier.value < 2 ^ 62 }
-    requires few { progress.nodes < 2 ^ 62 }
-    ensures step { StepsTo result (IsRowLine (parts_of s.now) (box_of walk.present)
-        (waiting_boxes walk.above walk.steps) progress leaf multiplier) }
-    ensures standing { IfOk result (IsStanding (parts_of s.now)) }
-    ensures nodes { IfOk result (HasNodes progress.nodes) }
+    requires few { progress.old.nodes < 2 ^ 62 }
+    ensures step { GoesTo result walk.new leaf.new progress.new (IsRowLine (parts_of s.now)
+        (box_of walk.old.present) (waiting_boxes walk.old.above walk.old.steps) progress.old
+        leaf.old multiplier) }
+    ensures path { IfOk result (λ more. IfThere (IsOnPath (parts_of s.now))
+        (path_if more walk.new)) }
+    ensures leaf { OnOk result (IfThere IsOpenDraft leaf.new) }
+    ensures nodes { OnOk result (progress.new.nodes ≤ progress.old.nodes + 1) }
     ensures rooms { AreRoomsFor (parts_of s.now) rooms.new }
 {
-    let Some(draft) = leaf else {
+    let Some(draft) = leaf.take() else {
         return Err(StepError::Fault(bad_kind()));
     };
     if !may_name(s, draft.kind, multiplier.row) {
         return Err(StepError::Fault(in_field(2, CertCause::UnknownRow)));
     }
-    rows_read(rooms, s, walk, progress, with_row(draft, multiplier)?)
+    rows_read(rooms, s, walk, leaf, progress, with_row(draft, multiplier)?)
 }

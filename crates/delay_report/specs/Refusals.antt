@@ -1,5 +1,5 @@
--- What is printed of a certificate that is refused: where its first fault stands, the cause, and the
--- cause's values.
+-- What is printed of a certificate that is refused: where its first fault stands, the cause, and
+-- the cause's values.
 use Rattle.std.specs.Prelude.{List, [], ◌++◌, ℕ, codes}
 use Rattle.std.specs.Fmt.{decimal, signed_decimal}
 use Rattle.hex.specs.Hex.{encode_lower}
@@ -44,7 +44,8 @@ two_fields first second = field_text first ++ field_text second
 -- its values: what is stated before what is so; and of a plan, which rule it breaks, and where
 abbrev pub cause_values : Parts → CertCause → List ℕ
 cause_values parts (Text cause) = []
-cause_values parts (OtherScenario stated real) = two_fields (encode_lower stated) (encode_lower real)
+cause_values parts (OtherScenario stated real) =
+    two_fields (encode_lower stated) (encode_lower real)
 cause_values parts BadSplit = []
 cause_values parts NotEmpty = []
 cause_values parts NotUnit = []

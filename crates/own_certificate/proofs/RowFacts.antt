@@ -80,9 +80,8 @@ no_longer name (x ∷ xs) (y ∷ ys) pairs ascending each =
         ]
 
 -- the numbers of a row are within the limits of its line, and have at most four digits
-pub record IsSmallRow (name : RowName) : Type 0 where
-  pub range : IsRowInRange name
-  pub small : Each (λ n. n < 10000) (row_numbers name)
+abbrev IsSmallRow : RowName → Type 0
+IsSmallRow name = IsRowInRange name × Each (λ n. n < 10000) (row_numbers name)
 
 module _ (parts : Parts) (valid : IsScenario parts) where
   flight_to : (f n : ℕ) → n < node_count (slice_get parts.flights f) → f < 2000
@@ -141,44 +140,32 @@ module _ (parts : Parts) (valid : IsScenario parts) where
       let found = and_parts (is_node (slice_get parts.flights f) n)
       (nat_lt 0 t && nat_lt t parts.day.periods) is in
       let time = and_parts (nat_lt 0 t) (nat_lt t parts.day.periods) found.1 in
-      let (range, small) =
-      three_numbers f n t (node_within (slice_get parts.flights f) n found.0) time.1 in
-      record { range = range; small = small }
+      three_numbers f n t (node_within (slice_get parts.flights f) n found.0) time.1
   small_row (Top f n) is =
-      let (range, small) = two_numbers f n (node_within (slice_get parts.flights f) n is) in
-      record { range = range; small = small }
+      two_numbers f n (node_within (slice_get parts.flights f) n is)
   small_row (Dep p t) is =
-      let (range, small) = capacity_numbers cap.Dep p t is in
-      record { range = range; small = small }
+      capacity_numbers cap.Dep p t is
   small_row (Arr p t) is =
-      let (range, small) = capacity_numbers cap.Arr p t is in
-      record { range = range; small = small }
+      capacity_numbers cap.Arr p t is
   small_row (Sector p t) is =
-      let (range, small) = capacity_numbers cap.Sector p t is in
-      record { range = range; small = small }
+      capacity_numbers cap.Sector p t is
   small_row (Occupy f n t) is =
       let both = and_parts (has_inside (slice_get parts.flights f) n)
       (nat_lt t parts.day.periods) is in
-      let (range, small) =
-      three_numbers f n t (inside_within (slice_get parts.flights f) n both.0) both.1 in
-      record { range = range; small = small }
+      three_numbers f n t (inside_within (slice_get parts.flights f) n both.0) both.1
   small_row (Enter f n t) is =
       let found = and_parts (is_node (slice_get parts.flights f) n)
       (nat_lt 0 n && nat_lt t parts.day.periods) is in
       let time = and_parts (nat_lt 0 n) (nat_lt t parts.day.periods) found.1 in
-      let (range, small) =
-      three_numbers f n t (node_within (slice_get parts.flights f) n found.0) time.1 in
-      record { range = range; small = small }
+      three_numbers f n t (node_within (slice_get parts.flights f) n found.0) time.1
   small_row (Leave f n) is =
-      let (range, small) = two_numbers f n (goes_within (slice_get parts.flights f) n is) in
-      record { range = range; small = small }
+      two_numbers f n (goes_within (slice_get parts.flights f) n is)
   small_row (Connect c t) is =
       let both = and_parts (nat_lt c (length parts.connections)) (nat_lt t parts.day.periods) is
       in
       let connection = ltb-true c (length parts.connections) both.0 in
       let connections = valid.connections.few in
-      let (range, small) = place_numbers c t (omega (arith, connection, connections)) both.1 in
-      record { range = range; small = small }
+      place_numbers c t (omega (arith, connection, connections)) both.1
   small_row (Cut i) is = absurd (let e : ⊥ = cc is in e)
 
   abbrev pub AreRows : List Multiplier → Type 0
@@ -194,7 +181,7 @@ module _ (parts : Parts) (valid : IsScenario parts) where
       (omega (arith, value_to)) in
       let last = field_to 19 1 (decimal multiplier.value) [] value (omega arith) in
       let numbers = numbers_to (row_numbers multiplier.row) (decimal multiplier.value ∷ [])
-      is.small in
+      is.1 in
       let names = few_numbers multiplier.row in
       let word = word_size multiplier.row in
       let all = field_size (row_word multiplier.row)
@@ -248,7 +235,7 @@ module _ (parts : Parts) (valid : IsScenario parts) where
       record {
         each = (
           record {
-            name = row.range;
+            name = row.0;
             from = omega (arith, some);
             to = omega (arith, value);
           },

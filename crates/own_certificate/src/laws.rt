@@ -17,9 +17,9 @@ ghost use Rattle.tree_search.specs.Records.{IsSearchRecord};
 
 /// The certificate of a search's record, on a root within the root box of the scenario and by at
 /// most 2^32 - 1 nodes, has numbers within the limits of lines (`writable`), and no more bytes than
-/// so many nodes may have (`short`). The verdict on its text is its claim (`accepted`), and there is
-/// no other verdict on it (`alone`): so a check of files that tell that they hold it answers the
-/// claim (`checked`).
+/// so many nodes may have (`short`). The verdict on its text is its claim (`accepted`), and there
+/// is no other verdict on it (`alone`): so a check of files that tell that they hold it answers
+/// the claim (`checked`).
 pub fn own_certificates_are_accepted()
     ensures writable { (parts : Parts) (root : Box) (budget : Budget) (found : Found)
         (day : List ℕ) → IsScenario parts → IsBoxOf parts root → budget.nodes < 2 ^ 32

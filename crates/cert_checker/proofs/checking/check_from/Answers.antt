@@ -1,10 +1,10 @@
-use Rattle.std.proofs.Common.{◌≡◌, Err, Ok, refl, subst, sym}
+use Rattle.std.proofs.Common.{◌≡◌, Err, Ok, refl, subst, sym, arith}
 use Rattle.std.specs.Prelude.{IfOk, length}
 use Rattle.flow_outside.specs.Counts.{Rose}
 use Rattle.flow_outside.specs.Held.{HasName, IfTold}
 use Rattle.flow_types.specs.Scenario.{parts_of}
 use Rattle.time_windows.specs.Held.{box_of}
-use Rattle.cert_checker.specs.Checks.{IfRefused, IsChecked, OnReadFault}
+use Rattle.cert_checker.specs.Checks.{IfRefused, IsChecked, IsReadable, OnReadFault}
 use Rattle.cert_checker.proofs.ReadFacts.{come_first, found_where, never_long}
 use Rattle.cert_checker.proofs.SoundFacts.{result_holds}
 use Rattle.cert_checker.proofs.checking.check_from.Goals as goal
@@ -20,6 +20,12 @@ read_on-requires-clause-come g c =
     (sym new.kept.held)
     (subst (λ name. IfTold (g.F.Files.seen c.args.files.now).held name
     (λ bytes. length bytes ≡ reader.pieces.size)) (sym new.name) new.size))
+    (subst (λ held. IsReadable held reader.pieces.name) (sym new.kept.held)
+    (subst (IsReadable (g.F.Files.seen c.args.files.now).held) (sym new.name) (record {
+      present = new.present;
+      within = λ bytes told.
+          let size = new.size bytes told in let most = new.within in omega (arith, size, most);
+    })))
     c.in_ok-begun.ensures
 
 pub returns-clause-ok : goal.returns-clause-ok

@@ -98,17 +98,17 @@ loop-now-preserved g c =
     c.in-Some.is c.in_ok-item.ensures.item in
     let number = read.number in
     let few = c.loop-now.invariant.nodes in
-    let more = c.in-Ok-step.ensures.nodes in
+    let more = c.in_default-step.ensures.nodes in
     record {
       come = comes_on parts (box_of c.args.given.root.now) c.args.given.digest.now
           (g.F.Files.seen c.args.files.now).held c.args.reader.now.pieces.name
           c.loop-now.reader c.next.new.self c.in-Some.item
           (subst (λ held. IsItemRead parts held c.loop-now.reader c.in-Some.item
           c.next.new.self) c.loop-now.invariant.held read)
-          c.loop-now.now c.loop-now.invariant.come c.in-Ok-step.next
-          c.in-Ok-step.ensures.step c.in_ok-item.ensures.goes_on;
-      standing = c.in-Ok-step.ensures.standing;
-      rooms = c.in-Ok-step.ensures.rooms;
+          c.loop-now.now c.loop-now.invariant.come c.step.new.now
+          c.in_default-step.ensures.step c.in_ok-item.ensures.goes_on;
+      standing = c.in_default-step.ensures.standing;
+      rooms = c.in_default-step.ensures.rooms;
       nodes = omega (arith, number, few, more);
       held = c.in_ok-item.ensures.kept.held ∙ c.loop-now.invariant.held;
       stores = c.in_ok-item.ensures.kept.store_faults ∙ c.loop-now.invariant.stores;
