@@ -71,7 +71,8 @@ of_stored : (files : Change FilesSeen) (parts : Parts) (digest cert : List ℕ) 
     → Rose files.before.store_faults files.now.store_faults
 of_stored files parts digest cert budget answer fault (inl is) =
     absurd (of_planned files cert answer fault parts budget is.certified.planned)
-of_stored files parts digest cert budget answer fault (inr (inl is)) = is.failed
+of_stored files parts digest cert budget answer fault (inr (inl is)) =
+    is.unstored.failed
 of_stored files parts digest cert budget answer fault (inr (inr is)) =
     absurd (let e : TooLong ≡ WriteFault = sym is.long.ends ∙ fault in cc)
 

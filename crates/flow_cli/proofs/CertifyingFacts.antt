@@ -110,11 +110,16 @@ module _ (before mid now : FilesSeen) (kept : AreKept before mid) (parts : Parts
       }))
   after bytes told answer made (inr failed) =
       of_day answer now (inr (inl (record {
-        ends = failed.ends;
-        text = failed.text;
-        no_record = failed.no_record;
-        others = subst (λ held. KeepsOthers held now.held cert) kept.held failed.others;
-        failed = subst (λ n. Rose n now.store_faults) kept.store_faults failed.failed;
+        bytes = bytes;
+        told = told;
+        certified = made;
+        unstored = record {
+          ends = failed.ends;
+          text = failed.text;
+          no_record = failed.no_record;
+          others = subst (λ held. KeepsOthers held now.held cert) kept.held failed.others;
+          failed = subst (λ n. Rose n now.store_faults) kept.store_faults failed.failed;
+        };
       })))
 
   pub answered : (bytes : List ℕ) (told : Printed)
@@ -161,6 +166,13 @@ module _ (parts : Parts) (valid : IsScenario parts) (budget : Budget) (found : F
       let all : budget.nodes * (48 * (length (rows_of parts) + 10001)) ≤ 200000 * 1680480048 =
       mul-le-mul count.1 each in
       omega (arith, all)
+
+  pub short_day : (size : ℕ)
+      → size ≡ min (length (cert_text parts (certified digest found))) (2 ^ 64 - 1)
+      → size ≤ most_cert_bytes
+      → length (cert_text parts (certified digest found)) ≤ most_cert_bytes
+  short_day size is few =
+      let bytes = bytes_few in let most = most_few in omega (arith, is, few, bytes, most)
 
   pub long_day : (size : ℕ) (answer : Printed)
       → size ≡ min (length (cert_text parts (certified digest found))) (2 ^ 64 - 1)

@@ -61,11 +61,13 @@ pub record IsTooLongDay (parts : Parts) (digest : List ℕ) (budget : Budget) (a
   pub text : answer.text ≡ too_long_text (length (cert_text parts (certified digest found)))
   pub only : most_cert_bytes < most_bytes_of parts budget.nodes
 
--- the day is planned, and these are the bytes of the certificate of the record that is handed back
+-- The day is planned, and these are the bytes of the certificate of the record that is handed back,
+-- no more than a check reads.
 pub record IsCertifiedDay (parts : Parts) (digest : List ℕ) (budget : Budget) (bytes : List ℕ)
     (answer : Printed) : Type 0 where
   pub planned : IsPlannedDay parts budget answer
   pub bytes_are : bytes ≡ cert_text parts (certified digest planned.found)
+  pub within : length bytes ≤ most_cert_bytes
 
 abbrev pub IsMade : Parts → List ℕ → Budget → Certified → Type 0
 IsMade parts digest budget made =
@@ -78,7 +80,15 @@ pub record IsStoredDay (files : Change FilesSeen) (parts : Parts) (digest cert :
   pub certified : IsCertifiedDay parts digest budget bytes answer
   pub stored : IsStored files cert bytes
 
--- or nothing was
+-- or the store of it failed, and what would have been told isn't
+pub record IsUnstoredDay (files : Change FilesSeen) (parts : Parts) (digest cert : List ℕ)
+    (budget : Budget) (answer : Printed) : Type 0 where
+  pub bytes : List ℕ
+  pub told : Printed
+  pub certified : IsCertifiedDay parts digest budget bytes told
+  pub unstored : IsUnstored files cert answer
+
+-- or nothing was to be stored
 pub record IsKeptLong (files : Change FilesSeen) (parts : Parts) (digest : List ℕ)
     (budget : Budget) (answer : Printed) : Type 0 where
   pub long : IsTooLongDay parts digest budget answer
@@ -87,7 +97,8 @@ pub record IsKeptLong (files : Change FilesSeen) (parts : Parts) (digest : List 
 abbrev pub IsOfDay : Change FilesSeen → Parts → List ℕ → List ℕ → Budget → Printed → Type 0
 IsOfDay files parts digest cert budget answer =
     IsStoredDay files parts digest cert budget answer
-    ⊎ (IsUnstored files cert answer ⊎ IsKeptLong files parts digest budget answer)
+    ⊎ (IsUnstoredDay files parts digest cert budget answer
+    ⊎ IsKeptLong files parts digest budget answer)
 
 -- the name holds a day, which is planned
 pub record IsCertified (files : Change FilesSeen) (name cert : List ℕ) (budget : Budget)

@@ -48,8 +48,8 @@ trial N
 /// any other status there is no record.
 ///
 /// No name but that of the certificate changes, and without one what the files hold stays as it
-/// was. Their count of faults stays where the answer isn't that a read failed. It takes memory for a
-/// text, the scenario, its search, what a check takes or the plan with its loads, and the answer
+/// was. Their count of faults stays where the answer isn't that a read failed. It takes memory for
+/// a text, the scenario, its search, what a check takes or the plan with its loads, and the answer
 /// with the certificate.
 pub fn run<F: Files, S: Sink>(alloc: Global, words: &[String], files: &mut F, out: &mut S) -> Ran
     ensures answered { Ends (change (F.seen files.old) (F.seen files.new))
