@@ -18,8 +18,8 @@ use Rattle.bytime_model.specs.AllRows.{rows_of}
 use Rattle.bytime_model.proofs.KindLaws.{rows_few}
 use Rattle.certificate.specs.Limits.{most_cert_bytes}
 use Rattle.certificate.specs.Texts.{cert_text}
-use Rattle.own_certificate.specs.Own.{certified, most_bytes_of}
-use Rattle.own_certificate.proofs.OwnFacts.{own_short}
+use Rattle.flow_cli.specs.Own.{certified, most_bytes_of}
+use Rattle.flow_cli.proofs.OwnFacts.{own_short}
 use Rattle.tree_search.specs.Records.{IsSearchRecord}
 use Rattle.tree_search.specs.declared.found.Found.{Found}
 use Rattle.flow_cli.specs.declared.answer.Answer.{Answer}

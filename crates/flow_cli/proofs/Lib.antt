@@ -2,6 +2,12 @@ pub mod AnswerFacts
 pub mod CertifyingFacts
 pub mod CheckingFacts
 pub mod JudgingFacts
+pub mod OwnDigest
+pub mod OwnSizes
+pub mod OwnRows
+pub mod OwnPlan
+pub mod OwnNodes
+pub mod OwnFacts
 mod WorkedCases
 mod WorkedRuns
 pub mod PlanningFacts

@@ -11,7 +11,7 @@ use Rattle.tree_search.specs.declared.found.Budget.{Budget}
 use Rattle.tree_search.specs.declared.found.Found.{Found}
 use Rattle.certificate.specs.Limits.{most_cert_bytes}
 use Rattle.certificate.specs.Texts.{cert_text}
-use Rattle.own_certificate.specs.Own.{certified, most_bytes_of}
+use Rattle.flow_cli.specs.Own.{certified, most_bytes_of}
 use Rattle.flow_cli.specs.declared.certifying.Certified.{Certified}
 use Rattle.flow_cli.specs.declared.status.Status.TheVariants.{TooLong, WriteFault}
 use Rattle.flow_cli.specs.Faults.{too_long_text}

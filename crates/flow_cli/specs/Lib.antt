@@ -6,6 +6,7 @@ pub mod Exit
 pub mod Faults
 pub mod Judging
 pub mod Outside
+pub mod Own
 pub mod Planning
 pub mod Reading
 pub mod Status

@@ -11,13 +11,13 @@ ghost use Rattle.flow_cli.specs.Words.{IsNodeCount};
 
 use crate::answer::{Answer, EarlyEnd};
 use crate::faults::too_long_line;
+use crate::own_certificate::certificate_of;
 use crate::planning::{answer_of, search_day};
 use crate::reading::signed_day_of;
 use crate::status::Status;
 use certificate::{Digest, MOST_CERT_BYTES, cert_length, cert_text};
 use flow_outside::{Files, StoreFault};
 use flow_types::{OutOfMemory, Scenario};
-use own_certificate::certificate_of;
 use std::alloc::Global;
 use tree_search::{Budget, Found};
 

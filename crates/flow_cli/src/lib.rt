@@ -22,6 +22,12 @@
 //! to the number that the process ends with, and from the words of the environment to those of
 //! `run`, it is said by `exit_code`'s, in `specs/Exit.antt`.
 //!
+//! What `plan --cert` stores is the certificate of a search's record ([`certificate_of`], as
+//! `specs/Own.antt` defines it). Its numbers are within the limits of lines, and the verdict on its
+//! text is its claim, and no other one ([`own_certificates_are_accepted`]): whoever checks it, by
+//! `check` or anything else that answers the verdict on a text, is told the record's last plan,
+//! what it costs, the bound and the number of nodes.
+//!
 //! Memory: the words, a text, the scenario, its search or the plan with its loads, and the answer.
 //! The record's last plan is printed where it lies.
 #![tactic(auto)]
@@ -32,6 +38,7 @@ mod checking;
 mod exit;
 mod faults;
 mod judging;
+mod own_certificate;
 mod planning;
 mod reading;
 mod running;
@@ -40,5 +47,6 @@ mod words;
 
 pub use answer::{FoundList, Ran};
 pub use exit::exit_code;
+pub use own_certificate::{certificate_of, own_certificates_are_accepted};
 pub use running::run;
 pub use status::Status;

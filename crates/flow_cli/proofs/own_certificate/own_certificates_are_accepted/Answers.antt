@@ -1,8 +1,8 @@
 use Rattle.std.proofs.Common.{subst, sym}
 use Rattle.sha2.specs.Sha256.{sha256}
 use Rattle.cert_checker.specs.Verdicts.{IsVerdict}
-use Rattle.own_certificate.proofs.OwnFacts.{own_accepted, own_alone, own_short, own_writable}
-use Rattle.own_certificate.proofs.laws.own_certificates_are_accepted.Goals as goal
+use Rattle.flow_cli.proofs.OwnFacts.{own_accepted, own_alone, own_short, own_writable}
+use Rattle.flow_cli.proofs.own_certificate.own_certificates_are_accepted.Goals as goal
 
 pub returns-clause-writable : goal.returns-clause-writable
 returns-clause-writable c = own_writable

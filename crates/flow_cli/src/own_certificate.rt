@@ -1,4 +1,4 @@
-//! What the certificate of a search is worth.
+//! The certificate of a search's record, and what it is worth.
 ghost use Rattle.std.specs.Prelude.{◌≡◌, ◌<◌, ◌≤◌, ◌^◌, ℕ, List, Ok, Option, Some, length};
 ghost use Rattle.sha2.specs.Sha256.{sha256};
 ghost use Rattle.flow_outside.specs.Held.{Held, bytes_told};
@@ -10,10 +10,21 @@ ghost use Rattle.certificate.specs.Writable.{IsWritable};
 ghost use Rattle.cert_checker.specs.Accepted.{claim_of};
 ghost use Rattle.cert_checker.specs.Checks.{IsChecked};
 ghost use Rattle.cert_checker.specs.Verdicts.{IsVerdict, Verdict};
-ghost use Rattle.own_certificate.specs.Own.{certified, most_bytes_of};
+ghost use Rattle.flow_cli.specs.Own.{certified, most_bytes_of};
 ghost use Rattle.tree_search.specs.declared.found.Budget.{Budget};
 ghost use Rattle.tree_search.specs.declared.found.Found.{Found};
 ghost use Rattle.tree_search.specs.Records.{IsSearchRecord};
+
+use certificate::{Certificate, Digest};
+use tree_search::Found;
+
+/// The certificate of a search's record: its tree, its last plan, if there is one, and its bound.
+/// It borrows these, and takes no memory. The digest is that of the day's text.
+pub fn certificate_of<'a>(digest: Digest, found: &'a Found) -> Certificate<'a>
+    ensures certified { result ≡ certified digest found.now }
+{
+    Certificate::new(digest, &found.tree, found.plans.items().last(), found.bound)
+}
 
 /// The certificate of a search's record, on a root within the root box of the scenario and by at
 /// most 2^32 - 1 nodes, has numbers within the limits of lines (`writable`), and no more bytes than

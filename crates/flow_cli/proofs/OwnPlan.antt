@@ -26,7 +26,7 @@ use Rattle.certificate.specs.Lines.{fields_text, line_of, stop_fields}
 use Rattle.certificate.specs.Ranges.{AreStopsInRange}
 use Rattle.certificate.specs.Texts.{plan_text, trips_text}
 use Rattle.certificate.specs.Writable.{AreTripsWritable, IfPlanWritable, IsPlanWritable}
-use Rattle.own_certificate.proofs.SizeFacts.{digits_to, field_size, field_to, line_size, whole_to}
+use Rattle.flow_cli.proofs.OwnSizes.{digits_to, field_size, field_to, line_size, whole_to}
 
 -- a number between these two is no further from 0
 pub abs_to : (most : ℕ) (value : ℤ) → neg_ℤ (pos most) ≤ℤ value → value ≤ℤ pos most

@@ -35,11 +35,11 @@ use Rattle.tree_search.specs.declared.found.Found.{Found}
 use Rattle.tree_search.specs.Nodes.{IsNodeOf}
 use Rattle.tree_search.specs.Records.{IsSearchRecord, last_plan}
 use Rattle.tree_search.proofs.SoundFacts.{record_tree}
-use Rattle.own_certificate.specs.Own.{certified, most_bytes_of}
-use Rattle.own_certificate.proofs.DigestFacts.{is_digest}
-use Rattle.own_certificate.proofs.NodeFacts.{AreFitNodes, node_bytes, nodes_fit}
-use Rattle.own_certificate.proofs.PlanFacts.{plan_size, plan_writable}
-use Rattle.own_certificate.proofs.SizeFacts.{digits_to, field_size, line_size, whole_to}
+use Rattle.flow_cli.specs.Own.{certified, most_bytes_of}
+use Rattle.flow_cli.proofs.OwnDigest.{is_digest}
+use Rattle.flow_cli.proofs.OwnNodes.{AreFitNodes, node_bytes, nodes_fit}
+use Rattle.flow_cli.proofs.OwnPlan.{plan_size, plan_writable}
+use Rattle.flow_cli.proofs.OwnSizes.{digits_to, field_size, line_size, whole_to}
 
 -- a tree has a node
 tree_some : (nodes : List TreeNode) → is_tree nodes ≡ true → 1 ≤ length nodes

@@ -33,7 +33,7 @@ use Rattle.certificate.specs.Rows.{row_numbers, row_word}
 use Rattle.certificate.specs.Stages.{is_above}
 use Rattle.certificate.specs.Texts.{rows_text}
 use Rattle.certificate.specs.Writable.{AreAbove, AreLeafRows, AreRowsInRange}
-use Rattle.own_certificate.proofs.SizeFacts.{digits_to, field_size, field_to, line_size, numbers_to}
+use Rattle.flow_cli.proofs.OwnSizes.{digits_to, field_size, field_to, line_size, numbers_to}
 
 never_itself : (a : RowName) → IsBefore a a → ⊥
 never_itself a before =

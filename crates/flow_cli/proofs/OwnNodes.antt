@@ -37,9 +37,9 @@ use Rattle.certificate.specs.Texts.{leaf_text, rows_text, tree_text}
 use Rattle.certificate.specs.Writable.{AreNodesWritable, IsLeafWritable}
 use Rattle.tree_search.specs.declared.found.Budget.{Budget}
 use Rattle.tree_search.specs.Nodes.{IsLeafNode, IsNodeOf, cost_of, cutoff_after}
-use Rattle.own_certificate.proofs.PlanFacts.{cost_to}
-use Rattle.own_certificate.proofs.RowFacts.{AreFitRows, AreRows, fit_rows}
-use Rattle.own_certificate.proofs.SizeFacts.{digits_to, field_to, line_size, whole_to}
+use Rattle.flow_cli.proofs.OwnPlan.{cost_to}
+use Rattle.flow_cli.proofs.OwnRows.{AreFitRows, AreRows, fit_rows}
+use Rattle.flow_cli.proofs.OwnSizes.{digits_to, field_to, line_size, whole_to}
 
 -- no node of a tree has more bytes
 abbrev pub node_bytes : Parts → ℕ
