@@ -11,11 +11,22 @@ use std::alloc::Global;
 
 /// Positions of variables, the visits to the places, and the cost row of a scenario: made once, and
 /// lent for each box.
-#[derive(Debug, Drop)]
+#[derive(Debug)]
 pub struct Table {
     pub columns: Columns,
     pub visits: Visits,
     pub cost: CostRow,
+}
+
+// Written out, so that proofs see one call where a room is let go of.
+impl Drop for Table {
+    fn drop(self) {
+        let Table {
+            columns: _,
+            visits: _,
+            cost: _,
+        } = self;
+    }
 }
 
 /// The table of the scenario. While it runs it takes the memory of a root box.

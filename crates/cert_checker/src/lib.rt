@@ -33,8 +33,8 @@
 //!
 //! Memory: the room of leaves (`LeafWork`), loads, the first box and the present one with the
 //! changes on the way to it, a piece and a line of the text, the rows of one leaf, and the plan.
-//! All of these are bounded by the day, so a longer text takes no more. Time: each line once, a step
-//! on the path of boxes for each node, and each leaf's bound.
+//! All of these are bounded by the day, so a longer text takes no more. Time: each line once, a
+//! step on the path of boxes for each node, and each leaf's bound.
 #![tactic(auto)]
 
 mod checking;

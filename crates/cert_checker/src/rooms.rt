@@ -11,13 +11,24 @@ use valid_cuts::Pool;
 
 /// The room in which a check works: for the bounds of leaves, and for the loads of its plan; and
 /// where rows and trips are kept.
-#[derive(Drop)]
 pub struct Rooms {
     pub alloc: Global,
     pub leaves: LeafWork,
     pub loads: Loads,
     /// There are no cuts yet.
     pub pool: Pool,
+}
+
+// Written out, so that proofs see one call where a room is let go of.
+impl Drop for Rooms {
+    fn drop(self) {
+        let Rooms {
+            alloc: _,
+            leaves: _,
+            loads: _,
+            pool: _,
+        } = self;
+    }
 }
 
 /// Room for certificates of the scenario.

@@ -28,7 +28,7 @@ use time_windows::Boxes;
 use valid_cuts::{Pool, Sums, dual_value};
 
 /// The room in which leaves get their bounds, made once for a scenario.
-#[derive(Debug, Drop)]
+#[derive(Debug)]
 pub struct LeafWork {
     table: Table,
     sums: Sums,
@@ -37,6 +37,20 @@ pub struct LeafWork {
     work: Work,
     prices: Prices,
     loads: Loads,
+}
+
+// Written out, so that proofs see one call where a room is let go of.
+impl Drop for LeafWork {
+    fn drop(self) {
+        let LeafWork {
+            table: _,
+            sums: _,
+            buffer: _,
+            work: _,
+            prices: _,
+            loads: _,
+        } = self;
+    }
 }
 
 impl Model for LeafWork {

@@ -9,12 +9,24 @@ use std::marker::Model;
 /// The prices of a day: on the departures, the arrivals and the flights inside of each place in
 /// each period, and on each connection from each period on. They take 24 bytes a place and period,
 /// and eight a connection and period. Contracts see them as a `PriceTable`.
-#[derive(Debug, Drop)]
+#[derive(Debug)]
 pub struct Prices {
     departures: PriceBlock,
     arrivals: PriceBlock,
     inside: PriceBlock,
     turns: PriceBlock,
+}
+
+// Written out, so that proofs see one call where a room is let go of.
+impl Drop for Prices {
+    fn drop(self) {
+        let Prices {
+            departures: _,
+            arrivals: _,
+            inside: _,
+            turns: _,
+        } = self;
+    }
 }
 
 impl Model for Prices {

@@ -19,13 +19,26 @@ pub const CELLS: usize = 16_384;
 
 /// The rates of one flight on a day, made once and filled anew for each flight. Contracts see them
 /// as `RateLists`, and read those as `Rates`.
-#[derive(Debug, Drop)]
+#[derive(Debug)]
 pub struct RateTable {
     periods: u16,
     leaves: Vec<Cost>,
     arrives: Vec<Cost>,
     paid: Vec<i128>,
     clear: Vec<u16>,
+}
+
+// Written out, so that proofs see one call where a room is let go of.
+impl Drop for RateTable {
+    fn drop(self) {
+        let RateTable {
+            periods: _,
+            leaves: _,
+            arrives: _,
+            paid: _,
+            clear: _,
+        } = self;
+    }
 }
 
 impl Model for RateTable {

@@ -25,7 +25,7 @@ use time_windows::{Access, Boxes};
 
 /// The room in which least trips are found, made once for a scenario: 0.9 MB. Contracts see it as
 /// the stops of the last least trip and the periods of the scenario.
-#[derive(Debug, Drop)]
+#[derive(Debug)]
 pub struct Work {
     periods: u16,
     // The rates of one flight, under prices and beside loads.
@@ -38,6 +38,22 @@ pub struct Work {
     // What connections cost from each period on.
     sums: Vec<u128>,
     stops: Vec<Stop>,
+}
+
+// Written out, so that proofs see one call where a room is let go of.
+impl Drop for Work {
+    fn drop(self) {
+        let Work {
+            periods: _,
+            priced: _,
+            fitting: _,
+            table: _,
+            accesses: _,
+            cut: _,
+            sums: _,
+            stops: _,
+        } = self;
+    }
 }
 
 impl Model for Work {

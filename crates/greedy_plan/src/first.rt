@@ -27,10 +27,17 @@ pub enum Greedy {
 
 /// The room in which greedy plans are made, made once for a scenario: twelve bytes a place and
 /// period, eight a flight, and 0.9 MB.
-#[derive(Debug, Drop)]
+#[derive(Debug)]
 pub struct PlanWork {
     work: Work,
     loads: Loads,
+}
+
+// Written out, so that proofs see one call where a room is let go of.
+impl Drop for PlanWork {
+    fn drop(self) {
+        let PlanWork { work: _, loads: _ } = self;
+    }
 }
 
 impl Model for PlanWork {

@@ -27,12 +27,24 @@ const LAST_ROUND: u32 = 1024;
 
 /// Room to play rounds in, and the best prices of those that were played last. Contracts see it as
 /// a `RoundRoom`.
-#[derive(Debug, Drop)]
+#[derive(Debug)]
 pub struct Rounds {
     prices: Prices,
     best: Prices,
     work: Work,
     loads: Loads,
+}
+
+// Written out, so that proofs see one call where a room is let go of.
+impl Drop for Rounds {
+    fn drop(self) {
+        let Rounds {
+            prices: _,
+            best: _,
+            work: _,
+            loads: _,
+        } = self;
+    }
 }
 
 impl Model for Rounds {

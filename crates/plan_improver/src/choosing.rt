@@ -22,13 +22,26 @@ const MOST_CHOSEN: usize = 24;
 
 /// The flights that are taken out together, in the order in which they are put back, with the lists
 /// that serve their choice.
-#[derive(Debug, Drop)]
+#[derive(Debug)]
 pub struct Chosen {
     generator: Generator,
     delayed: Vec<u32>,
     hotspots: Vec<Hotspot>,
     others: Vec<u32>,
     flights: Vec<u32>,
+}
+
+// Written out, so that proofs see one call where a room is let go of.
+impl Drop for Chosen {
+    fn drop(self) {
+        let Chosen {
+            generator: _,
+            delayed: _,
+            hotspots: _,
+            others: _,
+            flights: _,
+        } = self;
+    }
 }
 
 impl Chosen {

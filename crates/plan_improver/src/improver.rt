@@ -39,13 +39,26 @@ struct Offer {
 
 /// The room of searches, made once for a scenario: twelve bytes a place and period, eight a flight,
 /// and 0.9 MB. It keeps the plan of the last search. Contracts see it as a `SearchRoom`.
-#[derive(Debug, Drop)]
+#[derive(Debug)]
 pub struct Improver {
     work: Work,
     loads: Loads,
     choices: Vec<Choice>,
     chosen: Chosen,
     offers: Vec<Offer>,
+}
+
+// Written out, so that proofs see one call where a room is let go of.
+impl Drop for Improver {
+    fn drop(self) {
+        let Improver {
+            work: _,
+            loads: _,
+            choices: _,
+            chosen: _,
+            offers: _,
+        } = self;
+    }
 }
 
 impl Model for Improver {

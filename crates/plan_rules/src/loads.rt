@@ -22,7 +22,7 @@ enum Contents {
 /// The counts and end times of trips, at most one a flight, of the scenario that they were made
 /// for: its places, periods and flights. They take twelve bytes a place and period, and eight a
 /// flight. Contracts see them as a `Tally`.
-#[derive(Debug, Drop)]
+#[derive(Debug)]
 pub struct Loads {
     departures: Grid,
     arrivals: Grid,
@@ -30,6 +30,20 @@ pub struct Loads {
     leaves: Vec<Option<u16>>,
     arrives: Vec<Option<u16>>,
     contents: Contents,
+}
+
+// Written out, so that proofs see one call where a room is let go of.
+impl Drop for Loads {
+    fn drop(self) {
+        let Loads {
+            departures: _,
+            arrivals: _,
+            inside: _,
+            leaves: _,
+            arrives: _,
+            contents: _,
+        } = self;
+    }
 }
 
 impl Model for Loads {

@@ -28,7 +28,7 @@ pub const WEIGHT: u64 = 1 << 20;
 /// Room to climb in, made once for a scenario, and what the last climb has led to: the best prices;
 /// those under which the least trips pass no limit and cost the least; and how much the times of
 /// trips differed. Contracts see it as an `AscentRoom`.
-#[derive(Debug, Drop)]
+#[derive(Debug)]
 pub struct Ascent {
     tables: Tables,
     trips: Trips,
@@ -37,21 +37,55 @@ pub struct Ascent {
     plan_cost: Option<i128>,
 }
 
+// Written out, so that proofs see one call where a room is let go of.
+impl Drop for Ascent {
+    fn drop(self) {
+        let Ascent {
+            tables: _,
+            trips: _,
+            slopes: _,
+            plan_cost: _,
+        } = self;
+    }
+}
+
 // The prices of the last step, those that are kept, and those of a plan.
-#[derive(Debug, Drop)]
+#[derive(Debug)]
 struct Tables {
     present: Prices,
     best: Prices,
     planned: Prices,
 }
 
+// Written out, so that proofs see one call where a room is let go of.
+impl Drop for Tables {
+    fn drop(self) {
+        let Tables {
+            present: _,
+            best: _,
+            planned: _,
+        } = self;
+    }
+}
+
 // Room for trips, with their counts, and the spreads of their times: for each of the nodes that a
 // flight may have.
-#[derive(Debug, Drop)]
+#[derive(Debug)]
 struct Trips {
     work: Work,
     loads: Loads,
     spreads: Vec<Spread>,
+}
+
+// Written out, so that proofs see one call where a room is let go of.
+impl Drop for Trips {
+    fn drop(self) {
+        let Trips {
+            work: _,
+            loads: _,
+            spreads: _,
+        } = self;
+    }
 }
 
 impl Model for Ascent {

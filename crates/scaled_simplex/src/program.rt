@@ -107,7 +107,8 @@ impl Program {
     /// constraints together stay below 2^32 - 2. It takes 16 bytes a term and some 40 more. After
     /// an error the program is as before.
     pub fn add_row(&mut self, alloc: Global, terms: &[Entry], limit: i64) -> Result<(), OutOfMemory>
-        requires row { IsConstraint (columns self.old) (record { terms = terms.now; limit = limit }) }
+        requires row { IsConstraint (columns self.old)
+            (record { terms = terms.now; limit = limit }) }
         requires few { columns self.old + length self.old.constraints < most_indices }
         ensures ok { OnOk result (self.new ≡ record {
           costs = self.old.costs;

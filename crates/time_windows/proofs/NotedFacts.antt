@@ -168,8 +168,8 @@ noted_more start index before now noted next access from within is set_is all = 
             ∙ all.here k low (omega (arith, below, other)))
       ];
   first = λ k below.
-      rw set_is (get_or-set_other noted index k access closed (λ same. omega (arith, same, below, from))
-      ∙ all.first k below);
+      rw set_is (get_or-set_other noted index k access closed
+      (λ same. omega (arith, same, below, from)) ∙ all.first k below);
   last = λ k past.
       rw set_is (get_or-set_other noted index k access closed (λ same. omega (arith, same, past))
       ∙ all.last k (omega (arith, past)));

@@ -20,12 +20,23 @@ use std::marker::Model;
 /// A box of plans of the scenario that it was made for. Contracts see it as a `Box`: what each node
 /// of each flight may do. It takes 16 bytes for each of 32 nodes a flight, and a copy of the
 /// flights' legs and connections.
-#[derive(Debug, Drop)]
+#[derive(Debug)]
 pub struct Boxes {
     // 32 a flight, and as many groups.
     accesses: Vec<Access>,
     leg_groups: Groups<Leg>,
     turns: Turns,
+}
+
+// Written out, so that proofs see one call where a room is let go of.
+impl Drop for Boxes {
+    fn drop(self) {
+        let Boxes {
+            accesses: _,
+            leg_groups: _,
+            turns: _,
+        } = self;
+    }
 }
 
 impl Model for Boxes {

@@ -104,8 +104,8 @@ impl Trail {
     /// and tells whether a node that must be entered is closed there, as `Boxes::tighten` does.
     /// Without the memory for it, the path stays as it was.
     ///
-    /// It goes over the legs of the flight, and then, as `Boxes::tighten`, over those of the flights
-    /// whose ends a connection moves.
+    /// It goes over the legs of the flight, and then, as `Boxes::tighten`, over those of the
+    /// flights whose ends a connection moves.
     pub fn down(
         &mut self,
         s: &Scenario,

@@ -13,7 +13,6 @@ use std::alloc::Global;
 use valid_cuts::Pool;
 
 /// Rooms for the boxes of a scenario, made once.
-#[derive(Drop)]
 pub struct Rooms {
     pub plans: PlanRooms,
     pub leaves: LeafWork,
@@ -22,18 +21,48 @@ pub struct Rooms {
     pub pool: Pool,
 }
 
+// Written out, so that proofs see one call where a room is let go of.
+impl Drop for Rooms {
+    fn drop(self) {
+        let Rooms {
+            plans: _,
+            leaves: _,
+            prices: _,
+            pool: _,
+        } = self;
+    }
+}
+
 /// For greedy plans, and for cheaper ones.
-#[derive(Drop)]
 pub struct PlanRooms {
     pub greedy: PlanWork,
     pub improver: Improver,
 }
 
+// Written out, so that proofs see one call where a room is let go of.
+impl Drop for PlanRooms {
+    fn drop(self) {
+        let PlanRooms {
+            greedy: _,
+            improver: _,
+        } = self;
+    }
+}
+
 /// For rounds of prices, and for climbs.
-#[derive(Drop)]
 pub struct PriceRooms {
     pub rounds: Rounds,
     pub ascent: Ascent,
+}
+
+// Written out, so that proofs see one call where a room is let go of.
+impl Drop for PriceRooms {
+    fn drop(self) {
+        let PriceRooms {
+            rounds: _,
+            ascent: _,
+        } = self;
+    }
 }
 
 /// The rooms for the scenario.

@@ -24,12 +24,12 @@ loop-moved-init c =
     λ k within. let below = (c.below-waiting.ensures k).0 within in absurd (omega (arith, below)) in
     record {
       narrows = settled.narrows;
-      rows = first_rows parts c.args.flight start old noted none words c.requires.apart settled empty
-          c.insert.ensures;
+      rows = first_rows parts c.args.flight start old noted none words c.requires.apart settled
+          empty c.insert.ensures;
       waits = first_waits parts c.args.flight start old noted none words c.requires.apart settled
           empty c.insert.ensures c.requires.flight;
-      done = first_done parts c.args.flight start old noted none words c.requires.apart settled empty
-          c.insert.ensures;
+      done = first_done parts c.args.flight start old noted none words c.requires.apart settled
+          empty c.insert.ensures;
       noted = first_noted parts c.args.flight start old noted none words c.requires.apart settled
           empty c.insert.ensures c.requires.others;
       made = c.settle.ensures.made;
