@@ -1,10 +1,12 @@
-//! The program: it plans a day of air traffic and says how good the plan is, and it judges plans.
+//! The program: it plans a day of air traffic and says how good the plan is, checks certificates of
+//! such claims, and judges plans.
 //!
 //! `main` hands what the environment answers about its words, the system's files and the standard
 //! output to `flow_cli::exit_code`, whose contract says what is written and with which number the
 //! program ends:
 //!
-//!     flow plan day.csv
+//!     flow plan day.csv --cert day.cert
+//!     flow check day.csv day.cert
 //!     flow judge day.csv plan.csv
 //!
 //! That the environment gives the words that were typed, and that the system's files and output

@@ -6,7 +6,7 @@ use std::test::Fail;
 use worked_days::{ON_TIME, TWO_FLIGHTS};
 
 // One may leave in a period: the second flight waits, and no plan costs less.
-const REPORT: &str = "status,optimal
+const REPORT: &[u8] = b"status,optimal
 cost,1
 bound,1
 nodes,1
@@ -16,7 +16,7 @@ trip,F2,ORIG,1,S,1,DEST,3
 
 // The same plan where the run of the relaxation may make no pivot, there is no round of prices, and
 // no box may be split.
-const OPEN: &str = "status,open
+const OPEN: &[u8] = b"status,open
 cost,1
 bound,0
 nodes,1
@@ -24,9 +24,9 @@ trip,F1,ORIG,0,S,0,DEST,2
 trip,F2,ORIG,1,S,1,DEST,3
 ";
 
-const VERDICT: &str = "broken,departures,ORIG,0,2,1\n";
+const VERDICT: &[u8] = b"broken,departures,ORIG,0,2,1\n";
 
-const FAULT: &str = "fault,read\n";
+const FAULT: &[u8] = b"fault,read\n";
 
 // Words that are separated by spaces.
 fn words_of(alloc: Global, line: &str) -> Result<Vec<String>, Fail> {
@@ -49,7 +49,7 @@ fn a_call_that_fails_is_answered(rt: HostRuntime) -> Result<(), Fail> {
         ("plan day.csv", 1, 0, FAULT, Status::ReadFault),
         ("plan day.csv", 2, 0, FAULT, Status::ReadFault),
         ("plan day.csv", 3, 0, REPORT, Status::Done),
-        ("plan day.csv", 0, 1, "", Status::WriteFault),
+        ("plan day.csv", 0, 1, b"".as_slice(), Status::WriteFault),
         ("plan day.csv", 0, 3, &REPORT[..32], Status::WriteFault),
         (
             "plan --nodes 1 day.csv --pivots 0 --rounds 0",
@@ -85,7 +85,7 @@ fn a_call_that_fails_is_answered(rt: HostRuntime) -> Result<(), Fail> {
         }
         let is_planned = matches!(ran.status, Status::Done | Status::OpenGap);
         assert_eq!(rt; ran.status, status, "{line}, {read}, {write}");
-        assert_eq!(rt; out.bytes(), written.as_bytes(), "{line}, {read}, {write}");
+        assert_eq!(rt; out.bytes(), written, "{line}, {read}, {write}");
         assert_eq!(rt;
             ran.records.items().len(),
             usize::from(is_planned),
@@ -95,13 +95,13 @@ fn a_call_that_fails_is_answered(rt: HostRuntime) -> Result<(), Fail> {
     Ok(())
 }
 
-const CLAIM: &str = "status,optimal
+const CLAIM: &[u8] = b"status,optimal
 cost,1
 bound,1
 nodes,1
 ";
 
-const UNSTORED: &str = "fault,write\n";
+const UNSTORED: &[u8] = b"fault,write\n";
 
 // Runs over one set of files: a certificate is stored, and what is stored is accepted.
 #[test]
@@ -119,7 +119,7 @@ fn a_certificate_is_stored_and_accepted(rt: HostRuntime) -> Result<(), Fail> {
         ("plan --cert day.csv day.csv", REPORT, Status::Done),
         (
             "check day.csv day.cert",
-            "refused,1,1,NoDay\n",
+            b"refused,1,1,NoDay\n".as_slice(),
             Status::BadScenario,
         ),
     ];
@@ -127,7 +127,7 @@ fn a_certificate_is_stored_and_accepted(rt: HostRuntime) -> Result<(), Fail> {
         let mut out = MemorySink::new(alloc, 1_000, 1_000)?;
         let ran = run(alloc, &words_of(alloc, line)?, &mut files, &mut out);
         assert_eq!(rt; ran.status, status, "{line}");
-        assert_eq!(rt; out.bytes(), written.as_bytes(), "{line}");
+        assert_eq!(rt; out.bytes(), written, "{line}");
     }
     Ok(())
 }
@@ -140,7 +140,11 @@ fn a_certificate_is_read_in_pieces(rt: HostRuntime) -> Result<(), Fail> {
     cert.resize(70_000, b'0')?;
     for (call, written, status) in [
         (4, FAULT, Status::ReadFault),
-        (5, "refused,1,1,BadKind\n", Status::BadCertificate),
+        (
+            5,
+            b"refused,1,1,BadKind\n".as_slice(),
+            Status::BadCertificate,
+        ),
     ] {
         let mut files = MemoryFiles::new(alloc);
         files.add("day.csv", TWO_FLIGHTS)?;
@@ -150,7 +154,7 @@ fn a_certificate_is_read_in_pieces(rt: HostRuntime) -> Result<(), Fail> {
         let words = words_of(alloc, "check day.csv day.cert")?;
         let ran = run(alloc, &words, &mut files, &mut out);
         assert_eq!(rt; ran.status, status, "{call}");
-        assert_eq!(rt; out.bytes(), written.as_bytes(), "{call}");
+        assert_eq!(rt; out.bytes(), written, "{call}");
     }
     Ok(())
 }
