@@ -1,6 +1,6 @@
 -- A check line by line: after the line of an item it has come to the next one; where the text ends
 -- or is refused, or a line is, that is the verdict on a text.
-use Rattle.std.proofs.Common.{◌≡◌, ℕ, List, [], ◌∷◌, ◌++◌, length, Option, Some, None, Result, Ok, Err, refl, sym, ap, subst, ◌∙◌, append_assoc}
+use Rattle.std.proofs.Common.{◌≡◌, ℕ, ◌+◌, ◌≤◌, List, [], ◌∷◌, ◌++◌, length, Option, Some, None, Result, Ok, Err, refl, sym, ap, subst, ◌∙◌, arith, append_assoc, length-append}
 use Rattle.flow_types.specs.declared.parts.Parts.{Parts}
 use Rattle.flow_outside.specs.Held.{Held, IfTold, bytes_told}
 use Rattle.time_windows.specs.Boxes.{Box}
@@ -9,8 +9,9 @@ use Rattle.certificate.specs.declared.fault.CertRefusal.TheVariants as refusal
 use Rattle.certificate.specs.declared.fault.LineFault.{LineFault}
 use Rattle.certificate.specs.declared.item.CertItem.{CertItem}
 use Rattle.certificate.specs.declared.stage.Stage.TheVariants as stage
+use Rattle.certificate.specs.Limits.{most_cert_bytes}
 use Rattle.certificate.specs.Reading.{Read, read_from, with_item}
-use Rattle.certificate.specs.Readers.{AreTaken, IsFinished, IsItemRead, IsLineRefused, IsRefused, ReaderSeen, left_in}
+use Rattle.certificate.specs.Readers.{AreBounded, AreTaken, IsFinished, IsItemRead, IsLineRefused, IsRefused, ReaderSeen, left_in}
 use Rattle.certificate.proofs.ReaderFacts.{item_read}
 use Rattle.certificate.proofs.RefuseFacts.{nothing_left}
 use Rattle.cert_checker.specs.declared.claim.CertClaim.{CertClaim}
@@ -46,7 +47,8 @@ module _ (parts : Parts) (root : Box) (digest : List ℕ) (held : Option Held)
     (name : List ℕ) where
   -- the line of an item was taken, which does this
   module _ (old new : ReaderSeen) (item : CertItem) (read : IsItemRead parts held old item new)
-      (now : Standing) (come : HasCome parts root digest held name old now) where
+      (bounded : AreBounded old.pieces new.pieces) (now : Standing)
+      (come : HasCome parts root digest held name old now) where
     abbrev line : List ℕ
     line = read.taken.line ++ 10 ∷ []
 
@@ -62,6 +64,20 @@ module _ (parts : Parts) (root : Box) (digest : List ℕ) (held : Option Held)
               ∙ ap (λ (left : List ℕ). come.taken ++ left) (read.taken.taken.told bytes there)
               ∙ sym (append_assoc come.taken line (left_in new.pieces bytes)),
         )
+
+    -- what was taken isn't more than may be
+    taken_count : length (come.taken ++ line) + length new.pieces.ahead ≡ new.pieces.offset
+    taken_count =
+        let before = come.count in
+        let count = read.taken.taken.count in
+        let whole = length-append come.taken line in
+        omega (arith, before, count, whole)
+
+    size_few : new.pieces.size ≤ most_cert_bytes
+    size_few =
+        let few = come.few in
+        let shorter = bounded.shorter in
+        omega (arith, few, shorter)
 
     -- what is decided of the text from here on
     from_here : (rest : List ℕ) (verdict : Verdict)
@@ -91,6 +107,9 @@ module _ (parts : Parts) (root : Box) (digest : List ℕ) (held : Option Held)
       readable = come.readable;
       name_is = read.taken.taken.name ∙ come.name_is;
       none = none;
+      count = taken_count;
+      within = bounded.within;
+      few = size_few;
       told = told_on;
       whole = λ rest verdict decided.
           from_here rest verdict
@@ -125,12 +144,23 @@ module _ (parts : Parts) (root : Box) (digest : List ℕ) (held : Option Held)
         by None is = record {
           readable = come.readable;
           text = (come.taken ++ line) ++ [];
+          short =
+              let count = taken_count in
+              let within = bounded.within in
+              let few = size_few in
+              let whole = length-append (come.taken ++ line) [] in
+              omega (arith, count, within, few, whole);
           told = λ bytes told. absurd (let e : ⊥ = cc (sym is ∙ told) in e);
           is = record { tight = come.tight; tight_is = come.tight_is; decided = decided [] };
         }
         by (Some bytes) is = record {
           readable = come.readable;
           text = (come.taken ++ line) ++ left_in new.pieces bytes;
+          short =
+              let few = size_few in
+              let size = (told_on bytes is).0 in
+              let same = ap length (told_on bytes is).1 in
+              omega (arith, few, size, same);
           told = λ other told.
               let same : bytes ≡ other = cc (sym is ∙ told) in
               sym same ∙ (told_on bytes is).1;
@@ -168,6 +198,12 @@ module _ (parts : Parts) (root : Box) (digest : List ℕ) (held : Option Held)
     text_ended new finished taken ended = record {
       readable = come.readable;
       text = come.taken ++ [];
+      short =
+          let count = come.count in
+          let within = come.within in
+          let few = come.few in
+          let whole = length-append come.taken [] in
+          omega (arith, count, within, few, whole);
       told = λ bytes is.
           let before = come.told bytes is in
           before.1
@@ -192,6 +228,13 @@ module _ (parts : Parts) (root : Box) (digest : List ℕ) (held : Option Held)
     text_refused fault is = record {
       readable = come.readable;
       text = come.taken ++ is.rest;
+      short =
+          let count = come.count in
+          let within = come.within in
+          let few = come.few in
+          let rest = is.few in
+          let whole = length-append come.taken is.rest in
+          omega (arith, count, within, few, rest, whole);
       told = λ bytes is_told.
           let before = come.told bytes is_told in
           before.1
@@ -229,9 +272,9 @@ module _ (parts : Parts) (root : Box) (digest : List ℕ) (held : Option Held)
       → (reader.pieces.offset ≡ 0) × (reader.pieces.ahead ≡ []) × (reader.stage ≡ stage.Head)
       × (reader.number ≡ 1) × (reader.kept ≡ None)
       → IfTold held name (λ bytes. length bytes ≡ reader.pieces.size)
-      → IsReadable held name
+      → reader.pieces.size ≤ most_cert_bytes → IsReadable held name
       → IsStarted parts root now → HasCome parts root digest held name reader now
-  come_first reader now name_is (offset, ahead, at_head, first, none) size readable started =
+  come_first reader now name_is (offset, ahead, at_head, first, none) size few readable started =
       record {
         tight = started.tight;
         tight_is = started.tight_is;
@@ -239,6 +282,9 @@ module _ (parts : Parts) (root : Box) (digest : List ℕ) (held : Option Held)
         readable = readable;
         name_is = name_is;
         none = none;
+        count = rw (offset, ahead) refl;
+        within = omega (arith, offset);
+        few = few;
         told = λ bytes is. (size bytes is, rw (offset, ahead) refl);
         whole = λ rest verdict decided.
             rw (at_head, first, started.front, started.nothing) at decided;

@@ -134,11 +134,12 @@ pub record IsReadable (held : Option Held) (name : List ℕ) : Type 0 where
   pub present : HasName held name
   pub within : IfTold held name (λ bytes. length bytes ≤ most_cert_bytes)
 
--- The verdict on a text; where the files tell what the name holds, on that.
+-- The verdict on a text that isn't too long; where the files tell what the name holds, on that.
 pub record IsChecked (parts : Parts) (root : Box) (digest : List ℕ) (held : Option Held)
     (name : List ℕ) (verdict : Verdict) : Type 0 where
   pub readable : IsReadable held name
   pub text : List ℕ
+  pub short : length text ≤ most_cert_bytes
   pub told : IfTold held name (λ bytes. bytes ≡ text)
   pub is : IsVerdict parts root digest text verdict
 
@@ -152,6 +153,9 @@ pub record HasCome (parts : Parts) (root : Box) (digest : List ℕ) (held : Opti
   pub readable : IsReadable held name
   pub name_is : reader.pieces.name ≡ name
   pub none : reader.kept ≡ None
+  pub count : length taken + length reader.pieces.ahead ≡ reader.pieces.offset
+  pub within : reader.pieces.offset ≤ reader.pieces.size
+  pub few : reader.pieces.size ≤ most_cert_bytes
   pub told : IfTold held name (λ bytes. (length bytes ≡ reader.pieces.size)
       × (bytes ≡ taken ++ left_in reader.pieces bytes))
   pub whole : (rest : List ℕ) (verdict : Verdict)

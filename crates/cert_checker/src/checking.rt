@@ -160,13 +160,13 @@ fn read_on<F: Files>(
 /// first box that keeps every rule costs less than the bound; and a plan that is claimed keeps
 /// every rule, costs the claimed cost, and is in the first box.
 ///
-/// `Refused` has the first fault of the text. It and the claim are the verdict on what the name
-/// holds, where the files tell that. `Read` comes only where the files' count of faults rose in
-/// this call or stands at its last value, or the files tell that they don't have the name;
-/// `TooLong` where the name holds more than 1 GiB, and says how many bytes. After any other answer
-/// than `Read` the count stays. It takes memory for the room of leaves (`LeafWork`), loads, the
-/// first box and the changes on the path down from it, a piece and a line of the text, and the rows
-/// of a leaf and the plan; so it doesn't grow with the text.
+/// `Refused` has the first fault of the text. It and the claim are the verdict on a text of at most
+/// 1 GiB, which is what the name holds, where the files tell that. `Read` comes only where the
+/// files' count of faults rose in this call or stands at its last value, or the files tell that
+/// they don't have the name; `TooLong` where the name holds more than 1 GiB, and says how many
+/// bytes. After any other answer than `Read` the count stays. It takes memory for the room of
+/// leaves (`LeafWork`), loads, the first box and the changes on the path down from it, a piece and a
+/// line of the text, and the rows of a leaf and the plan; so it doesn't grow with the text.
 pub fn check_from<F: Files>(
     alloc: Global,
     s: &Scenario,

@@ -23,7 +23,7 @@
 //! has what contracts say of a check on its way.
 //!
 //! Proved: what is answered is the verdict on a text, the claim or the first fault by line, field
-//! and cause (`ok`, `refused`); the name is there and holds no more than 1 GiB, as far as the files
+//! and cause (`ok`, `refused`), on a text of at most 1 GiB; the name is there, as far as the files
 //! tell, and where they tell what it holds, and that is what it was when the check began, it is the
 //! verdict on that. A claim that is answered holds (`holds`): no
 //! plan in the first box that keeps every rule costs less than the bound; a plan keeps every rule,

@@ -1,10 +1,10 @@
 -- A line that is refused: the text that is left is read so.
-use Rattle.std.proofs.Common.{◌≡◌, ℕ, ◌<◌, Bool, true, false, List, [], ◌∷◌, ◌++◌, length, drop, Option, Some, None, Result, Ok, Err, refl, sym, ap, ◌∙◌, arith, append_assoc, length-append}
+use Rattle.std.proofs.Common.{◌≡◌, ℕ, ◌-◌, ◌<◌, ◌+◌, ◌≤◌, Bool, true, false, List, [], ◌∷◌, ◌++◌, length, drop, take, Option, Some, None, Result, Ok, Err, refl, sym, ap, ◌∙◌, arith, append_assoc, length-append}
 use Rattle.std.specs.Prelude.{IfErr}
 use Rattle.std.specs.List.{onto_first}
 use Rattle.std.proofs.Math.ListN.{drop_of_length-le}
 use Rattle.std.proofs.lemmas.Bool.{lt-ltb}
-use Rattle.std.proofs.lemmas.List.{append-nil}
+use Rattle.std.proofs.lemmas.List.{append-nil, length-drop, length-take, take_all}
 use Rattle.std.proofs.lemmas.List.Elements.{All-head, All-tail}
 use Rattle.std.proofs.lemmas.List.Splits.{slice_split-cons_no, slice_split_at, slice_split_none}
 use Rattle.text_records.specs.Errors.{◌>>=◌}
@@ -13,7 +13,7 @@ use Rattle.flow_outside.specs.Held.{Held, bytes_told}
 use Rattle.certificate.specs.Fields.{is_nil}
 use Rattle.certificate.specs.Limits.{most_line_bytes}
 use Rattle.certificate.specs.Reading.{go_on, in_first, is_feed, last_fault, line_step, long_fault, past_end, pieces_of, read_from, read_on, stopped}
-use Rattle.certificate.specs.Readers.{AreNoFeeds, AreTaken, Found, IsAtEnd, IsLineRefused, IsLineTaken, IsRefused, PiecesSeen, Tells, left_in, none_or_fault, told_by}
+use Rattle.certificate.specs.Readers.{AreBounded, AreNoFeeds, AreTaken, Found, IsAtEnd, IsLineRefused, IsLineTaken, IsRefused, PiecesSeen, Tells, left_in, none_or_fault, told_by}
 use Rattle.certificate.specs.Stages.{is_ended}
 use Rattle.certificate.specs.declared.fault.CertRefusal.{CertRefusal}
 use Rattle.certificate.specs.declared.fault.CertRefusal.TheVariants as refusal
@@ -121,10 +121,25 @@ long_read parts now line more plain long =
     ap (λ (pieces : List (List ℕ)). read_on parts pieces now) (first_piece line more plain)
     ∙ long_first parts now line (pieces_of more) long
 
--- what follows what was read, where it is told
-tail_in : Option (List ℕ) → ℕ → List ℕ
-tail_in None offset = []
-tail_in (Some bytes) offset = drop offset bytes
+-- what follows what was read of a text of this size, where it is told
+tail_in : Option (List ℕ) → ℕ → ℕ → List ℕ
+tail_in None size offset = []
+tail_in (Some bytes) size offset = take (size - offset) (drop offset bytes)
+
+tail_few : (told : Option (List ℕ)) (size offset : ℕ)
+    → length (tail_in told size offset) ≤ size - offset
+unfolding tail_in
+tail_few None size offset = omega (arith)
+tail_few (Some bytes) size offset =
+    let taken = length-take (size - offset) (drop offset bytes) in
+    omega (arith, taken)
+
+tail_whole : (bytes : List ℕ) (size offset : ℕ) → length bytes ≡ size
+    → tail_in (Some bytes) size offset ≡ drop offset bytes
+unfolding tail_in
+tail_whole bytes size offset same =
+    let dropped = length-drop offset bytes in
+    take_all (size - offset) (drop offset bytes) (omega (arith, dropped, same))
 
 pub nothing_left : (pieces : PiecesSeen) (bytes : List ℕ) → IsAtEnd pieces
     → length bytes ≡ pieces.size → left_in pieces bytes ≡ []
@@ -136,30 +151,49 @@ nothing_left pieces bytes at_end same =
 module _ (parts : Parts) (held : Option Held) (old new : PiecesSeen) (now : Stage)
     (line : List ℕ) where
   after : List ℕ
-  after = new.ahead ++ tail_in (bytes_told held old.name) new.offset
+  after = new.ahead ++ tail_in (bytes_told held old.name) old.size new.offset
 
   told_after : (taken : List ℕ) (is : AreTaken held old new taken) (bytes : List ℕ)
       → bytes_told held old.name ≡ Some bytes → length bytes ≡ old.size
       → left_in old bytes ≡ taken ++ after
-  unfolding after tail_in
-  told_after taken is bytes told same = rw told (is.told bytes told)
+  unfolding after
+  told_after taken is bytes told same =
+      is.told bytes told
+      ∙ ap (λ (tail : List ℕ). taken ++ (new.ahead ++ tail))
+      (sym (ap (λ found. tail_in found old.size new.offset) told
+      ∙ tail_whole bytes old.size new.offset same))
 
   begins_so : (taken : List ℕ) (is : AreTaken held old new taken)
       → taken ++ after
-      ≡ old.ahead ++ (is.read ++ tail_in (bytes_told held old.name) new.offset)
+      ≡ old.ahead ++ (is.read ++ tail_in (bytes_told held old.name) old.size new.offset)
   unfolding after
   begins_so taken is =
-      let tail = tail_in (bytes_told held old.name) new.offset in
+      let tail = tail_in (bytes_told held old.name) old.size new.offset in
       sym (append_assoc taken new.ahead tail)
       ∙ ap (λ (front : List ℕ). front ++ tail) (sym is.joins)
       ∙ append_assoc old.ahead is.read tail
 
+  few_after : (taken : List ℕ) (is : AreTaken held old new taken) → AreBounded old new
+      → length (taken ++ after) + old.offset ≤ length old.ahead + old.size
+  unfolding after
+  few_after taken is bounded =
+      let tail = tail_in (bytes_told held old.name) old.size new.offset in
+      let few = tail_few (bytes_told held old.name) old.size new.offset in
+      let within = bounded.within in
+      let shorter = bounded.shorter in
+      let count = is.count in
+      let whole = length-append taken (new.ahead ++ tail) in
+      let part = length-append new.ahead tail in
+      omega (arith, few, within, shorter, count, whole, part)
+
   pub is_refused : (end : LineEnd) (fault : LineFault) → IsLineTaken held old new line end
-      → told_by parts now line end ≡ Err fault → IsLineRefused parts held old now fault
-  is_refused line_end.Feed fault is told = record {
+      → AreBounded old new → told_by parts now line end ≡ Err fault
+      → IsLineRefused parts held old now fault
+  is_refused line_end.Feed fault is bounded told = record {
     rest = (line ++ 10 ∷ []) ++ after;
-    more = is.taken.read ++ tail_in (bytes_told held old.name) new.offset;
+    more = is.taken.read ++ tail_in (bytes_told held old.name) old.size new.offset;
     begins = begins_so (line ++ 10 ∷ []) is.taken;
+    few = few_after (line ++ 10 ∷ []) is.taken bounded;
     stops = ap (read_from parts now) (append_assoc line (10 ∷ []) after)
         ∙ line_read parts now line after is.plain
         ∙ ap (λ (read : Result (CertItem × Stage) LineFault).
@@ -167,13 +201,18 @@ module _ (parts : Parts) (held : Option Held) (old new : PiecesSeen) (now : Stag
         (step_failed (line_step parts now line) fault told);
     told = told_after (line ++ 10 ∷ []) is.taken;
   }
-  is_refused line_end.Text fault is told =
+  is_refused line_end.Text fault is bounded told =
       let at_end = is.last refl in
+      let within = bounded.within in
+      let shorter = bounded.shorter in
+      let count = is.taken.count in
+      let whole = length-append line [] in
       record {
         rest = line;
         more = is.taken.read;
         begins = sym (is.taken.joins ∙ ap (λ (ahead : List ℕ). (line ++ []) ++ ahead) at_end.none
             ∙ append-nil (line ++ []) ∙ append-nil line);
+        few = omega (arith, within, shorter, count, whole);
         stops = last_read parts now line is.plain
             ∙ ap stopped (fault_is (last_fault now line) fault told);
         told = λ bytes is_told same.
@@ -182,13 +221,14 @@ module _ (parts : Parts) (held : Option Held) (old new : PiecesSeen) (now : Stag
             (nothing_left new bytes at_end (is.taken.same bytes is_told same))
             ∙ append-nil (line ++ []) ∙ append-nil line;
       }
-  is_refused line_end.Long fault is told =
+  is_refused line_end.Long fault is bounded told =
       let fault_same : long_fault now ≡ fault = cc in
       let size = is.size in
       record {
         rest = (line ++ []) ++ after;
-        more = is.taken.read ++ tail_in (bytes_told held old.name) new.offset;
+        more = is.taken.read ++ tail_in (bytes_told held old.name) old.size new.offset;
         begins = begins_so (line ++ []) is.taken;
+        few = few_after (line ++ []) is.taken bounded;
         stops = ap (λ (front : List ℕ). read_from parts now (front ++ after)) (append-nil line)
             ∙ long_read parts now line after is.plain (omega (arith, size))
             ∙ ap (λ (it : LineFault). stopped (Some it)) fault_same;
@@ -196,10 +236,13 @@ module _ (parts : Parts) (held : Option Held) (old new : PiecesSeen) (now : Stag
       }
 
   pub are_refused : (end : LineEnd) (number : ℕ) (result : Result Found CertRefusal)
-      → IsLineTaken held old new line end → Tells number result (told_by parts now line end)
+      → IsLineTaken held old new line end → AreBounded old new
+      → Tells number result (told_by parts now line end)
       → IfErr result (IsRefused parts held old now number)
-  are_refused end number (Ok found) is tells = tt
-  are_refused end number (Err (refusal.Text fault)) is tells =
-      (tells.0, is_refused end (record { field = fault.field; cause = fault.cause }) is tells.1)
-  are_refused end number (Err refusal.Read) is tells = tt
-  are_refused end number (Err refusal.OutOfMemory) is tells = tt
+  are_refused end number (Ok found) is bounded tells = tt
+  are_refused end number (Err (refusal.Text fault)) is bounded tells = (
+    tells.0,
+    is_refused end (record { field = fault.field; cause = fault.cause }) is bounded tells.1,
+  )
+  are_refused end number (Err refusal.Read) is bounded tells = tt
+  are_refused end number (Err refusal.OutOfMemory) is bounded tells = tt

@@ -109,13 +109,14 @@ pub record IsFinished (reader : ReaderSeen) : Type 0 where
   pub at_end : IsAtEnd reader.pieces
   pub none : reader.kept ≡ None
 
--- the line that comes next is refused: what was read already goes on so that it is, and where the
--- files tell what is left it is that
+-- the line that comes next is refused: what was read already goes on so that it is, by no more than
+-- is left, and where the files tell what is left it is that
 pub record IsLineRefused (parts : Parts) (held : Option Held) (pieces : PiecesSeen) (now : Stage)
     (fault : LineFault) : Type 0 where
   pub rest : List ℕ
   pub more : List ℕ
   pub begins : rest ≡ pieces.ahead ++ more
+  pub few : length rest + pieces.offset ≤ length pieces.ahead + pieces.size
   pub stops : read_from parts now rest ≡ stopped (Some fault)
   pub told : IfSame held pieces (λ bytes. left_in pieces bytes ≡ rest)
 

@@ -20,6 +20,7 @@ read_on-requires-clause-come g c =
     (sym new.kept.held)
     (subst (λ name. IfTold (g.F.Files.seen c.args.files.now).held name
     (λ bytes. length bytes ≡ reader.pieces.size)) (sym new.name) new.size))
+    new.within
     (subst (λ held. IsReadable held reader.pieces.name) (sym new.kept.held)
     (subst (IsReadable (g.F.Files.seen c.args.files.now).held) (sym new.name) (record {
       present = new.present;
