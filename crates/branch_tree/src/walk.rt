@@ -33,12 +33,21 @@ pub enum Step {
 /// The path from the first box down to the present one: a trail, and the steps that led down.
 /// Whoever goes down a tree in preorder stands at the box of the next node. It takes what the trail
 /// takes, and 16 bytes a step.
-#[derive(Drop)]
 pub struct Walk {
     trail: Trail,
     steps: Vec<Step>,
     // How many of the steps are to early sides.
     waiting: u64,
+}
+
+impl Drop for Walk {
+    fn drop(self) {
+        let Walk {
+            trail: _,
+            steps: _,
+            waiting: _,
+        } = self;
+    }
 }
 
 impl Model for Walk {

@@ -12,7 +12,6 @@ use std::marker::Model;
 
 /// A text of files, read in pieces of at most 64 KiB, each byte once. Of the text it keeps one
 /// piece.
-#[derive(Drop)]
 pub struct Pieces {
     name: String,
     // So many bytes the text has, and so many of them were read.
@@ -22,6 +21,19 @@ pub struct Pieces {
     // Those of the piece from `start` to `end` aren't taken yet.
     start: usize,
     end: usize,
+}
+
+impl Drop for Pieces {
+    fn drop(self) {
+        let Pieces {
+            name: _,
+            size: _,
+            offset: _,
+            piece: _,
+            start: _,
+            end: _,
+        } = self;
+    }
 }
 
 impl Model for Pieces {

@@ -116,13 +116,24 @@ fn item_of_line(
 
 /// Reads the text of a certificate line by line. Of the text it keeps one piece and one line.
 /// Contracts see where it is in the text, what may stand next, and the refusal that it keeps.
-#[derive(Drop)]
 pub struct CertReader {
     alloc: Global,
     pieces: Pieces,
     line: Vec<u8>,
     next: NextLine,
     kept: Option<CertRefusal>,
+}
+
+impl Drop for CertReader {
+    fn drop(self) {
+        let CertReader {
+            alloc: _,
+            pieces: _,
+            line: _,
+            next: _,
+            kept: _,
+        } = self;
+    }
 }
 
 impl Model for CertReader {

@@ -11,10 +11,16 @@ use time_windows::Access;
 
 /// The least cost of the ways on from each stop of one flight, in room that is made once. Contracts
 /// see it as its cells.
-#[derive(Debug, Drop)]
+#[derive(Debug)]
 pub struct Table {
     cells: Vec<Cost>,
     row: Vec<Cost>,
+}
+
+impl Drop for Table {
+    fn drop(self) {
+        let Table { cells: _, row: _ } = self;
+    }
 }
 
 impl Model for Table {

@@ -13,11 +13,20 @@ use tree_search::Found;
 pub type FoundList = Sequence<Found>;
 
 /// How a run ended, and the records of its searches.
-#[derive(Debug, Drop)]
+#[derive(Debug)]
 pub struct Ran {
     pub status: Status,
     /// The record whose plan, bound and nodes were printed, where a day was planned; else none.
     pub records: FoundList,
+}
+
+impl Drop for Ran {
+    fn drop(self) {
+        let Ran {
+            status: _,
+            records: _,
+        } = self;
+    }
 }
 
 impl Ran {

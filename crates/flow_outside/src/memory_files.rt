@@ -14,13 +14,25 @@ use std::marker::Model;
 
 /// Files in memory, which tell what they hold. A call that was named by `fail` fails and raises its
 /// count. In every other call the counts stay, and only a name that isn't there fails to be read.
-#[derive(Debug, Drop)]
+#[derive(Debug)]
 pub struct MemoryFiles {
     alloc: Global,
     files: BTreeMap<String, Vec<u8>>,
     schedule: Schedule,
     faults: u64,
     store_faults: u64,
+}
+
+impl Drop for MemoryFiles {
+    fn drop(self) {
+        let MemoryFiles {
+            alloc: _,
+            files: _,
+            schedule: _,
+            faults: _,
+            store_faults: _,
+        } = self;
+    }
 }
 
 impl Model for MemoryFiles {

@@ -11,13 +11,25 @@ use std::marker::Model;
 /// An output in memory, which tells what was written. It has room for so many bytes in all, and
 /// takes at most `step` of them in a call. A call that was named by `fail` fails, and so does one
 /// that has bytes to write and finds the room full; the count rises in these calls alone.
-#[derive(Debug, Drop)]
+#[derive(Debug)]
 pub struct MemorySink {
     written: Vec<u8>,
     room: usize,
     step: usize,
     schedule: Schedule,
     faults: u64,
+}
+
+impl Drop for MemorySink {
+    fn drop(self) {
+        let MemorySink {
+            written: _,
+            room: _,
+            step: _,
+            schedule: _,
+            faults: _,
+        } = self;
+    }
 }
 
 impl Model for MemorySink {

@@ -31,7 +31,7 @@ pub enum Cost {
 }
 
 /// A flight. Its times are periods of the day.
-#[derive(Debug, Drop)]
+#[derive(Debug)]
 pub struct Flight {
     pub name: Name,
     /// The airport that it departs from, as a position in the list of places.
@@ -51,6 +51,23 @@ pub struct Flight {
     pub cost: Cost,
 }
 
+impl Drop for Flight {
+    fn drop(self) {
+        let Flight {
+            name: _,
+            from: _,
+            to: _,
+            sd: _,
+            sa: _,
+            mg: _,
+            md: _,
+            nodes: _,
+            legs: _,
+            cost: _,
+        } = self;
+    }
+}
+
 /// The flights, which connections name by their position.
 pub type Flights = Sequence<Flight>;
 
@@ -58,10 +75,16 @@ pub type Flights = Sequence<Flight>;
 pub type Values = Sequence<i64>;
 
 /// A named table of costs or credits: the value at a position is that of as many periods of delay.
-#[derive(Debug, Drop)]
+#[derive(Debug)]
 pub struct CostTable {
     pub name: Name,
     pub values: Values,
+}
+
+impl Drop for CostTable {
+    fn drop(self) {
+        let CostTable { name: _, values: _ } = self;
+    }
 }
 
 /// The tables, which flights name by their position.

@@ -16,7 +16,7 @@ pub enum PlaceKind {
 }
 
 /// An airport or a sector.
-#[derive(Debug, Drop)]
+#[derive(Debug)]
 pub struct Place {
     pub name: Name,
     pub kind: PlaceKind,
@@ -24,6 +24,17 @@ pub struct Place {
     pub first: Caps,
     /// By period: how many flights may arrive at an airport. A sector has none.
     pub second: Caps,
+}
+
+impl Drop for Place {
+    fn drop(self) {
+        let Place {
+            name: _,
+            kind: _,
+            first: _,
+            second: _,
+        } = self;
+    }
 }
 
 /// The places, which flights and capacities name by their position.

@@ -10,10 +10,16 @@ use crate::place::{CapKind, Place};
 use crate::valid::is_scenario;
 
 /// A scenario that keeps every rule of a valid one, wherever it is lent.
-#[derive(Debug, Drop)]
+#[derive(Debug)]
 pub struct Scenario {
     parts: Parts,
     pub ghost valid: { IsScenario parts },
+}
+
+impl Drop for Scenario {
+    fn drop(self) {
+        let Scenario { parts: _ } = self;
+    }
 }
 
 impl Scenario {

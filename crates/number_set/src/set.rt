@@ -7,12 +7,22 @@ use std::marker::Model;
 
 /// A set of numbers below a bound. Contracts see it as the bound and its words,
 /// and ask whether it has a number.
-#[derive(Debug, Drop)]
+#[derive(Debug)]
 pub struct NumberSet {
     bound: u32,
     words: Vec<u64>,
     // A bit for each word that isn't 0.
     summary: Vec<u64>,
+}
+
+impl Drop for NumberSet {
+    fn drop(self) {
+        let NumberSet {
+            bound: _,
+            words: _,
+            summary: _,
+        } = self;
+    }
 }
 
 impl Model for NumberSet {

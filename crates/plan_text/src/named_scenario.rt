@@ -12,11 +12,20 @@ use std::marker::Model;
 use text_records::NameIndex;
 
 /// A scenario with its names. Contracts see it as the scenario's parts.
-#[derive(Drop)]
 pub struct NamedScenario<'a> {
     scenario: &'a Scenario,
     flights: NameIndex,
     places: NameIndex,
+}
+
+impl<'a> Drop for NamedScenario<'a> {
+    fn drop(self) {
+        let NamedScenario {
+            scenario: _,
+            flights: _,
+            places: _,
+        } = self;
+    }
 }
 
 impl<'a> Model for NamedScenario<'a> {

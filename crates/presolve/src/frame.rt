@@ -15,10 +15,19 @@ pub struct Frame<'a> {
 }
 
 /// Room for a row, and for what lands of it.
-#[derive(Debug, Drop)]
+#[derive(Debug)]
 pub struct Room {
     pub buffer: RowBuffer,
     pub gathering: Gathering,
+}
+
+impl Drop for Room {
+    fn drop(self) {
+        let Room {
+            buffer: _,
+            gathering: _,
+        } = self;
+    }
 }
 
 impl Room {

@@ -5,11 +5,21 @@ use std::alloc::Global;
 
 /// How many flights depart from each place, arrive there, and may be inside. It takes twelve bytes
 /// a place.
-#[derive(Debug, Drop)]
+#[derive(Debug)]
 pub struct Users {
     departing: Vec<u32>,
     arriving: Vec<u32>,
     inside: Vec<u32>,
+}
+
+impl Drop for Users {
+    fn drop(self) {
+        let Users {
+            departing: _,
+            arriving: _,
+            inside: _,
+        } = self;
+    }
 }
 
 impl Users {

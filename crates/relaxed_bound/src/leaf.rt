@@ -35,7 +35,7 @@ pub struct Relaxed {
 
 /// A point of the relaxation, which keeps every row: a fraction for each variable that the box
 /// leaves free.
-#[derive(Debug, Drop)]
+#[derive(Debug)]
 pub struct Point {
     /// The variables.
     pub columns: Vars,
@@ -45,6 +45,17 @@ pub struct Point {
     pub numerators: Numerators,
     /// Their denominator, above 0.
     pub denominator: i128,
+}
+
+impl Drop for Point {
+    fn drop(self) {
+        let Point {
+            columns: _,
+            flipped: _,
+            numerators: _,
+            denominator: _,
+        } = self;
+    }
 }
 
 // How a run ended, and what it tells.

@@ -19,7 +19,6 @@ use std::marker::Model;
 
 /// Rows, in room for so many of them and so many entries. Contracts see the list of rows, both
 /// limits, and the columns that the last call of `combine` filled.
-#[derive(Drop)]
 pub struct RowArena {
     alloc: Global,
     rows: Vec<Row>,
@@ -30,6 +29,20 @@ pub struct RowArena {
     // Where a row is combined.
     wides: Vec<WideEntry>,
     filled: Vec<u32>,
+}
+
+impl Drop for RowArena {
+    fn drop(self) {
+        let RowArena {
+            alloc: _,
+            rows: _,
+            most_rows: _,
+            cells: _,
+            live: _,
+            wides: _,
+            filled: _,
+        } = self;
+    }
 }
 
 impl Model for RowArena {

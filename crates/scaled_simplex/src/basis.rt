@@ -8,11 +8,21 @@ use std::alloc::Global;
 
 /// The index that each row stands for, the row of each such index, and those of them whose rows
 /// have a negative right side.
-#[derive(Debug, Drop)]
+#[derive(Debug)]
 pub struct Basis {
     pub index_of: Vec<u32>,
     pub row_of: Vec<u32>,
     pub negative: NumberSet,
+}
+
+impl Drop for Basis {
+    fn drop(self) {
+        let Basis {
+            index_of: _,
+            row_of: _,
+            negative: _,
+        } = self;
+    }
 }
 
 impl Basis {

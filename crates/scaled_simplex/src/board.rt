@@ -5,9 +5,18 @@ use crate::lists::RowLists;
 use row_arena::RowArena;
 
 /// The rows of a tableau, the index that each stands for, and where entries may be.
-#[derive(Drop)]
 pub struct Board {
     pub arena: RowArena,
     pub basis: Basis,
     pub lists: RowLists,
+}
+
+impl Drop for Board {
+    fn drop(self) {
+        let Board {
+            arena: _,
+            basis: _,
+            lists: _,
+        } = self;
+    }
 }

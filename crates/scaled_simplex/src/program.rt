@@ -51,11 +51,21 @@ impl Constraint {
 
 /// The least cost of columns that are 0 or more and keep every constraint. Contracts see it as the
 /// costs, the constant and the constraints, and know that no number is out of its range.
-#[derive(Debug, Drop)]
+#[derive(Debug)]
 pub struct Program {
     costs: Sequence<i64>,
     constant: i64,
     constraints: Sequence<Constraint>,
+}
+
+impl Drop for Program {
+    fn drop(self) {
+        let Program {
+            costs: _,
+            constant: _,
+            constraints: _,
+        } = self;
+    }
 }
 
 impl Model for Program {

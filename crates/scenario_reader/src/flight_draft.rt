@@ -27,7 +27,6 @@ pub struct Hours {
 }
 
 /// A flight, with the legs that have been read so far.
-#[derive(Drop)]
 pub struct FlightDraft {
     /// The number of its record.
     pub at: u32,
@@ -41,6 +40,22 @@ pub struct FlightDraft {
     pub passed: Sectors,
     /// The sectors that a leg leads to, in the order of their first use.
     pub reached: Sectors,
+}
+
+impl Drop for FlightDraft {
+    fn drop(self) {
+        let FlightDraft {
+            at: _,
+            name: _,
+            from: _,
+            to: _,
+            hours: _,
+            cost: _,
+            legs: _,
+            passed: _,
+            reached: _,
+        } = self;
+    }
 }
 
 /// Whether the place is among these.

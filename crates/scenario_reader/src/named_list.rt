@@ -42,10 +42,15 @@ impl Named for CostTable {
 }
 
 /// Items of different names. Contracts see the list.
-#[derive(Drop)]
 pub struct NamedList<T: Named> {
     pub(crate) items: Vec<T>,
     pub(crate) index: NameIndex,
+}
+
+impl<T: Named> Drop for NamedList<T> {
+    fn drop(self) {
+        let NamedList { items: _, index: _ } = self;
+    }
 }
 
 impl<T: Named> Model for NamedList<T> {

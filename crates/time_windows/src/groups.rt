@@ -7,11 +7,17 @@ use std::alloc::Global;
 use std::marker::Model;
 
 /// Lists of items, one after another in one block: those that are closed, and one that still grows.
-#[derive(Debug, Drop)]
+#[derive(Debug)]
 pub struct Groups<T> {
     items: Vec<T>,
     // Where each closed list ends.
     ends: Vec<usize>,
+}
+
+impl<T: Drop> Drop for Groups<T> {
+    fn drop(self) {
+        let Groups { items: _, ends: _ } = self;
+    }
 }
 
 impl<T> Model for Groups<T> {

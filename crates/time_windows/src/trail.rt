@@ -39,13 +39,24 @@ enum Change {
 /// split of the one above it. Contracts see it as a `Path`: the present box, and those above it,
 /// the nearest first. It keeps one box and a log of its changes: beside the box, 8 bytes for each
 /// of 32 nodes a flight, and 16 for each change of a node on the way and each step down.
-#[derive(Debug, Drop)]
+#[derive(Debug)]
 pub struct Trail {
     boxes: Boxes,
     // What the box's accesses are when no step is under way.
     accesses: Vec<Access>,
     log: Vec<Change>,
     depth: usize,
+}
+
+impl Drop for Trail {
+    fn drop(self) {
+        let Trail {
+            boxes: _,
+            accesses: _,
+            log: _,
+            depth: _,
+        } = self;
+    }
 }
 
 impl Model for Trail {

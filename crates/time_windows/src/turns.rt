@@ -21,10 +21,19 @@ pub struct Turn {
 }
 
 /// The connections of all flights, by flight: 24 bytes a connection, and 16 a flight.
-#[derive(Debug, Drop)]
+#[derive(Debug)]
 pub struct Turns {
     departures: Groups<Turn>,
     arrivals: Groups<Turn>,
+}
+
+impl Drop for Turns {
+    fn drop(self) {
+        let Turns {
+            departures: _,
+            arrivals: _,
+        } = self;
+    }
 }
 
 impl Model for Turns {

@@ -26,7 +26,7 @@ pub type Counts = Sequence<u64>;
 pub type Bounds = Sequence<Bound>;
 
 /// What a search has found.
-#[derive(Debug, Drop)]
+#[derive(Debug)]
 pub struct Found {
     /// The plans, each cheaper than the one before.
     pub plans: Plans,
@@ -40,4 +40,17 @@ pub struct Found {
     pub pool: Pool,
     /// The least of the bounds: no plan costs less.
     pub bound: Bound,
+}
+
+impl Drop for Found {
+    fn drop(self) {
+        let Found {
+            plans: _,
+            tree: _,
+            counts: _,
+            bounds: _,
+            pool: _,
+            bound: _,
+        } = self;
+    }
 }

@@ -7,12 +7,22 @@ use std::marker::Model;
 
 /// A number for each position: 20 bytes each. Contracts see it as the list of numbers. What was set
 /// under an earlier stamp counts as 0.
-#[derive(Debug, Drop)]
+#[derive(Debug)]
 pub struct Slots {
     values: Vec<i128>,
     // The stamp under which each was set.
     stamps: Vec<u32>,
     stamp: u32,
+}
+
+impl Drop for Slots {
+    fn drop(self) {
+        let Slots {
+            values: _,
+            stamps: _,
+            stamp: _,
+        } = self;
+    }
 }
 
 impl Model for Slots {
