@@ -232,8 +232,8 @@ fn put_stop(
     put_field(out, place_name(s, place_of_stop(s, flight, stop)))
 }
 
-// The name of the flight at this position, empty where there is none.
-fn flight_name(s: &Scenario, position: u32) -> &[u8]
+/// The name of the flight at this position, empty where there is none.
+pub fn flight_name(s: &Scenario, position: u32) -> &[u8]
     ensures { result.now ≡ flight_name (slice_get (parts_of s.now).flights position) }
 {
     match s.flights().get(position as usize) {
@@ -242,8 +242,8 @@ fn flight_name(s: &Scenario, position: u32) -> &[u8]
     }
 }
 
-// The name of the place at this position, empty where there is none.
-fn place_name(s: &Scenario, position: u32) -> &[u8]
+/// The name of the place at this position, empty where there is none.
+pub fn place_name(s: &Scenario, position: u32) -> &[u8]
     ensures { result.now ≡ place_name (slice_get (parts_of s.now).places position) }
 {
     match s.places().get(position as usize) {

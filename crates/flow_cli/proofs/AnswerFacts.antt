@@ -16,6 +16,7 @@ use Rattle.tree_search.specs.Records.{last_cost}
 use Rattle.flow_cli.specs.Answer.{IsAnswer}
 use Rattle.flow_cli.specs.Certifying.{IsOfDay}
 use Rattle.flow_cli.specs.Checking.{IsOfCert}
+use Rattle.flow_cli.specs.declared.words.View.{View}
 use Rattle.flow_cli.specs.Judging.{IsOfPlanOf, IsVerdict}
 use Rattle.flow_cli.specs.Outside.{Change, Printed}
 use Rattle.flow_cli.specs.Planning.{IsPlannedDay}
@@ -53,12 +54,13 @@ module _ (files : Change FilesSeen) (name : List ℕ) (answer : Printed)
   of_plan parts (inr (inl is)) = let e : BadPlan ≡ WriteFault = sym is.ends ∙ fault in cc
   of_plan parts (inr (inr is)) = of_unread is
 
-  of_cert : (parts : Parts) (digest : List ℕ) → IsOfCert files parts digest name answer → ⊥
-  of_cert parts digest (inl is) = let e : Done ≡ WriteFault = sym is.ends ∙ fault in cc
-  of_cert parts digest (inr (inl is)) =
+  of_cert : (parts : Parts) (digest : List ℕ) (view : View)
+      → IsOfCert files parts digest name view answer → ⊥
+  of_cert parts digest view (inl is) = let e : Done ≡ WriteFault = sym is.ends ∙ fault in cc
+  of_cert parts digest view (inr (inl is)) =
       let e : BadCertificate ≡ WriteFault = sym is.ends ∙ fault in cc
-  of_cert parts digest (inr (inr (inl is))) = of_many most_cert_bytes is
-  of_cert parts digest (inr (inr (inr is))) = of_failed is
+  of_cert parts digest view (inr (inr (inl is))) = of_many most_cert_bytes is
+  of_cert parts digest view (inr (inr (inr is))) = of_failed is
 
   of_planned : (parts : Parts) (budget : Budget) → IsPlannedDay parts budget answer → ⊥
   of_planned parts budget is =
@@ -89,9 +91,9 @@ write_fault files (Some (Planned name budget (Some cert))) answer (inl is) fault
     of_stored files is.parts (sha256 is.day.bytes) cert budget answer fault is.of_day
 write_fault files (Some (Planned name budget (Some cert))) answer (inr is) fault =
     absurd (of_no_day files name answer fault is.without)
-write_fault files (Some (Checked name cert)) answer (inl is) fault =
-    absurd (of_cert files cert answer fault is.parts (sha256 is.day.bytes) is.of_cert)
-write_fault files (Some (Checked name cert)) answer (inr is) fault =
+write_fault files (Some (Checked name cert view)) answer (inl is) fault =
+    absurd (of_cert files cert answer fault is.parts (sha256 is.day.bytes) view is.of_cert)
+write_fault files (Some (Checked name cert view)) answer (inr is) fault =
     absurd (of_no_day files name answer fault is)
 write_fault files (Some (Judged name plan)) answer (inl is) fault =
     absurd (of_plan files plan answer fault is.parts is.judged)

@@ -20,8 +20,8 @@ use Rattle.flow_cli.specs.declared.answer.EarlyEnd.{EarlyEnd}
 use Rattle.flow_cli.specs.declared.answer.EarlyEnd.TheVariants.{Answered, OutOfMemory}
 use Rattle.flow_cli.specs.declared.status.Status.TheVariants.{Done}
 use Rattle.flow_cli.specs.Answers.{IfAnswered}
-use Rattle.delay_report.specs.Texts.{claim_text}
-use Rattle.flow_cli.specs.Checking.{IsOfCert, IsOfCheck, TellsClaim, TellsFault}
+use Rattle.flow_cli.specs.declared.words.View.{View}
+use Rattle.flow_cli.specs.Checking.{IsOfCert, IsOfCheck, IsShown, TellsClaim, TellsFault, claimed_by}
 use Rattle.flow_cli.specs.Outside.{Printed, change, printed_by}
 use Rattle.flow_cli.specs.Reading.{IsSignedDay, IsTooMany}
 use Rattle.flow_cli.proofs.JudgingFacts.{failed_since}
@@ -49,55 +49,52 @@ module _ (parts : Parts) (valid : IsScenario parts) (claim : CertClaim)
       by None is = is
       by (Some plan) is = is.1
 
-  pub tells_claim : (held : Option Held) (digest cert : List ℕ) (answer : Printed)
+  pub tells_claim : (held : Option Held) (digest cert : List ℕ) (view : View) (answer : Printed)
       → IsChecked parts (root_box parts) digest held cert (Ok claim)
-      → answer
-      ≡ record {
-        text = claim_text claim.cost claim.bound claim.nodes;
-        status = Done;
-        records = [];
-      }
-      → TellsClaim held parts digest cert answer
-  tells_claim held digest cert answer checked told = record {
+      → IsShown parts view (claimed_by claim) answer.text → answer.status ≡ Done
+      → answer.records ≡ [] → TellsClaim held parts digest cert view answer
+  tells_claim held digest cert view answer checked shown ends none = record {
     claim = claim;
     checked = checked;
     below = claim_below;
     feasible = claim_feasible;
     cost = claim_cost;
-    ends = ap (λ (a : Printed). a.status) told;
-    text = ap (λ (a : Printed). a.text) told;
-    no_record = ap (λ (a : Printed). a.records) told;
+    ends = ends;
+    text = shown;
+    no_record = none;
   }
 
 -- What holds of the files of a moment holds of those of an earlier one, from which on they were
 -- kept.
 module _ (before mid now : FilesSeen) (kept : AreKept before mid) (parts : Parts)
-    (name digest cert : List ℕ) (day : IsSignedDay before.held name parts digest) where
-  since : (answer : Printed) → IsOfCert (change mid now) parts digest cert answer
-      → IsOfCert (change before now) parts digest cert answer
-  since answer (inl told) =
-      inl (subst (λ (held : Option Held). TellsClaim held parts digest cert answer) kept.held told)
-  since answer (inr (inl fault)) =
-      inr (inl (subst (λ (held : Option Held). TellsFault held parts digest cert answer) kept.held
-      fault))
-  since answer (inr (inr (inl many))) =
-      inr (inr (inl (subst (λ (held : Option Held). IsTooMany most_cert_bytes held cert answer)
-      kept.held many)))
-  since answer (inr (inr (inr fault))) =
-      inr (inr (inr (failed_since before mid now kept parts cert answer fault)))
+    (name digest cert : List ℕ) (view : View) (day : IsSignedDay before.held name parts digest)
+  where
+    since : (answer : Printed) → IsOfCert (change mid now) parts digest cert view answer
+        → IsOfCert (change before now) parts digest cert view answer
+    since answer (inl told) =
+        inl (subst (λ (held : Option Held). TellsClaim held parts digest cert view answer) kept.held
+        told)
+    since answer (inr (inl fault)) =
+        inr (inl (subst (λ (held : Option Held). TellsFault held parts digest cert answer) kept.held
+        fault))
+    since answer (inr (inr (inl many))) =
+        inr (inr (inl (subst (λ (held : Option Held). IsTooMany most_cert_bytes held cert answer)
+        kept.held many)))
+    since answer (inr (inr (inr fault))) =
+        inr (inr (inr (failed_since before mid now kept parts cert answer fault)))
 
-  told : (answer : Printed) → IsOfCert (change mid now) parts digest cert answer
-      → IsOfCheck (change before now) name cert answer
-  told answer is = inl (record {
-    parts = parts;
-    day = day.day;
-    of_cert = subst (λ d. IsOfCert (change before now) parts d cert answer) day.signed
-        (since answer is);
-  })
+    told : (answer : Printed) → IsOfCert (change mid now) parts digest cert view answer
+        → IsOfCheck (change before now) name cert view answer
+    told answer is = inl (record {
+      parts = parts;
+      day = day.day;
+      of_cert = subst (λ d. IsOfCert (change before now) parts d cert view answer) day.signed
+          (since answer is);
+    })
 
-  pub answered : (result : Result Answer EarlyEnd)
-      → IfAnswered result (IsOfCert (change mid now) parts digest cert)
-      → IfAnswered result (IsOfCheck (change before now) name cert)
-  answered (Ok answer) is = told (printed_by answer) is
-  answered (Err (Answered answer)) is = told (printed_by answer) is
-  answered (Err OutOfMemory) is = tt
+    pub answered : (result : Result Answer EarlyEnd)
+        → IfAnswered result (IsOfCert (change mid now) parts digest cert view)
+        → IfAnswered result (IsOfCheck (change before now) name cert view)
+    answered (Ok answer) is = told (printed_by answer) is
+    answered (Err (Answered answer)) is = told (printed_by answer) is
+    answered (Err OutOfMemory) is = tt

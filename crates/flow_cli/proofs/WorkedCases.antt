@@ -7,6 +7,7 @@ use Rattle.flow_types.specs.Feasible.{IsFeasible, KeepsTurn}
 use Rattle.worked_days.specs.Days.{plan_with, trip_at, two_flights}
 use Rattle.worked_days.proofs.WorkedDay.{beside_is, feasible_is, there_is}
 use Rattle.tree_search.specs.declared.found.Budget.{Budget}
+use Rattle.flow_cli.specs.declared.words.View.TheVariants.{Claim, Delays}
 use Rattle.flow_cli.specs.Words.{Checked, Judged, Planned, asked}
 
 abbrev pub on_time : List (List Stop)
@@ -96,8 +97,12 @@ two_certificates :
 two_certificates = refl
 
 a_certificate_to_check : asked (codes "check" ∷ day ∷ codes "day.cert" ∷ [])
-    ≡ Some (Checked day (codes "day.cert"))
+    ≡ Some (Checked day (codes "day.cert") Claim)
 a_certificate_to_check = refl
+
+a_certificate_to_explain : asked (codes "explain" ∷ day ∷ codes "day.cert" ∷ [])
+    ≡ Some (Checked day (codes "day.cert") Delays)
+a_certificate_to_explain = refl
 
 no_certificate_to_check : asked (codes "check" ∷ day ∷ []) ≡ None
 no_certificate_to_check = refl

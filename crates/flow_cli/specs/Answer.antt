@@ -25,7 +25,7 @@ IsAnswer files None answer = IsUsage answer
 IsAnswer files (Some (Planned name budget None)) answer = IsOfPlan files name budget answer
 IsAnswer files (Some (Planned name budget (Some cert))) answer =
     IsOfCertified files name cert budget answer
-IsAnswer files (Some (Checked name cert)) answer = IsOfCheck files name cert answer
+IsAnswer files (Some (Checked name cert view)) answer = IsOfCheck files name cert view answer
 IsAnswer files (Some (Judged name plan)) answer = IsOfJudge files name plan answer
 
 -- Files are as before where no certificate is stored.

@@ -12,6 +12,8 @@ use Rattle.flow_cli.specs.declared.words.Limit.{Limit}
 use Rattle.flow_cli.specs.declared.words.Limit.TheVariants.{Cells, Nodes, Pivots, Rounds}
 use Rattle.flow_cli.specs.declared.words.Options.{Options}
 use Rattle.flow_cli.specs.declared.words.Range.{Range}
+use Rattle.flow_cli.specs.declared.words.View.{View}
+use Rattle.flow_cli.specs.declared.words.View.TheVariants.{Claim, Delays}
 
 -- a name isn't empty and doesn't begin with `-`
 abbrev pub is_word_for_name : List ℕ → Bool
@@ -114,10 +116,11 @@ budget_of given = record {
 }
 
 -- what is asked for: that the day of a name is planned, what that may spend, and under which name a
--- certificate is stored, if under one; that a certificate of it is checked, or a plan of it judged
+-- certificate is stored, if under one; that a certificate of it is checked, and how its claim is
+-- shown; or that a plan of it is judged
 pub data Asked : Type 0 where
   Planned : (name : List ℕ) (budget : Budget) (cert : Option (List ℕ)) → Asked
-  Checked : (name cert : List ℕ) → Asked
+  Checked : (name cert : List ℕ) (view : View) → Asked
   Judged : (name plan : List ℕ) → Asked
 
 abbrev pub planned_by : List ℕ → Wanted → Asked
@@ -139,9 +142,9 @@ two_names (first ∷ second ∷ []) =
     if is_word_for_name first && is_word_for_name second then Some (first, second) else None
 two_names words = None
 
--- what the words behind `check` and `judge` ask for
-abbrev pub asked_check : List (List ℕ) → Option Asked
-asked_check words = option_map (λ names. Checked names.0 names.1) (two_names words)
+-- what the words behind `check`, `explain` and `judge` ask for
+abbrev pub asked_check : View → List (List ℕ) → Option Asked
+asked_check view words = option_map (λ names. Checked names.0 names.1 view) (two_names words)
 
 abbrev pub asked_verdict : List (List ℕ) → Option Asked
 asked_verdict words = option_map (λ names. Judged names.0 names.1) (two_names words)
@@ -151,7 +154,8 @@ abbrev pub asked : List (List ℕ) → Option Asked
 asked [] = None
 asked (command ∷ words) =
     if bytes_eq command (codes "plan") then asked_plan nothing_wanted words
-    else if bytes_eq command (codes "check") then asked_check words
+    else if bytes_eq command (codes "check") then asked_check Claim words
+    else if bytes_eq command (codes "explain") then asked_check Delays words
     else if bytes_eq command (codes "judge") then asked_verdict words
     else None
 
@@ -159,7 +163,7 @@ asked (command ∷ words) =
 abbrev pub cert_in : Option Asked → Option (List ℕ)
 cert_in None = None
 cert_in (Some (Planned name budget cert)) = cert
-cert_in (Some (Checked name cert)) = None
+cert_in (Some (Checked name cert view)) = None
 cert_in (Some (Judged name plan)) = None
 
 -- what options and a command ask for
@@ -168,7 +172,7 @@ wanted_by options = record { cert = option_copied options.cert; limits = options
 
 abbrev pub asked_by : Command → Asked
 asked_by (command.Plan name budget cert) = Planned name.now budget (option_copied cert)
-asked_by (command.Check name cert) = Checked name.now cert.now
+asked_by (command.Check name cert view) = Checked name.now cert.now view
 asked_by (command.Judge name plan) = Judged name.now plan.now
 
 abbrev pub names_told : Bor (List ℕ) × Bor (List ℕ) → List ℕ × List ℕ
@@ -188,7 +192,7 @@ IsAllowed given = IfSome given.nodes IsNodeCount
 
 abbrev pub MaySearch : Command → Type 0
 MaySearch (command.Plan name budget cert) = IsNodeCount budget.nodes
-MaySearch (command.Check name cert) = Unit {0}
+MaySearch (command.Check name cert view) = Unit {0}
 MaySearch (command.Judge name plan) = Unit {0}
 
 -- the commands, and the words that each one takes

@@ -30,11 +30,11 @@ trial N
 ";
 
 /// Runs the program: the words are `plan` and the name of a day, with options that say how much its
-/// search may spend and under which name a certificate is stored; or `check`, the name of a day and
-/// that of a certificate; or `judge`, the name of a day and that of a plan. The texts are read from
-/// the files, at most 64 MiB of each, and 1 GiB of a certificate, the day's first; the day is
-/// planned, its certificate is checked or its plan judged, and the answer is written. A certificate
-/// is stored before.
+/// search may spend and under which name a certificate is stored; or `check` or `explain`, the name
+/// of a day and that of a certificate; or `judge`, the name of a day and that of a plan. The texts
+/// are read from the files, at most 64 MiB of each, and 1 GiB of a certificate, the day's first; the
+/// day is planned, its certificate is checked or its plan judged, and the answer is written. A
+/// certificate is stored before.
 ///
 /// The status says what the answer is. `Done`, `Infeasible` and `OpenGap` come for a day that is
 /// planned, with the record whose numbers were printed: `OpenGap` only where its nodes and two more
@@ -121,7 +121,7 @@ fn work<F: Files>(alloc: Global, words: &[String], files: &mut F) -> Result<Answ
                 cert: Some(cert),
             },
         ) => certify_named(alloc, files, name, budget, cert),
-        Some(Command::Check { name, cert }) => check_named(alloc, files, name, cert),
+        Some(Command::Check { name, cert, view }) => check_named(alloc, files, name, cert, view),
         Some(Command::Judge { name, plan }) => judge_named(alloc, files, name, plan),
         None => Ok(Answer::fixed(alloc, USAGE, Status::Usage)),
     }

@@ -16,16 +16,26 @@ pub enum Command<'a> {
         budget: Budget,
         cert: Option<&'a str>,
     },
-    /// To check the certificate of the second name by the day of the first.
+    /// To check the certificate of the second name by the day of the first, and to show its claim.
     Check {
         name: &'a str,
         cert: &'a str,
+        view: View,
     },
     /// To judge the plan of the second name by the day of the first.
     Judge {
         name: &'a str,
         plan: &'a str,
     },
+}
+
+/// How a claim is shown.
+#[derive(Clone, Copy)]
+pub enum View {
+    /// By its four lines.
+    Claim,
+    /// With the delays of its plan, and the capacities that this uses up.
+    Delays,
 }
 
 /// What an option limits.
@@ -75,10 +85,10 @@ const NOTHING_GIVEN: Given = Given {
 // How many digits the number of an option may have.
 const MOST_DIGITS: usize = 8;
 
-/// The command in the words, which are `plan`, a name and any options of it, or `check` or `judge`
-/// and two names. A name isn't empty and doesn't begin with `-`. An option is one of two words, the
-/// second of which is a certificate's name or a number; each stands once at most, before the name
-/// or behind it.
+/// The command in the words, which are `plan`, a name and any options of it, or `check`, `explain`
+/// or `judge` and two names. A name isn't empty and doesn't begin with `-`. An option is one of two
+/// words, the second of which is a certificate's name or a number; each stands once at most, before
+/// the name or behind it.
 pub fn command_of(words: &[String]) -> Option<Command<'_>>
     ensures asked { option_map asked_by result ≡ asked (map string_bytes words.now) }
     ensures may { IfSome result MaySearch }
@@ -88,7 +98,10 @@ pub fn command_of(words: &[String]) -> Option<Command<'_>>
         return asked_plan(nothing_wanted(), words);
     }
     if command.as_str() == "check" {
-        return asked_check(words);
+        return asked_check(View::Claim, words);
+    }
+    if command.as_str() == "explain" {
+        return asked_check(View::Delays, words);
     }
     if command.as_str() == "judge" {
         return asked_verdict(words);
@@ -128,13 +141,13 @@ fn asked_plan<'a>(options: Options<'a>, words: &'a [String]) -> Option<Command<'
     asked_plan(with_option(options, name, value.as_str())?, words)
 }
 
-// The command in the words behind `check`.
-fn asked_check(words: &[String]) -> Option<Command<'_>>
-    ensures asked { option_map asked_by result ≡ asked_check (map string_bytes words.now) }
+// The command in the words behind `check` or `explain`.
+fn asked_check(view: View, words: &[String]) -> Option<Command<'_>>
+    ensures asked { option_map asked_by result ≡ asked_check view (map string_bytes words.now) }
     ensures may { IfSome result MaySearch }
 {
     let (name, cert) = two_names(words)?;
-    Some(Command::Check { name, cert })
+    Some(Command::Check { name, cert, view })
 }
 
 // The command in the words behind `judge`.

@@ -15,7 +15,8 @@
 //! `cost`); the loads then count its trips (`loads`). Otherwise it answers the first rule that the
 //! plan breaks, with its values, and the loads hold no trips (`broken`, `loads`). Trips may be
 //! added one by one too (`Loads::add`), and taken out one by one (`Loads::remove`) or together
-//! (`Loads::clear`). `trip_cost` is the cost of one trip, and `cost` the sum of those of a plan's.
+//! (`Loads::clear`). `trip_cost` is the cost of one trip, and `cost` the sum of those of a plan's;
+//! `departure_of` and `arrival_of` say when a trip begins and ends.
 //! `plans_that_break_nothing_are_feasible` ties the two definitions together.
 //!
 //! Time: `judge` looks at each stop with the legs of its flight, at each period that a flight
@@ -39,3 +40,4 @@ pub use laws::{
     first_broken_rules_are_first, plans_that_break_nothing_are_feasible, trips_are_counted_once,
 };
 pub use loads::Loads;
+pub use trip_counts::{arrival_of, departure_of};

@@ -7,7 +7,7 @@ ghost use Rattle.plan_rules.specs.Grid.{Adds, Takes};
 use crate::grid::Grid;
 use flow_types::{Flight, Stop, place_at};
 
-/// When the trip departs.
+/// When the trip departs: the period of its first stop, nothing where it has none.
 pub fn departure_of(stops: &[Stop]) -> Option<u16>
     ensures { result ≡ departure_of stops.now }
 {
@@ -17,7 +17,7 @@ pub fn departure_of(stops: &[Stop]) -> Option<u16>
     }
 }
 
-/// When the trip arrives.
+/// When the trip arrives: the period of its last stop, nothing where it has none.
 pub fn arrival_of(stops: &[Stop]) -> Option<u16>
     ensures { result ≡ arrival_of stops.now }
 {

@@ -7,5 +7,5 @@ returns-clause-answered g c =
     let seen = g.F.Files.seen in
     answered (seen c.args.files.now) (seen c.signed_day_of.new.files)
     (seen c.check_of.new.files) c.signed_day_of.ensures.kept (parts_of c.in_ok-day.day.s)
-    c.args.name.now c.in_ok-day.day.digest c.args.cert.now c.in_ok-day.ensures.day c.check_of.result
-    c.check_of.ensures.answered
+    c.args.name.now c.in_ok-day.day.digest c.args.cert.now c.args.view c.in_ok-day.ensures.day
+    c.check_of.result c.check_of.ensures.answered

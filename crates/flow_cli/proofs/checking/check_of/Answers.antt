@@ -8,5 +8,6 @@ pub returns-in_ok-claimed-in-Ok-clause-answered : goal.returns-in_ok-claimed-in-
 returns-in_ok-claimed-in-Ok-clause-answered g c =
     inl (tells_claim (parts_of c.args.s.now) c.args.s.now.valid c.in-Ok.claim
     c.in-Ok.ensures.holds (g.F.Files.seen c.args.files.now).held c.args.digest.now
-    c.args.name.now (printed_by c.in_ok-claimed-in-Ok.field-0) c.in-Ok.ensures.ok
-    c.in_ok-claimed-in-Ok.ensures.told)
+    c.args.name.now c.args.view (printed_by c.in_ok-claimed-in-Ok.field-0) c.in-Ok.ensures.ok
+    c.in_ok-claimed-in-Ok.ensures.shown c.in_ok-claimed-in-Ok.ensures.ends
+    c.in_ok-claimed-in-Ok.ensures.no_record)

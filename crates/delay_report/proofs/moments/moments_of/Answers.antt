@@ -1,0 +1,28 @@
+use Rattle.std.proofs.Common.{◌≡◌, subst, arith, rules}
+use Rattle.delay_report.specs.Moments.{AreMoments, IsMoment}
+use Rattle.delay_report.proofs.MomentFacts.{AreFirst, all_moments, one_more}
+use Rattle.delay_report.proofs.moments.moments_of.Goals as goal
+
+pub loop-period-preserved : goal.loop-period-preserved
+loop-period-preserved c =
+    let day = c.day-day.result in
+    let last : IsMoment day c.loop-period.period c.moment_text.result = record {
+      at = c.later.result;
+      moment = record {
+        beginning = c.beginning_of-beginning.result;
+        begins = c.beginning_of-beginning.ensures;
+        later = c.later.ensures;
+      };
+      spelled = c.moment_text.ensures;
+    } in
+    one_more day c.loop-period.moments.items c.moment_text.result c.loop-period.period
+    c.push.new.self.items (search rules) c.loop-period.invariant last
+
+pub returns : goal.returns
+returns c =
+    let day = c.day-day.result in
+    let period = c.loop-period.period in
+    let all : period ≡ day.periods = omega arith in
+    let texts = c.loop-period.moments.items in
+    let first = subst (λ count. AreFirst day count texts) all c.loop-period.invariant in
+    subst (λ day. AreMoments day texts) c.day-day.ensures (all_moments day texts first)
