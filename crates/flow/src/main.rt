@@ -1,5 +1,5 @@
-//! The program: it plans a day of air traffic and says how good the plan is, checks certificates of
-//! such claims, and judges plans.
+//! The program: it plans a day of air traffic and says how good the plan is, checks and explains
+//! certificates of such claims, judges plans, and makes days to try things on.
 //!
 //! `main` hands what the environment answers about its words, the system's files and the standard
 //! output to `flow_cli::exit_code`, whose contract says what is written and with which number the
@@ -7,7 +7,10 @@
 //!
 //!     flow plan day.csv --cert day.cert
 //!     flow check day.csv day.cert
+//!     flow explain day.csv day.cert
 //!     flow judge day.csv plan.csv
+//!     flow make 60
+//!     flow trial 60
 //!
 //! That the environment gives the words that were typed, and that the system's files and output
 //! read and write what they are asked to, is trusted. That `main` hands them on is one expression,

@@ -16,13 +16,14 @@ use Rattle.tree_search.specs.Records.{last_cost}
 use Rattle.flow_cli.specs.Answer.{IsAnswer}
 use Rattle.flow_cli.specs.Certifying.{IsOfDay}
 use Rattle.flow_cli.specs.Checking.{IsOfCert}
-use Rattle.flow_cli.specs.declared.words.View.{View}
+use Rattle.command_words.specs.declared.command.View.{View}
 use Rattle.flow_cli.specs.Judging.{IsOfPlanOf, IsVerdict}
 use Rattle.flow_cli.specs.Outside.{Change, Printed}
 use Rattle.flow_cli.specs.Planning.{IsPlannedDay}
 use Rattle.flow_cli.specs.Reading.{IsFailed, IsTooMany, IsUnread, IsWithoutDay}
 use Rattle.flow_cli.specs.Status.{status_by}
-use Rattle.flow_cli.specs.Words.{Asked, Checked, Judged, Planned}
+use Rattle.command_words.specs.Words.{Asked, Checked, Judged, Made, Planned, Tried}
+use Rattle.flow_cli.specs.Words.{budget_of}
 
 of_day : (o : Outcome) → status_by o ≡ WriteFault → ⊥
 of_day outcome.Optimal is = let e : Done ≡ WriteFault = is in cc
@@ -83,13 +84,13 @@ pub write_fault : (files : Change FilesSeen) (what : Option Asked) (answer : Pri
     → Rose files.before.store_faults files.now.store_faults
 write_fault files None answer is fault =
     absurd (let e : Usage ≡ WriteFault = sym is.ends ∙ fault in cc)
-write_fault files (Some (Planned name budget None)) answer (inl is) fault =
-    absurd (of_planned files name answer fault is.parts budget is.planned)
-write_fault files (Some (Planned name budget None)) answer (inr is) fault =
+write_fault files (Some (Planned name limits None)) answer (inl is) fault =
+    absurd (of_planned files name answer fault is.parts (budget_of limits) is.planned)
+write_fault files (Some (Planned name limits None)) answer (inr is) fault =
     absurd (of_no_day files name answer fault is)
-write_fault files (Some (Planned name budget (Some cert))) answer (inl is) fault =
-    of_stored files is.parts (sha256 is.day.bytes) cert budget answer fault is.of_day
-write_fault files (Some (Planned name budget (Some cert))) answer (inr is) fault =
+write_fault files (Some (Planned name limits (Some cert))) answer (inl is) fault =
+    of_stored files is.parts (sha256 is.day.bytes) cert (budget_of limits) answer fault is.of_day
+write_fault files (Some (Planned name limits (Some cert))) answer (inr is) fault =
     absurd (of_no_day files name answer fault is.without)
 write_fault files (Some (Checked name cert view)) answer (inl is) fault =
     absurd (of_cert files cert answer fault is.parts (sha256 is.day.bytes) view is.of_cert)
@@ -99,3 +100,7 @@ write_fault files (Some (Judged name plan)) answer (inl is) fault =
     absurd (of_plan files plan answer fault is.parts is.judged)
 write_fault files (Some (Judged name plan)) answer (inr is) fault =
     absurd (of_no_day files name answer fault is)
+write_fault files (Some (Made count)) answer is fault =
+    absurd (let e : Done ≡ WriteFault = sym is.ends ∙ fault in cc)
+write_fault files (Some (Tried count)) answer is fault =
+    absurd (of_day (outcome_of (last_cost is.parts is.found) is.found.bound) (sym is.told.ends ∙ fault))

@@ -32,7 +32,7 @@ use Rattle.flow_cli.specs.declared.status.Status.TheVariants.{TooLong}
 use Rattle.flow_cli.specs.Faults.{too_long_text}
 use Rattle.flow_cli.specs.Outside.{Printed, change, printed_by}
 use Rattle.flow_cli.specs.Reading.{IsSignedDay, IsWithoutDay}
-use Rattle.flow_cli.specs.Words.{IsNodeCount}
+use Rattle.command_words.specs.Words.{IsNodeCount}
 
 -- another name has what it had
 other_told : (held : Option Held) (name bytes other : List ℕ) → other ≢ name

@@ -20,7 +20,7 @@ use Rattle.flow_cli.specs.declared.answer.EarlyEnd.{EarlyEnd}
 use Rattle.flow_cli.specs.declared.answer.EarlyEnd.TheVariants.{Answered, OutOfMemory}
 use Rattle.flow_cli.specs.declared.status.Status.TheVariants.{Done}
 use Rattle.flow_cli.specs.Answers.{IfAnswered}
-use Rattle.flow_cli.specs.declared.words.View.{View}
+use Rattle.command_words.specs.declared.command.View.{View}
 use Rattle.flow_cli.specs.Checking.{IsOfCert, IsOfCheck, IsShown, TellsClaim, TellsFault, claimed_by}
 use Rattle.flow_cli.specs.Outside.{Printed, change, printed_by}
 use Rattle.flow_cli.specs.Reading.{IsSignedDay, IsTooMany}

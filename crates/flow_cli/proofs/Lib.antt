@@ -11,4 +11,3 @@ pub mod OwnFacts
 mod WorkedCases
 mod WorkedRuns
 pub mod PlanningFacts
-pub mod WordFacts

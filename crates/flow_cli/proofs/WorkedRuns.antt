@@ -25,7 +25,8 @@ use Rattle.flow_cli.specs.Faults.{fault_text, too_long_text}
 use Rattle.flow_cli.specs.Judging.{IsVerdict}
 use Rattle.flow_cli.specs.Outside.{Change, change}
 use Rattle.flow_cli.specs.Reading.{IsDayOf, IsNoDay, IsTextOf}
-use Rattle.flow_cli.specs.Words.{asked, usage_text}
+use Rattle.command_words.specs.Words.{asked}
+use Rattle.flow_cli.specs.Words.{usage_text}
 use Rattle.worked_days.specs.Days.{two_flights}
 use Rattle.flow_cli.proofs.WorkedCases.{keeps, on_time}
 

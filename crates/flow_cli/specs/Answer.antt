@@ -11,7 +11,9 @@ use Rattle.flow_cli.specs.Judging.{IsOfJudge}
 use Rattle.flow_cli.specs.Outside.{Change, Printed}
 use Rattle.flow_cli.specs.Planning.{IsOfPlan}
 use Rattle.flow_cli.specs.Reading.{IsQuiet}
-use Rattle.flow_cli.specs.Words.{Asked, Checked, Judged, Planned, asked, usage_text}
+use Rattle.command_words.specs.Words.{Asked, Checked, Judged, Made, Planned, Tried, asked}
+use Rattle.flow_cli.specs.Making.{IsOfMake, IsOfTrial}
+use Rattle.flow_cli.specs.Words.{budget_of, usage_text}
 
 -- the answer to words that make no command
 pub record IsUsage (answer : Printed) : Type 0 where
@@ -22,11 +24,14 @@ pub record IsUsage (answer : Printed) : Type 0 where
 -- the answer to what is asked for
 abbrev pub IsAnswer : Change FilesSeen → Option Asked → Printed → Type 0
 IsAnswer files None answer = IsUsage answer
-IsAnswer files (Some (Planned name budget None)) answer = IsOfPlan files name budget answer
-IsAnswer files (Some (Planned name budget (Some cert))) answer =
-    IsOfCertified files name cert budget answer
+IsAnswer files (Some (Planned name limits None)) answer =
+    IsOfPlan files name (budget_of limits) answer
+IsAnswer files (Some (Planned name limits (Some cert))) answer =
+    IsOfCertified files name cert (budget_of limits) answer
 IsAnswer files (Some (Checked name cert view)) answer = IsOfCheck files name cert view answer
 IsAnswer files (Some (Judged name plan)) answer = IsOfJudge files name plan answer
+IsAnswer files (Some (Made count)) answer = IsOfMake count answer
+IsAnswer files (Some (Tried count)) answer = IsOfTrial count answer
 
 -- Files are as before where no certificate is stored.
 abbrev pub KeepFiles : Option (List ℕ) → FilesSeen → FilesSeen → Type 0

@@ -17,8 +17,8 @@ use Rattle.delay_report.specs.Delays.{IsExplained}
 use Rattle.delay_report.specs.Refusals.{refused_text}
 use Rattle.delay_report.specs.Texts.{claim_text}
 use Rattle.flow_cli.specs.declared.status.Status.TheVariants.{BadCertificate, Done}
-use Rattle.flow_cli.specs.declared.words.View.{View}
-use Rattle.flow_cli.specs.declared.words.View.TheVariants.{Claim, Delays}
+use Rattle.command_words.specs.declared.command.View.{View}
+use Rattle.command_words.specs.declared.command.View.TheVariants.{Claim, Delays}
 use Rattle.flow_cli.specs.Outside.{Change, Printed}
 use Rattle.flow_cli.specs.Reading.{IsDayOf, IsFailed, IsTooMany, IsWithoutDay}
 

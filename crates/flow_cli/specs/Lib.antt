@@ -5,6 +5,7 @@ pub mod Checking
 pub mod Exit
 pub mod Faults
 pub mod Judging
+pub mod Making
 pub mod Outside
 pub mod Own
 pub mod Planning

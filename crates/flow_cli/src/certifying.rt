@@ -7,7 +7,7 @@ ghost use Rattle.flow_cli.specs.Certifying.{AreOthersKept, IsAfterStore, IsMade,
 ghost use Rattle.flow_cli.specs.Faults.{too_long_text};
 ghost use Rattle.flow_cli.specs.Outside.{change, printed_by};
 ghost use Rattle.flow_cli.specs.Reading.{IsQuiet};
-ghost use Rattle.flow_cli.specs.Words.{IsNodeCount};
+ghost use Rattle.command_words.specs.Words.{IsNodeCount};
 
 use crate::answer::{Answer, EarlyEnd};
 use crate::faults::too_long_line;

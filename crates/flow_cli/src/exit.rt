@@ -5,7 +5,8 @@ ghost use Rattle.std.specs.Vec.Iter.{into_iter_items};
 ghost use Rattle.flow_cli.specs.Answer.{Ends, KeepFiles};
 ghost use Rattle.flow_cli.specs.Exit.{ExitsWith, words_given};
 ghost use Rattle.flow_cli.specs.Outside.{change};
-ghost use Rattle.flow_cli.specs.Words.{asked, cert_in};
+ghost use Rattle.command_words.specs.Words.{asked};
+ghost use Rattle.flow_cli.specs.Words.{cert_in};
 
 use crate::answer::Ran;
 use crate::running::run;

@@ -15,12 +15,12 @@
 //!     }
 //!
 //! What is printed and how a run ends is said by `run`'s contract: in `specs/Answer.antt`, and for
-//! each command in `specs/Planning.antt`, `specs/Certifying.antt`, `specs/Checking.antt` and
-//! `specs/Judging.antt`; what words ask for is said in
-//! `specs/Words.antt`, and the reports and verdicts, byte by byte, in `delay_report`. Where a day
-//! was planned, `run` hands back the record of the search whose numbers it printed. From the status
-//! to the number that the process ends with, and from the words of the environment to those of
-//! `run`, it is said by `exit_code`'s, in `specs/Exit.antt`.
+//! each command in `specs/Planning.antt`, `specs/Certifying.antt`, `specs/Checking.antt`,
+//! `specs/Judging.antt` and `specs/Making.antt`; what words ask for is said in `command_words`, and
+//! the reports and verdicts, byte by byte, in `delay_report`. Where a day was planned, `run` hands
+//! back the record of the search whose numbers it printed. From the status to the number that the
+//! process ends with, and from the words of the environment to those of `run`, it is said by
+//! `exit_code`'s, in `specs/Exit.antt`.
 //!
 //! What `plan --cert` stores is the certificate of a search's record ([`certificate_of`], as
 //! `specs/Own.antt` defines it). Its numbers are within the limits of lines, and the verdict on its
@@ -38,12 +38,12 @@ mod checking;
 mod exit;
 mod faults;
 mod judging;
+mod making;
 mod own_certificate;
 mod planning;
 mod reading;
 mod running;
 mod status;
-mod words;
 
 pub use answer::{FoundList, Ran};
 pub use exit::exit_code;

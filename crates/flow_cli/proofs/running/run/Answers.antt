@@ -1,6 +1,6 @@
 use Rattle.std.proofs.Common.{inl, map, string_bytes}
 use Rattle.flow_cli.specs.Outside.{change, printed_by}
-use Rattle.flow_cli.specs.Words.{asked}
+use Rattle.command_words.specs.Words.{asked}
 use Rattle.flow_cli.proofs.AnswerFacts.{write_fault}
 use Rattle.flow_cli.proofs.running.run.Goals as goal
 
