@@ -103,4 +103,5 @@ write_fault files (Some (Judged name plan)) answer (inr is) fault =
 write_fault files (Some (Made count)) answer is fault =
     absurd (let e : Done ≡ WriteFault = sym is.ends ∙ fault in cc)
 write_fault files (Some (Tried count)) answer is fault =
-    absurd (of_day (outcome_of (last_cost is.parts is.found) is.found.bound) (sym is.told.ends ∙ fault))
+    absurd (of_day (outcome_of (last_cost is.parts is.found) is.found.bound)
+    (sym is.told.ends ∙ fault))

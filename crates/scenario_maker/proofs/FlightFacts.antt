@@ -202,7 +202,8 @@ drafts_destinations (d ∷ drafts) (flight ∷ flights) are =
 drafts_count : (drafts : List FlightDraft) (flights : List Flight) → AreDraftsOf drafts flights
     → length drafts ≡ length flights
 drafts_count drafts flights are =
-    sym (length-map drafts (λ (d : FlightDraft). d.name)) ∙ ap length (drafts_names drafts flights are)
+    sym (length-map drafts (λ (d : FlightDraft). d.name)) ∙ ap length
+    (drafts_names drafts flights are)
     ∙ length-map flights (λ (f : Flight). f.name)
 
 drafts_total : (drafts : List FlightDraft) (flights : List Flight) → AreDraftsOf drafts flights
@@ -326,7 +327,8 @@ module _ (periods : ℕ) (places : List Place) (tables : List CostTable) (flight
 prices_low : (tables : List CostTable) (mg md : ℕ) (cost : Cost) → is_cost tables mg md cost ≡ true
     → (on_ground_of cost ≤ most_period_cost) × (airborne_of cost ≤ most_period_cost)
 prices_low tables mg md (Linear on_ground airborne) is =
-    let both = and_parts (nat_le on_ground most_period_cost) (nat_le airborne most_period_cost) is in
+    let both = and_parts (nat_le on_ground most_period_cost) (nat_le airborne most_period_cost) is
+    in
     (leb-true on_ground most_period_cost both.0, leb-true airborne most_period_cost both.1)
 prices_low tables mg md (Tables total credit) is = (omega arith, omega arith)
 
@@ -351,7 +353,8 @@ pairs_front {X} R xs ys pairs i j d before within =
     (pairs i j d before longer))
 
 -- the tables of a flight are read
-module _ (parts : Parts) (valid : IsScenario parts) (connections : List Connection) (done : List FlightDraft) (flight : Flight)
+module _ (parts : Parts) (valid : IsScenario parts) (connections : List Connection)
+    (done : List FlightDraft) (flight : Flight)
     (named : is_name flight.name ≡ true) (at : ℕ) (legs : List PlaceLeg) (passed reached : List ℕ)
     (known : (d : FlightDraft) → d.name ≡ flight.name
     → position_of flight.name (flight_names (done ++ d ∷ [])) ≡ Some (length done)) where
@@ -373,10 +376,13 @@ module _ (parts : Parts) (valid : IsScenario parts) (connections : List Connecti
 
   cost_leads : (row : ℕ) (cost : Cost) → is_cost parts.tables flight.mg flight.md cost ≡ true
       → Leads row
-      (with_drafts parts connections (done ++ priced (Linear (on_ground_of cost) (airborne_of cost)) ∷ []))
-      (cost_rows parts.tables flight.name cost) (with_drafts parts connections (done ++ priced cost ∷ []))
+      (with_drafts parts connections
+      (done ++ priced (Linear (on_ground_of cost) (airborne_of cost)) ∷ []))
+      (cost_rows parts.tables flight.name cost)
+      (with_drafts parts connections (done ++ priced cost ∷ []))
   cost_leads row (Linear on_ground airborne) is =
-      leads_none row (with_drafts parts connections (done ++ priced (Linear on_ground airborne) ∷ []))
+      leads_none row
+      (with_drafts parts connections (done ++ priced (Linear on_ground airborne) ∷ []))
   cost_leads row (Tables total credit) is =
       let d = priced (Linear 0 0) in
       let fields = codes "cost" ∷ flight.name ∷ table_name (slice_get parts.tables total)
@@ -422,7 +428,8 @@ module _ (parts : Parts) (valid : IsScenario parts) (connections : List Connecti
       let low = prices_low parts.tables flight.mg flight.md flight.cost is.cost in
       flight_step_back (with_drafts parts connections done) at _
       (draft_of at flight (Linear (on_ground_of flight.cost) (airborne_of flight.cost)) [] [] [])
-      (flight_of_back fields (with_drafts parts connections done) at flight.name flight.from flight.to
+      (flight_of_back fields (with_drafts parts connections done) at flight.name flight.from
+      flight.to
       (record { sd = flight.sd; sa = flight.sa; mg = flight.mg; md = flight.md })
       (Linear (on_ground_of flight.cost) (airborne_of flight.cost))
       (flight_name_back fields (flight_names done) (node_total done) flight.name
@@ -451,7 +458,8 @@ module _ (parts : Parts) (valid : IsScenario parts) (connections : List Connecti
           by (Some place) there airport = (place, there)
 
   -- the records of one flight, after those before it
-  pub flight_leads : (at : ℕ) (done : List FlightDraft) (before rest : List Flight) (flight : Flight)
+  pub flight_leads : (at : ℕ) (done : List FlightDraft) (before rest : List Flight)
+      (flight : Flight)
       → parts.flights ≡ before ++ flight ∷ rest → AreDraftsOf done before
       → all_follow [] flight.legs ≡ true
       → (d : FlightDraft) × IsDraftOf d flight
@@ -503,26 +511,32 @@ module _ (parts : Parts) (valid : IsScenario parts) (connections : List Connecti
       let first = schedule_read at done flight is fresh room (omega (arith, budget, some)) in
       let rows = map (leg_row parts.places flight) flight.legs in
       let more = cost_rows parts.tables flight.name flight.cost in
-      let read = legs_lead parts valid connections done flight is at cost known budget (at + 1) [] flight.legs 1
+      let read = legs_lead parts valid connections done flight is at cost known budget (at + 1) []
+      flight.legs 1
       [] [] refl (none_so_far nodes some) route.order follow in
       let d = draft_of at flight flight.cost legs read.1 read.2 in
-      let tables = cost_leads parts valid connections done flight is.name at legs read.1 read.2 known
+      let tables = cost_leads parts valid connections done flight is.name at legs read.1 read.2
+      known
       (at + 1 + length rows) flight.cost is.cost in (
         d,
         record {
           name = refl;
           from = refl;
           to = refl;
-          done = finished_back parts.day.periods parts.places parts.tables flight is at read.0 read.1
+          done = finished_back parts.day.periods parts.places parts.tables flight is at read.0
+              read.1
               read.2 read.3;
           few = few_reached nodes flight.legs read.0 read.1 read.2 some read.3;
         },
         leads_more at (with_drafts parts connections done)
             (with_drafts parts connections (done ++ draft_of at flight cost [] [] [] ∷ []))
-            (with_drafts parts connections (done ++ d ∷ [])) (flight_row parts.places flight) (rows ++ more)
+            (with_drafts parts connections (done ++ d ∷ [])) (flight_row parts.places flight)
+            (rows ++ more)
             first
-            (leads_both (at + 1) (with_drafts parts connections (done ++ draft_of at flight cost [] [] [] ∷ []))
-            (with_drafts parts connections (done ++ draft_of at flight cost legs read.1 read.2 ∷ []))
+            (leads_both (at + 1)
+            (with_drafts parts connections (done ++ draft_of at flight cost [] [] [] ∷ []))
+            (with_drafts parts connections
+            (done ++ draft_of at flight cost legs read.1 read.2 ∷ []))
             (with_drafts parts connections (done ++ d ∷ [])) rows more read.4 tables),
       )
 
@@ -530,7 +544,8 @@ module _ (parts : Parts) (valid : IsScenario parts) (connections : List Connecti
       → parts.flights ≡ before ++ flights → AreDraftsOf done before
       → All (λ f. IsTrue (all_follow [] f.legs)) flights
       → (drafts : List FlightDraft) × AreDraftsOf drafts parts.flights
-      × Leads at (with_drafts parts connections done) (all_flight_rows parts.places parts.tables flights)
+      × Leads at (with_drafts parts connections done)
+      (all_flight_rows parts.places parts.tables flights)
       (with_drafts parts connections drafts)
   flights_lead at done before [] are drafted follow = (
     done,
@@ -541,13 +556,16 @@ module _ (parts : Parts) (valid : IsScenario parts) (connections : List Connecti
       let rows = flight_rows parts.places parts.tables flight in
       let one = flight_leads at done before flights flight are drafted
       (first_holds (λ (f : Flight). IsTrue (all_follow [] f.legs)) flight flights follow) in
-      let rest = flights_lead (at + length rows) (done ++ one.0 ∷ []) (before ++ flight ∷ []) flights
+      let rest = flights_lead (at + length rows) (done ++ one.0 ∷ []) (before ++ flight ∷ [])
+      flights
       (are ∙ sym (append_assoc before (flight ∷ []) flights))
       (drafts_push done before one.0 flight drafted one.1)
       (others_hold (λ (f : Flight). IsTrue (all_follow [] f.legs)) flight flights follow) in (
         rest.0,
         rest.1,
-        leads_both at (with_drafts parts connections done) (with_drafts parts connections (done ++ one.0 ∷ []))
-            (with_drafts parts connections rest.0) rows (all_flight_rows parts.places parts.tables flights)
+        leads_both at (with_drafts parts connections done)
+            (with_drafts parts connections (done ++ one.0 ∷ []))
+            (with_drafts parts connections rest.0) rows
+            (all_flight_rows parts.places parts.tables flights)
             one.2 rest.2,
       )

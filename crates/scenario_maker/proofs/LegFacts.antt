@@ -311,6 +311,7 @@ module _ (parts : Parts) (valid : IsScenario parts) where
           rest.3,
           leads_more row (all_drafts d)
               (all_drafts (so_far_draft (before ++ leg ∷ []) passed_next reached_next))
-              (all_drafts (so_far_draft flight.legs rest.1 rest.2)) (leg_row parts.places flight leg)
+              (all_drafts (so_far_draft flight.legs rest.1 rest.2))
+              (leg_row parts.places flight leg)
               (map (leg_row parts.places flight) after) read rest.4,
         )

@@ -233,7 +233,13 @@ plain_made n =
       (refl, (plain_beginning made_day, (plain_decimal 15, (plain_decimal 96, tt)))),
       plain_append (all_below 6 airports) (all_below 10 sectors ++ all_below n made_flight_rows)
           (plain_below 6 airports (λ k. (
-            (refl, (plain_decimal k, (plain_decimal (1 + n / 120), (plain_decimal (1 + n / 120), tt)))),
+            (
+              refl,
+              (
+                plain_decimal k,
+                (plain_decimal (1 + n / 120), (plain_decimal (1 + n / 120), tt)),
+              ),
+            ),
             tt,
           )))
           (plain_append (all_below 10 sectors) (all_below n made_flight_rows)

@@ -189,7 +189,8 @@ sector_there n (suc (suc (suc (suc (suc (suc zero)))))) less = refl
 sector_there n (suc (suc (suc (suc (suc (suc (suc zero))))))) less = refl
 sector_there n (suc (suc (suc (suc (suc (suc (suc (suc zero)))))))) less = refl
 sector_there n (suc (suc (suc (suc (suc (suc (suc (suc (suc zero))))))))) less = refl
-sector_there n (suc (suc (suc (suc (suc (suc (suc (suc (suc (suc k)))))))))) less = absurd (omega (arith, less))
+sector_there n (suc (suc (suc (suc (suc (suc (suc (suc (suc (suc k)))))))))) less = absurd
+    (omega (arith, less))
 
 -- different pairs, one more in front
 pairs_cons : {X : Type 0} (R : X → X → Type 0) (x : X) (xs : List X) → All (R x) xs
@@ -549,7 +550,8 @@ seconds_below (suc n) =
         → All (λ c. c.second < suc n)
         (made_connections n ++ (if back then made_connection n ∷ [] else []))
     by true more =
-        All-push (λ (c : Connection). c.second < suc n) (made_connections n) (made_connection n) more
+        All-push (λ (c : Connection). c.second < suc n) (made_connections n) (made_connection n)
+        more
         (omega arith)
     by false more =
         subst (All (λ (c : Connection). c.second < suc n)) (sym (append-nil (made_connections n)))
@@ -585,7 +587,8 @@ few_connections (suc n) = by (n % 3 == 2) (few_connections n)
         let none : length {A = Connection} [] ≡ 0 = omega arith in
         omega (arith, length-append (made_connections n) [], none, few)
 
-each_connection : (most n : ℕ) → n ≤ most → All (IsConnection (made_flights most)) (made_connections n)
+each_connection : (most n : ℕ) → n ≤ most → All (IsConnection (made_flights most))
+    (made_connections n)
 each_connection most zero within = no_items (IsConnection (made_flights most))
 each_connection most (suc n) within =
     let less = each_connection most n (omega (arith, within)) in

@@ -290,7 +290,8 @@ module _ (n : ℕ) (small : n ≤ 2000) where
       let name = id_short 90 k (omega (arith, less)) in
       let room = number_short (1 + n / 60) (omega (arith, small)) in
       record {
-        lines = (((omega arith, (omega (arith, name), (omega (arith, room), tt))), omega arith), tt);
+        lines =
+            (((omega arith, (omega (arith, name), (omega (arith, room), tt))), omega arith), tt);
         few = omega arith;
       }
 

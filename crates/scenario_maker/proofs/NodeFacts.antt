@@ -197,7 +197,8 @@ module _ (places : List Place) (flight : Flight)
           let up = is.upward in
           elim (cases_lt leg.to next) [
             | inl less ↦ absurd
-                (clash (is_left before leg.to) (so_far.starts leg.to (omega (arith, up)) less) onward)
+                (clash (is_left before leg.to) (so_far.starts leg.to (omega (arith, up)) less)
+                onward)
             | inr more ↦ more
           ]
 

@@ -144,7 +144,8 @@ module _ (parts : Parts) (valid : IsScenario parts) where
       by None there = refl
       by (Some place) there =
           plain_if_name place.name
-          (found_holds (IsPlace parts.day.periods) parts.places k place valid.places.each there).name
+          (found_holds (IsPlace parts.day.periods) parts.places k place valid.places.each
+          there).name
 
   plain_table_name : (k : ℕ) → IsPlain (table_name (slice_get parts.tables k))
   plain_table_name k = by (slice_get parts.tables k) refl

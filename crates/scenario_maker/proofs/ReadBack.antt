@@ -57,7 +57,8 @@ module _ (parts : Parts) (valid : IsScenario parts) (order : AreInOrder parts.fl
       (leads_both at_tables (with_places parts parts.places) (with_tables parts parts.tables) last
       tables (flights ++ connections)
       (tables_lead parts valid at_tables [] parts.tables refl)
-      (leads_both at_flights (with_tables parts parts.tables) (with_drafts parts [] read.0) last flights
+      (leads_both at_flights (with_tables parts parts.tables) (with_drafts parts [] read.0) last
+      flights
       connections read.2
       (connections_lead parts valid read.0 read.1 at_connections [] parts.connections refl)))) in
       from_rows (day_row parts.day) (places ++ (changes ++ (tables ++ (flights ++ connections))))
