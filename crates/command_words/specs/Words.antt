@@ -192,12 +192,12 @@ asked_by (command.Trial count) = Tried count
 abbrev pub IsNodeCount : ℕ → Type 0
 IsNodeCount nodes = (0 < nodes) × (nodes ≤ 200000)
 
--- a command that plans lets its search have such a number
 -- how many flights a day that is made may have
 abbrev pub IsFlightCount : ℕ → Type 0
 IsFlightCount count = (0 < count) × (count ≤ 2000)
 
--- the numbers of a command are within their limits
+-- a command that plans lets its search have such a number of nodes, and one that makes a day lets
+-- it have such a number of flights
 abbrev pub MaySearch : Command → Type 0
 MaySearch (command.Plan name limits cert) = IsNodeCount limits.nodes
 MaySearch (command.Check name cert view) = Unit {0}
@@ -205,7 +205,7 @@ MaySearch (command.Judge name plan) = Unit {0}
 MaySearch (command.Make count) = IsFlightCount count
 MaySearch (command.Trial count) = IsFlightCount count
 
--- words that ask for a plan let its search have such a number
+-- what words ask for has such numbers too
 abbrev pub MayBeAsked : Asked → Type 0
 MayBeAsked (Planned name limits cert) = IsNodeCount limits.nodes
 MayBeAsked (Checked name cert view) = Unit {0}
