@@ -1,9 +1,10 @@
 -- The records of connections are read as the connections.
-use Rattle.std.specs.Prelude.{codes, option_map}
-use Rattle.std.proofs.Common.{◌≡◌, ◌≢◌, ℕ, suc, ◌+◌, ◌<◌, ◌≤◌, ◌==◌, true, false, ◌&&◌, List, [], ◌∷◌, ◌++◌, map, length, get_or, slice_get, Option, Some, Ok, All, AllPairs, IsTrue, refl, sym, ap, ap₂, subst, ◌∙◌, inl, inr, arith, append_assoc, length-append}
+use Rattle.std.specs.Prelude.{codes, nat_lt, option_map, if◌then◌else◌}
+use Rattle.std.proofs.Common.{◌≡◌, ◌≢◌, ℕ, zero, suc, ◌+◌, ◌<◌, ◌≤◌, ◌==◌, Bool, true, false, ◌&&◌, List, [], ◌∷◌, ◌++◌, map, length, get_or, slice_get, Option, Some, Ok, All, AllPairs, IsTrue, refl, sym, ap, ap₂, subst, ◌∙◌, inl, inr, arith, append_assoc, length-append}
 use Rattle.std.specs.Fmt.{decimal}
+use Rattle.std.proofs.Math.ListN.{get_or-append}
 use Rattle.std.proofs.Math.Seq.{get_or-append_seam, take-append_seam}
-use Rattle.std.proofs.lemmas.Bool.{and_left, and_right, cases_Bool, eq-eqb, eqb-true, lt-leb, ne_eqb, or_from}
+use Rattle.std.proofs.lemmas.Bool.{and_left, and_parts, and_right, cases_Bool, eq-eqb, eqb-true, lt-leb, ltb-true, ne_eqb, or_from}
 use Rattle.std.proofs.lemmas.List.{append-nil}
 use Rattle.std.proofs.lemmas.Option.{same_Some, slice_get-get_or, slice_get-map}
 use Rattle.flow_types.specs.Limits.{most_connections, most_delay}
@@ -20,8 +21,8 @@ use Rattle.scenario_reader.specs.Connections.{are_connected, connection_of, firs
 use Rattle.scenario_reader.specs.DraftParts.{DraftParts, destinations, flight_names, origins}
 use Rattle.scenario_reader.specs.Reading.{connect_step, record_step, with_connection}
 use Rattle.scenario_reader.specs.declared.flight_draft.FlightDraft.{FlightDraft}
-use Rattle.scenario_maker.specs.Writing.{connection_row, flight_name}
-use Rattle.scenario_maker.proofs.FlightFacts.{AreDraftsOf, drafts_destinations, drafts_names, drafts_origins}
+use Rattle.scenario_maker.specs.Writing.{can_stand, connection_row, flight_name, standing}
+use Rattle.scenario_maker.proofs.FlightFacts.{AreDraftsOf, drafts_destinations, drafts_names, drafts_origins, pairs_front}
 use Rattle.scenario_maker.proofs.PlainFacts.{first_holds, found_holds, others_hold}
 use Rattle.scenario_maker.proofs.StepFacts.{Leads, known_back, leads_more, leads_none, leads_same, number_between, seam}
 
@@ -156,28 +157,59 @@ module _ (parts : Parts) (flights : List Flight) (names : AllPairs (λ a b. a.na
       (second_back fields drafts before connection.first connection.second known_second
       (not_connected before connection others) meets) refl is.turnaround refl)
 
-module _ (parts : Parts) (valid : IsScenario parts) (drafts : List FlightDraft)
-    (drafted : AreDraftsOf drafts parts.flights) where
-  pub connections_lead : (at : ℕ) (before connections : List Connection)
-      → parts.connections ≡ before ++ connections
-      → Leads at (with_connections parts drafts before)
-      (map (connection_row parts.flights) connections)
-      (with_connections parts drafts parts.connections)
-  connections_lead at before [] are =
-      leads_same at (with_connections parts drafts before) (with_connections parts drafts before)
-      (with_connections parts drafts parts.connections) []
-      (ap (with_connections parts drafts) (sym (are ∙ append-nil before)))
-      (leads_none at (with_connections parts drafts before))
-  connections_lead at before (connection ∷ connections) are =
-      let all_named : All (λ f. IsTrue (is_name f.name)) parts.flights =
-      λ k d within. (valid.flights.each k d within).name in
+-- flights at the front are found where they were
+front_at : (front rest : List Flight) (k : ℕ) → k < length front
+    → slice_get (front ++ rest) k ≡ slice_get front k
+front_at [] rest k within = absurd (omega (arith, within))
+front_at (flight ∷ front) rest zero within = refl
+front_at (flight ∷ front) rest (suc k) within = front_at front rest k (omega (arith, within))
+
+pub all_front : {X : Type 0} (P : X → Type 0) (xs ys : List X) → All P (xs ++ ys) → All P xs
+all_front P xs ys all k d within =
+    let longer : k < length (xs ++ ys) = omega (arith, within, length-append xs ys) in
+    subst P (get_or-append xs ys d k within) (all k d longer)
+
+-- a connection of two flights at the front
+module _ (front rest : List Flight) (connection : Connection)
+    (first : connection.first < length front) (second : connection.second < length front) where
+  front_row : connection_row (front ++ rest) connection ≡ connection_row front connection
+  front_row =
+      ap₂ (λ (a b : Option Flight). codes "connect" ∷ flight_name a ∷ flight_name b
+      ∷ decimal connection.turnaround ∷ [])
+      (front_at front rest connection.first first) (front_at front rest connection.second second)
+
+  front_connection : IsConnection (front ++ rest) connection → IsConnection front connection
+  front_connection is = record {
+    first = first;
+    second = second;
+    together = ap origin_of (sym (front_at front rest connection.second second)) ∙ is.together
+        ∙ ap destination_of (front_at front rest connection.first first);
+    turnaround = is.turnaround;
+  }
+
+-- the connections that can stand behind the flights at the front
+module _ (parts : Parts) (valid : IsScenario parts) (front rest : List Flight)
+    (are : parts.flights ≡ front ++ rest) (drafts : List FlightDraft)
+    (drafted : AreDraftsOf drafts front) (count : ℕ) (counted : count ≡ length front) where
+  standing_read : (at : ℕ) (before connections : List Connection) (connection : Connection)
+      → parts.connections ≡ before ++ connection ∷ connections → can_stand count connection ≡ true
+      → record_step (with_connections parts drafts before) at
+      (connection_row parts.flights connection)
+      ≡ Ok (with_connections parts drafts (before ++ connection ∷ []))
+  standing_read at before connections connection joined stands =
+      let both = and_parts (nat_lt connection.first count) (nat_lt connection.second count) stands
+      in
+      let less = ltb-true connection.first count both.0 in
+      let less_too = ltb-true connection.second count both.1 in
+      let first : connection.first < length front = omega (arith, less, counted) in
+      let second : connection.second < length front = omega (arith, less_too, counted) in
       let is : IsConnection parts.flights connection =
       found_holds (IsConnection parts.flights) parts.connections (length before) connection
-      valid.connections.each (rw are (seam before connection connections)) in
+      valid.connections.each (rw joined (seam before connection connections)) in
       let pairs : AllPairs IsOtherConnection (before ++ connection ∷ connections) =
-      subst (AllPairs IsOtherConnection) are valid.connections.once in
-      let count : length parts.connections ≡ length before + suc (length connections) =
-      ap length are ∙ length-append before (connection ∷ connections) in
+      subst (AllPairs IsOtherConnection) joined valid.connections.once in
+      let size : length parts.connections ≡ length before + suc (length connections) =
+      ap length joined ∙ length-append before (connection ∷ connections) in
       let few = valid.connections.few in
       let within : length before < length (before ++ connection ∷ connections) =
       omega (arith, length-append before (connection ∷ connections)) in
@@ -187,11 +219,67 @@ module _ (parts : Parts) (valid : IsScenario parts) (drafts : List FlightDraft)
       (pairs_before IsOtherConnection (before ++ connection ∷ connections) (length before)
       connection within (sym (get_or-append_seam before connection connections connection)) pairs)
       in
-      leads_more at (with_connections parts drafts before)
-      (with_connections parts drafts (before ++ connection ∷ []))
-      (with_connections parts drafts parts.connections) (connection_row parts.flights connection)
-      (map (connection_row parts.flights) connections)
-      (connection_read parts parts.flights valid.flights.names all_named drafts drafted at before
-      connection is (omega (arith, count, few)) others)
-      (connections_lead (at + 1) (before ++ connection ∷ []) connections
-      (are ∙ sym (append_assoc before (connection ∷ []) connections)))
+      let R = λ (a b : Flight). a.name ≢ b.name in
+      let names : AllPairs R front =
+      pairs_front R front rest (subst (AllPairs R) are valid.flights.names) in
+      let all_named : All (λ f. IsTrue (is_name f.name)) parts.flights =
+      λ k d inside. (valid.flights.each k d inside).name in
+      let named : All (λ f. IsTrue (is_name f.name)) front =
+      all_front (λ (f : Flight). IsTrue (is_name f.name)) front rest
+      (subst (All (λ (f : Flight). IsTrue (is_name f.name))) are all_named) in
+      let same : connection_row parts.flights connection ≡ connection_row front connection =
+      ap (λ (fs : List Flight). connection_row fs connection) are
+      ∙ front_row front rest connection first second in
+      ap (record_step (with_connections parts drafts before) at) same
+      ∙ connection_read parts front names named drafts drafted at before connection
+      (front_connection front rest connection first second
+      (subst (λ (fs : List Flight). IsConnection fs connection) are is))
+      (omega (arith, size, few)) others
+
+  none_stands : (at : ℕ) (before : List Connection)
+      → Leads at (with_connections parts drafts before) []
+      (with_connections parts drafts (before ++ []))
+  none_stands at before =
+      leads_same at (with_connections parts drafts before) (with_connections parts drafts before)
+      (with_connections parts drafts (before ++ [])) []
+      (ap (with_connections parts drafts) (sym (append-nil before)))
+      (leads_none at (with_connections parts drafts before))
+
+  pub standing_lead : (at : ℕ) (before connections : List Connection)
+      → parts.connections ≡ before ++ connections
+      → Leads at (with_connections parts drafts before)
+      (map (connection_row parts.flights) (standing count connections))
+      (with_connections parts drafts (before ++ standing count connections))
+  standing_lead at before [] joined = none_stands at before
+  standing_lead at before (connection ∷ connections) joined =
+      by (can_stand count connection) refl
+      (standing_lead (at + 1) (before ++ connection ∷ []) connections
+      (joined ∙ sym (append_assoc before (connection ∷ []) connections)))
+    where
+      by : (stands : Bool) → can_stand count connection ≡ stands
+          → Leads (at + 1) (with_connections parts drafts (before ++ connection ∷ []))
+          (map (connection_row parts.flights) (standing count connections))
+          (with_connections parts drafts
+          ((before ++ connection ∷ []) ++ standing count connections))
+          → Leads at (with_connections parts drafts before)
+          (map (connection_row parts.flights)
+          (if stands then connection ∷ standing count connections else []))
+          (with_connections parts drafts
+          (before ++ (if stands then connection ∷ standing count connections else [])))
+      by false is more = none_stands at before
+      by true is more =
+          leads_same at (with_connections parts drafts before)
+          (with_connections parts drafts
+          ((before ++ connection ∷ []) ++ standing count connections))
+          (with_connections parts drafts (before ++ connection ∷ standing count connections))
+          (connection_row parts.flights connection
+          ∷ map (connection_row parts.flights) (standing count connections))
+          (ap (with_connections parts drafts)
+          (append_assoc before (connection ∷ []) (standing count connections)))
+          (leads_more at (with_connections parts drafts before)
+          (with_connections parts drafts (before ++ connection ∷ []))
+          (with_connections parts drafts
+          ((before ++ connection ∷ []) ++ standing count connections))
+          (connection_row parts.flights connection)
+          (map (connection_row parts.flights) (standing count connections))
+          (standing_read at before connections connection joined is) more)

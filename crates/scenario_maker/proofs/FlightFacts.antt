@@ -34,7 +34,7 @@ use Rattle.scenario_reader.specs.declared.flight_draft.PlaceLeg.{PlaceLeg}
 use Rattle.scenario_reader.specs.declared.tables.Pricing.{Pricing}
 use Rattle.scenario_reader.proofs.PlaceFacts.{node_of_at}
 use Rattle.scenario_maker.specs.Order.{all_follow}
-use Rattle.scenario_maker.specs.Writing.{airborne_of, all_flight_rows, cost_rows, flight_row, flight_rows, leg_row, on_ground_of, place_name, table_name}
+use Rattle.scenario_maker.specs.Writing.{airborne_of, cost_rows, flight_row, flight_rows, leg_row, on_ground_of, place_name, table_name}
 use Rattle.scenario_maker.proofs.CapFacts.{changed_seam}
 use Rattle.scenario_maker.proofs.LegFacts.{draft_of, known_place, legs_lead, named_place, with_drafts}
 use Rattle.scenario_maker.proofs.NodeFacts.{IsSoFar, few_reached, middle_count, middle_of, none_so_far, place_leg, shape}
@@ -324,7 +324,7 @@ module _ (periods : ℕ) (places : List Place) (tables : List CostTable) (flight
       ∙ ap (with_legs flight)
       (legs_back nodes route.different flight.legs route.each_leg))
 
-prices_low : (tables : List CostTable) (mg md : ℕ) (cost : Cost) → is_cost tables mg md cost ≡ true
+pub prices_low : (tables : List CostTable) (mg md : ℕ) (cost : Cost) → is_cost tables mg md cost ≡ true
     → (on_ground_of cost ≤ most_period_cost) × (airborne_of cost ≤ most_period_cost)
 prices_low tables mg md (Linear on_ground airborne) is =
     let both = and_parts (nat_le on_ground most_period_cost) (nat_le airborne most_period_cost) is
@@ -343,7 +343,7 @@ some_table tables k least long = by (slice_get tables k) refl long
     by None there long = let none = leb-true (least + 1) 0 long in absurd (omega (arith, none))
     by (Some table) there long = (table, there)
 
-pairs_front : {X : Type 0} (R : X → X → Type 0) (xs ys : List X) → AllPairs R (xs ++ ys)
+pub pairs_front : {X : Type 0} (R : X → X → Type 0) (xs ys : List X) → AllPairs R (xs ++ ys)
     → AllPairs R xs
 pairs_front {X} R xs ys pairs i j d before within =
     let longer : j < length (xs ++ ys) = omega (arith, within, length-append xs ys) in
@@ -538,34 +538,4 @@ module _ (parts : Parts) (valid : IsScenario parts) (connections : List Connecti
             (with_drafts parts connections
             (done ++ draft_of at flight cost legs read.1 read.2 ∷ []))
             (with_drafts parts connections (done ++ d ∷ [])) rows more read.4 tables),
-      )
-
-  pub flights_lead : (at : ℕ) (done : List FlightDraft) (before flights : List Flight)
-      → parts.flights ≡ before ++ flights → AreDraftsOf done before
-      → All (λ f. IsTrue (all_follow [] f.legs)) flights
-      → (drafts : List FlightDraft) × AreDraftsOf drafts parts.flights
-      × Leads at (with_drafts parts connections done)
-      (all_flight_rows parts.places parts.tables flights)
-      (with_drafts parts connections drafts)
-  flights_lead at done before [] are drafted follow = (
-    done,
-    subst (AreDraftsOf done) (sym (are ∙ append-nil before)) drafted,
-    leads_none at (with_drafts parts connections done),
-  )
-  flights_lead at done before (flight ∷ flights) are drafted follow =
-      let rows = flight_rows parts.places parts.tables flight in
-      let one = flight_leads at done before flights flight are drafted
-      (first_holds (λ (f : Flight). IsTrue (all_follow [] f.legs)) flight flights follow) in
-      let rest = flights_lead (at + length rows) (done ++ one.0 ∷ []) (before ++ flight ∷ [])
-      flights
-      (are ∙ sym (append_assoc before (flight ∷ []) flights))
-      (drafts_push done before one.0 flight drafted one.1)
-      (others_hold (λ (f : Flight). IsTrue (all_follow [] f.legs)) flight flights follow) in (
-        rest.0,
-        rest.1,
-        leads_both at (with_drafts parts connections done)
-            (with_drafts parts connections (done ++ one.0 ∷ []))
-            (with_drafts parts connections rest.0) rows
-            (all_flight_rows parts.places parts.tables flights)
-            one.2 rest.2,
       )

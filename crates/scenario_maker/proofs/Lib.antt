@@ -9,9 +9,9 @@ pub mod NodeFacts
 pub mod LegFacts
 pub mod FlightFacts
 pub mod ConnectionFacts
+pub mod TrafficFacts
 pub mod ReadBack
 pub mod MadeFacts
-pub mod MadeBack
 pub mod OrderFacts
 pub mod MadeSizes
 mod Worked

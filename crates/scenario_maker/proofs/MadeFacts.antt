@@ -1,6 +1,6 @@
--- The made day is a scenario.
+-- The made day is a scenario, whose legs can be read one after the other.
 use Rattle.std.specs.Prelude.{sum_by, if◌then◌else◌}
-use Rattle.std.proofs.Common.{◌≡◌, ◌≢◌, ℕ, zero, suc, ◌+◌, ◌-◌, ◌*◌, ◌/◌, ◌%◌, ◌^◌, ◌==◌, ◌<◌, ◌≤◌, Bool, true, false, List, [], ◌∷◌, ◌++◌, length, get_or, drop, slice_index, slice_get, Some, All, AllPairs, IsTrue, refl, sym, ap, subst, ◌∙◌, inl, inr, arith, append_assoc, length-append}
+use Rattle.std.proofs.Common.{◌≡◌, ◌≢◌, ℕ, zero, suc, ◌+◌, ◌-◌, ◌*◌, ◌/◌, ◌%◌, ◌^◌, ◌==◌, ◌<◌, ◌≤◌, Bool, true, false, List, [], ◌∷◌, ◌++◌, length, get_or, drop, add-one, slice_index, slice_get, Some, All, AllPairs, IsTrue, refl, sym, ap, subst, ◌∙◌, inl, inr, arith, append_assoc, length-append}
 use Rattle.std.specs.Char.{is_ascii_digit}
 use Rattle.std.specs.Fmt.{decimal, digits}
 use Rattle.std.specs.List.{list_all}
@@ -19,11 +19,13 @@ use Rattle.flow_types.specs.Valid.{AreFlights, ArePlaces, IsConnection, IsFlight
 use Rattle.flow_types.specs.Words.{is_name, is_name_byte}
 use Rattle.flow_types.specs.declared.flight.Connection.{Connection}
 use Rattle.flow_types.specs.declared.flight.Flight.{Flight}
+use Rattle.flow_types.specs.declared.parts.Parts.{Parts}
 use Rattle.flow_types.specs.declared.place.Place.{Place}
-use Rattle.scenario_maker.specs.Order.{all_follow}
-use Rattle.scenario_maker.specs.Made.{made_airport, made_connection, made_connections, made_flight, made_flights, made_leg, made_parts, made_places, made_sector, ways_legs, ways_nodes}
-use Rattle.scenario_maker.specs.Making.{airport_id, all_below, course_alone, course_back, course_by, course_of, course_out, first_sector, second_sector, sector_id, third_sector}
-use Rattle.scenario_maker.specs.declared.making.Course.{Course}
+use Rattle.scenario_maker.specs.Order.{all_follow, AreInOrder}
+use Rattle.scenario_maker.specs.Made.{made_airport, made_connection, made_connections, made_flight, made_flights, made_leg, made_parts, made_places, made_sector, made_text, ways_legs, ways_nodes}
+use Rattle.scenario_maker.specs.Courses.{airport_id, all_below, course_alone, course_back, course_by, course_of, course_out, first_sector, second_sector, sector_id, third_sector}
+use Rattle.scenario_maker.specs.declared.courses.Course.{Course}
+use Rattle.scenario_maker.specs.Writing.{scenario_text}
 use Rattle.scenario_maker.proofs.StepFacts.{seam}
 
 -- a list of one item for each number
@@ -78,6 +80,15 @@ module _ {X : Type 0} (x : ℕ → X) where
       ap (λ (xs : List X). slice_get xs k) found.1
       ∙ ap (slice_get (items k ++ x k ∷ found.0)) (sym (below_count k))
       ∙ seam (items k) (x k) found.0
+
+-- one item more
+pub below_more : {X : Type 0} (x : ℕ → X) (n : ℕ) (start so_far more : List X)
+    → so_far ≡ start ++ all_below n (λ k. x k ∷ []) → more ≡ so_far ++ x n ∷ []
+    → more ≡ start ++ all_below (n + 1) (λ k. x k ∷ [])
+below_more {X} x n start so_far more is one =
+    one ∙ ap (λ (xs : List X). xs ++ x n ∷ []) is
+    ∙ append_assoc start (all_below n (λ k. x k ∷ [])) (x n ∷ [])
+    ∙ ap (λ k. start ++ all_below k (λ k. x k ∷ [])) (sym (add-one n))
 
 -- names of a letter and a number
 digit_in_name : (b : ℕ) → is_ascii_digit b ≡ true → is_name_byte b ≡ true
@@ -418,7 +429,7 @@ route_by n i false = record {
   left = ways_left false i;
 }
 
-pub follow_by : (another : Bool) → IsTrue (all_follow [] (ways_legs another))
+follow_by : (another : Bool) → IsTrue (all_follow [] (ways_legs another))
 follow_by true = refl
 follow_by false = refl
 
@@ -635,3 +646,14 @@ made_is n few = record {
     once = connections_once n;
   };
 }
+
+pub made_in_order : (n : ℕ) → AreInOrder (made_flights n)
+made_in_order n =
+    below_all made_flight (λ flight. IsTrue (all_follow [] flight.legs)) n
+    (λ i less. follow_by (i % 3 == 0))
+
+-- the text of parts that are those
+pub text_of_made : (text : List ℕ) (parts : Parts) (n : ℕ) → text ≡ scenario_text parts
+    → parts ≡ made_parts n → text ≡ made_text n
+unfolding made_text
+text_of_made text parts n is same = is ∙ ap scenario_text same

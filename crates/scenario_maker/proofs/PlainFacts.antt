@@ -21,7 +21,7 @@ use Rattle.flow_types.specs.Valid.{IsFlight, IsPlace, IsScenario, IsTable}
 use Rattle.flow_types.specs.Words.{is_name}
 use Rattle.text_records.specs.Rows.{Fields, rows_of}
 use Rattle.text_records.proofs.LineFacts.{ArePlain, ArePlainLines, IsPlain, IsPlainLine, plain_decimal, plain_if_name, plain_signed, rows_of_lines}
-use Rattle.scenario_maker.specs.Writing.{all_flight_rows, airborne_of, beginning_text, cap_row, cap_rows, change_rows, change_rows_of, connection_row, cost_rows, digit, first_of, flight_name, flight_rows, hours_fields, leg_row, on_ground_of, place_name, place_row, place_row_of, scenario_rows, scenario_text, table_name, table_row}
+use Rattle.scenario_maker.specs.Writing.{airborne_of, beginning_text, cap_row, cap_rows, change_rows, change_rows_of, connection_row, cost_rows, digit, first_of, flight_name, flight_rows, hours_fields, leg_row, on_ground_of, place_name, place_row, place_row_of, scenario_rows, scenario_text, standing, table_name, table_row, traffic_rows, waiting}
 use Rattle.scenario_maker.proofs.TextFacts.{rows_are}
 
 -- what holds of each holds of the first, of the others, and of one at a position
@@ -219,31 +219,24 @@ module _ (parts : Parts) (valid : IsScenario parts) where
     ),
   )
 
-  plain_flights : (flights : List Flight)
-      → All (IsFlight parts.day.periods parts.places parts.tables) flights
-      → ArePlainLines (all_flight_rows parts.places parts.tables flights)
-  plain_flights [] all = tt
-  plain_flights (flight ∷ flights) all =
-      let is = first_holds (IsFlight parts.day.periods parts.places parts.tables) flight flights all
-      in
-      let more = others_hold (IsFlight parts.day.periods parts.places parts.tables) flight flights
-      all in
-      plain_append (flight_rows parts.places parts.tables flight)
-      (all_flight_rows parts.places parts.tables flights) (
+  plain_flight : (flight : Flight)
+      → IsFlight parts.day.periods parts.places parts.tables flight
+      → ArePlainLines (flight_rows parts.places parts.tables flight)
+  plain_flight flight is = (
+    (
+      refl,
+      (
+        plain_if_name flight.name is.name,
         (
-          refl,
-          (
-            plain_if_name flight.name is.name,
-            (
-              plain_place_name flight.from,
-              (plain_place_name flight.to, plain_hours flight),
-            ),
-          ),
+          plain_place_name flight.from,
+          (plain_place_name flight.to, plain_hours flight),
         ),
-        plain_append (map (leg_row parts.places flight) flight.legs)
-            (cost_rows parts.tables flight.name flight.cost)
-            (plain_legs flight is.name flight.legs) (plain_cost flight.name is.name flight.cost),
-      ) (plain_flights flights more)
+      ),
+    ),
+    plain_append (map (leg_row parts.places flight) flight.legs)
+        (cost_rows parts.tables flight.name flight.cost)
+        (plain_legs flight is.name flight.legs) (plain_cost flight.name is.name flight.cost),
+  )
 
   plain_connections : (connections : List Connection)
       → ArePlainLines (map (connection_row parts.flights) connections)
@@ -261,6 +254,20 @@ module _ (parts : Parts) (valid : IsScenario parts) where
     ),
     plain_connections connections,
   )
+
+  plain_traffic : (count : ℕ) (flights : List Flight) (connections : List Connection)
+      → All (IsFlight parts.day.periods parts.places parts.tables) flights
+      → ArePlainLines (traffic_rows parts.places parts.tables parts.flights count flights
+      connections)
+  plain_traffic count [] connections all = tt
+  plain_traffic count (flight ∷ flights) connections all =
+      let P = IsFlight parts.day.periods parts.places parts.tables in
+      plain_append (flight_rows parts.places parts.tables flight) _
+      (plain_flight flight (first_holds P flight flights all))
+      (plain_append (map (connection_row parts.flights) (standing (count + 1) connections)) _
+      (plain_connections (standing (count + 1) connections))
+      (plain_traffic (count + 1) flights (waiting (count + 1) connections)
+      (others_hold P flight flights all)))
 
   plain_scenario : ArePlainLines (scenario_rows parts)
   plain_scenario = (
@@ -280,9 +287,7 @@ module _ (parts : Parts) (valid : IsScenario parts) where
         (plain_map IsTable table_row parts.tables
         (λ table is. (refl, (plain_if_name table.name is.name, plain_values table.values)))
         valid.tables.each)
-        (plain_append (all_flight_rows parts.places parts.tables parts.flights) _
-        (plain_flights parts.flights valid.flights.each)
-        (plain_connections parts.connections)))),
+        (plain_traffic 0 parts.flights parts.connections valid.flights.each))),
   )
 
   -- the records that are read are those that were written

@@ -1,14 +1,16 @@
 -- The lines of records, one list of them after another; and what reads them.
-use Rattle.std.specs.Prelude.{codes, OnOk, Result, Ok, Err}
+use Rattle.std.specs.Prelude.{codes}
 use Rattle.std.proofs.Common.{◌≡◌, ℕ, suc, ◌+◌, ◌<◌, length, get_or, drop, add-one, List, [], ◌∷◌, ◌++◌, map, refl, sym, ap, ◌∙◌, append_assoc}
 use Rattle.std.proofs.Math.Seq.{drop-cons}
 use Rattle.text_records.specs.Rows.{Fields}
 use Rattle.text_records.proofs.LineFacts.{line_of, lines_of, more_fields}
+use Rattle.flow_types.specs.declared.flight.Connection.{Connection}
+use Rattle.flow_types.specs.declared.flight.CostTable.{CostTable}
+use Rattle.flow_types.specs.declared.flight.Flight.{Flight}
 use Rattle.flow_types.specs.declared.parts.Parts.{Parts}
 use Rattle.flow_types.specs.declared.place.Place.{Place}
 use Rattle.flow_types.specs.declared.place.PlaceKind.TheVariants.{Airport}
-use Rattle.scenario_maker.specs.Making.{all_below}
-use Rattle.scenario_maker.specs.Writing.{all_flight_rows, cap_rows, change_rows, change_rows_of, first_of, connection_row, day_row, more_text, place_row, row_text, rows_text, scenario_text, table_row}
+use Rattle.scenario_maker.specs.Writing.{cap_rows, change_rows, change_rows_of, connection_row, day_row, first_of, flight_rows, more_text, place_row, row_text, rows_text, scenario_text, standing, table_row, traffic_rows, waiting}
 
 pub rows_append : (first second : List Fields)
     → rows_text (first ++ second) ≡ rows_text first ++ rows_text second
@@ -37,11 +39,6 @@ pub one_row : (row : Fields) (rows : List Fields) (start one two : List ℕ)
     → two ≡ start ++ rows_text (row ∷ rows)
 one_row row rows start one two is_first is_second =
     two_texts (row_text row) (rows_text rows) start one two is_first is_second
-
--- what follows from what holds where there was memory
-pub on_ok : {A E : Type 0} (read : Result A E) {P Q : Type 0} → (P → Q) → OnOk read P → OnOk read Q
-on_ok (Ok x) more holds = more holds
-on_ok (Err e) more holds = tt
 
 -- the changes of an airport
 pub both_caps : (place : Place) (name first second start one two : List ℕ) → place.kind ≡ Airport
@@ -72,44 +69,73 @@ more_rows rows_of all adds xs k x out new whole within is so_far put =
     ∙ append_assoc out (rows_text (rows_of x)) (rows_text (all rest))
     ∙ ap (λ (text : List ℕ). out ++ text) (sym rows) ∙ so_far
 
--- six texts, one after the other
-pub six_texts : (a b c d e f start one two three four five six : List ℕ) → one ≡ start ++ a
-    → two ≡ one ++ b → three ≡ two ++ c → four ≡ three ++ d → five ≡ four ++ e → six ≡ five ++ f
-    → start ≡ [] → six ≡ a ++ (b ++ (c ++ (d ++ (e ++ f))))
-six_texts a b c d e f start one two three four five six is_a is_b is_c is_d is_e is_f none =
+-- five texts, one after the other
+pub five_texts : (a b c d e start one two three four five : List ℕ) → one ≡ start ++ a
+    → two ≡ one ++ b → three ≡ two ++ c → four ≡ three ++ d → five ≡ four ++ e
+    → start ≡ [] → five ≡ a ++ (b ++ (c ++ (d ++ e)))
+five_texts a b c d e start one two three four five is_a is_b is_c is_d is_e none =
     let first : one ≡ a = is_a ∙ ap (λ (text : List ℕ). text ++ a) none in
-    is_f ∙ ap (λ (text : List ℕ). text ++ f) is_e
-    ∙ ap (λ (text : List ℕ). (text ++ e) ++ f) is_d
-    ∙ ap (λ (text : List ℕ). ((text ++ d) ++ e) ++ f) is_c
-    ∙ ap (λ (text : List ℕ). (((text ++ c) ++ d) ++ e) ++ f) is_b
-    ∙ ap (λ (text : List ℕ). ((((text ++ b) ++ c) ++ d) ++ e) ++ f) first
-    ∙ append_assoc (((a ++ b) ++ c) ++ d) e f
-    ∙ append_assoc ((a ++ b) ++ c) d (e ++ f)
-    ∙ append_assoc (a ++ b) c (d ++ (e ++ f))
-    ∙ append_assoc a b (c ++ (d ++ (e ++ f)))
+    is_e ∙ ap (λ (text : List ℕ). text ++ e) is_d
+    ∙ ap (λ (text : List ℕ). (text ++ d) ++ e) is_c
+    ∙ ap (λ (text : List ℕ). ((text ++ c) ++ d) ++ e) is_b
+    ∙ ap (λ (text : List ℕ). (((text ++ b) ++ c) ++ d) ++ e) first
+    ∙ append_assoc ((a ++ b) ++ c) d e
+    ∙ append_assoc (a ++ b) c (d ++ e)
+    ∙ append_assoc a b (c ++ (d ++ e))
 
 -- the text of a scenario, section by section
 pub text_is : (parts : Parts) → row_text (day_row parts.day)
     ++ (rows_text (map place_row parts.places)
     ++ (rows_text (change_rows parts.places)
     ++ (rows_text (map table_row parts.tables)
-    ++ (rows_text (all_flight_rows parts.places parts.tables parts.flights)
-    ++ rows_text (map (connection_row parts.flights) parts.connections)))))
+    ++ rows_text (traffic_rows parts.places parts.tables parts.flights 0 parts.flights
+    parts.connections))))
     ≡ scenario_text parts
 text_is parts =
     let places = map place_row parts.places in
     let changes = change_rows parts.places in
     let tables = map table_row parts.tables in
-    let flights = all_flight_rows parts.places parts.tables parts.flights in
-    let connections = map (connection_row parts.flights) parts.connections in
-    let four = rows_append flights connections in
-    let three = rows_append tables (flights ++ connections) in
-    let two = rows_append changes (tables ++ (flights ++ connections)) in
-    let one = rows_append places (changes ++ (tables ++ (flights ++ connections))) in
+    let traffic = traffic_rows parts.places parts.tables parts.flights 0 parts.flights
+    parts.connections in
+    let three = rows_append tables traffic in
+    let two = rows_append changes (tables ++ traffic) in
+    let one = rows_append places (changes ++ (tables ++ traffic)) in
     ap (λ (text : List ℕ). row_text (day_row parts.day) ++ text)
     (sym (one ∙ ap (λ (text : List ℕ). rows_text places ++ text)
-    (two ∙ ap (λ (text : List ℕ). rows_text changes ++ text)
-    (three ∙ ap (λ (text : List ℕ). rows_text tables ++ text) four))))
+    (two ∙ ap (λ (text : List ℕ). rows_text changes ++ text) three)))
+
+-- the records of one flight more, and of the connections that can stand behind it
+pub more_traffic : (places : List Place) (tables : List CostTable) (all flights : List Flight)
+    (k : ℕ) (flight : Flight) (connections left : List Connection) (out one two whole : List ℕ)
+    → k < length flights → flight ≡ get_or flights k flight
+    → out ++ rows_text (traffic_rows places tables all k (drop k flights) connections) ≡ whole
+    → one ≡ out ++ rows_text (flight_rows places tables flight)
+    → two ≡ one ++ rows_text (map (connection_row all) (standing (k + 1) connections))
+    → left ≡ waiting (k + 1) connections
+    → two ++ rows_text (traffic_rows places tables all (k + 1) (drop (k + 1) flights) left)
+    ≡ whole
+more_traffic places tables all flights k flight connections left out one two whole within is so_far
+    first second waits =
+    let rest = drop (k + 1) flights in
+    let own = flight_rows places tables flight in
+    let joined = map (connection_row all) (standing (k + 1) connections) in
+    let others = traffic_rows places tables all (k + 1) rest (waiting (k + 1) connections) in
+    let cut : drop k flights ≡ flight ∷ rest =
+    drop-cons flights k flight within ∙ ap (λ (f : Flight). f ∷ drop (suc k) flights) (sym is)
+    ∙ ap (λ n. flight ∷ drop n flights) (sym (add-one k)) in
+    let rows : rows_text (traffic_rows places tables all k (drop k flights) connections)
+    ≡ rows_text own ++ (rows_text joined ++ rows_text others) =
+    ap (λ (fs : List Flight). rows_text (traffic_rows places tables all k fs connections)) cut
+    ∙ rows_append own (joined ++ others)
+    ∙ ap (λ (text : List ℕ). rows_text own ++ text) (rows_append joined others) in
+    ap (λ (cs : List Connection). two ++ rows_text (traffic_rows places tables all (k + 1) rest cs))
+    waits
+    ∙ ap (λ (text : List ℕ). text ++ rows_text others)
+    (two_texts (rows_text own) (rows_text joined) out one two first second)
+    ∙ append_assoc out (rows_text own ++ rows_text joined) (rows_text others)
+    ∙ ap (λ (text : List ℕ). out ++ text)
+    (append_assoc (rows_text own) (rows_text joined) (rows_text others) ∙ sym rows)
+    ∙ so_far
 
 more_is : (fields : Fields) → more_text fields ≡ more_fields fields ++ (10 ∷ [])
 more_is [] = refl
@@ -130,11 +156,3 @@ rows_are [] = refl
 rows_are (row ∷ rows) =
     ap (λ (text : List ℕ). text ++ rows_text rows) (row_is row)
     ∙ ap (λ (text : List ℕ). line_of row ++ text) (rows_are rows)
-
--- what is made of one number more
-pub more_below : (n : ℕ) (rows : ℕ → List Fields) (start out new : List ℕ)
-    → out ≡ start ++ rows_text (all_below n rows) → new ≡ out ++ rows_text (rows n)
-    → new ≡ start ++ rows_text (all_below (n + 1) rows)
-more_below n rows start out new so_far put =
-    both_rows (all_below n rows) (rows n) start out new so_far put
-    ∙ ap (λ k. start ++ rows_text (all_below k rows)) (sym (add-one n))

@@ -1,4 +1,4 @@
 pub mod Made
-pub mod Making
+pub mod Courses
 pub mod Order
 pub mod Writing

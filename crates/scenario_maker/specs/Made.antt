@@ -1,5 +1,6 @@
--- The made day as a scenario.
+-- The made day: its scenario, and its text.
 use Rattle.std.specs.Prelude.{ℕ, ◌+◌, ◌-◌, ◌/◌, ◌%◌, ◌==◌, Bool, true, false, List, [], ◌∷◌, ◌++◌, replicate, if◌then◌else◌}
+use Rattle.flow_types.specs.declared.day.Day.{Day}
 use Rattle.flow_types.specs.declared.flight.Connection.{Connection}
 use Rattle.flow_types.specs.declared.flight.Cost.TheVariants.{Linear}
 use Rattle.flow_types.specs.declared.flight.Flight.{Flight}
@@ -7,7 +8,20 @@ use Rattle.flow_types.specs.declared.flight.Leg.{Leg}
 use Rattle.flow_types.specs.declared.parts.Parts.{Parts}
 use Rattle.flow_types.specs.declared.place.Place.{Place}
 use Rattle.flow_types.specs.declared.place.PlaceKind.TheVariants.{Airport, Sector}
-use Rattle.scenario_maker.specs.Making.{airport_id, all_below, course_of, first_sector, flight_id, made_day, second_sector, sector_id, third_sector}
+use Rattle.scenario_maker.specs.Courses.{airport_id, all_below, course_of, first_sector, flight_id, second_sector, sector_id, third_sector}
+use Rattle.scenario_maker.specs.Writing.{scenario_text}
+
+-- 96 periods of 15 minutes
+abbrev pub made_day : Day
+made_day = record {
+  year = 2011;
+  month = 3;
+  day = 14;
+  hour = 6;
+  minute = 0;
+  minutes = 15;
+  periods = 96;
+}
 
 abbrev pub made_airport : ℕ → ℕ → Place
 made_airport room k = record {
@@ -78,3 +92,6 @@ made_parts n = record {
   tables = [];
   connections = made_connections n;
 }
+
+unfoldable pub made_text : ℕ → List ℕ
+made_text n = scenario_text (made_parts n)

@@ -1,5 +1,5 @@
 -- The text of a scenario, byte by byte: its records, and a line for each.
-use Rattle.std.specs.Prelude.{ℕ, ◌+◌, ◌/◌, ◌%◌, ◌==◌, List, [], ◌∷◌, ◌++◌, map, Option, None, Some, slice_get, slice_index, codes, if◌then◌else◌}
+use Rattle.std.specs.Prelude.{ℕ, ◌+◌, ◌/◌, ◌%◌, ◌==◌, Bool, ◌&&◌, nat_lt, List, [], ◌∷◌, ◌++◌, map, Option, None, Some, slice_get, slice_index, codes, if◌then◌else◌}
 use Rattle.std.specs.Fmt.{decimal, signed_decimal}
 use Rattle.flow_types.specs.declared.day.Day.{Day}
 use Rattle.flow_types.specs.declared.flight.Connection.{Connection}
@@ -126,26 +126,44 @@ flight_rows places tables flight =
     flight_row places flight
     ∷ (map (leg_row places flight) flight.legs ++ cost_rows tables flight.name flight.cost)
 
-abbrev pub all_flight_rows : List Place → List CostTable → List Flight → List Fields
-all_flight_rows places tables [] = []
-all_flight_rows places tables (flight ∷ flights) =
-    flight_rows places tables flight ++ all_flight_rows places tables flights
-
 abbrev pub connection_row : List Flight → Connection → Fields
 connection_row flights connection =
     codes "connect" ∷ flight_name (slice_get flights connection.first)
     ∷ flight_name (slice_get flights connection.second) ∷ decimal connection.turnaround ∷ []
 
--- the records of the text: the day, its places and what changes there, its tables, its flights and
--- their connections
+-- whether the connection can stand behind so many flights: both of its own are among them
+abbrev pub can_stand : ℕ → Connection → Bool
+can_stand count connection = nat_lt connection.first count && nat_lt connection.second count
+
+-- the connections at the front that can stand there, and those that still wait
+abbrev pub standing : ℕ → List Connection → List Connection
+standing count [] = []
+standing count (connection ∷ connections) =
+    if can_stand count connection then connection ∷ standing count connections else []
+
+abbrev pub waiting : ℕ → List Connection → List Connection
+waiting count [] = []
+waiting count (connection ∷ connections) =
+    if can_stand count connection then waiting count connections else connection ∷ connections
+
+-- the flights behind so many of `all`, and behind each of them the connections that can stand there
+abbrev pub traffic_rows : List Place → List CostTable → List Flight → ℕ → List Flight
+    → List Connection → List Fields
+traffic_rows places tables all count [] connections = []
+traffic_rows places tables all count (flight ∷ flights) connections =
+    flight_rows places tables flight
+    ++ (map (connection_row all) (standing (count + 1) connections)
+    ++ traffic_rows places tables all (count + 1) flights (waiting (count + 1) connections))
+
+-- The records of the text: the day, its places and what changes there, its tables, and its flights,
+-- with each connection as soon as both of its flights, and the connections before it, are there.
 abbrev pub scenario_rows : Parts → List Fields
 scenario_rows parts =
     day_row parts.day
     ∷ (map place_row parts.places
     ++ (change_rows parts.places
     ++ (map table_row parts.tables
-    ++ (all_flight_rows parts.places parts.tables parts.flights
-    ++ map (connection_row parts.flights) parts.connections))))
+    ++ traffic_rows parts.places parts.tables parts.flights 0 parts.flights parts.connections)))
 
 -- the fields after the first, and the line of a record
 abbrev pub more_text : Fields → List ℕ

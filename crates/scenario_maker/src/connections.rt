@@ -1,36 +1,51 @@
 //! The records of connections.
-ghost use Rattle.std.specs.Prelude.{◌≡◌, ◌++◌, OnOk, map, slice_get};
-ghost use Rattle.flow_types.specs.Scenario.{parts_of};
-ghost use Rattle.scenario_maker.specs.Writing.{connection_row, flight_name, row_text, rows_text};
+ghost use Rattle.std.specs.Prelude.{◌≡◌, ◌++◌, ◌∷◌, [], IfOk, IfSome, IsTrue, None, OnOk, map, slice_get};
+ghost use Rattle.scenario_maker.specs.Writing.{can_stand, connection_row, flight_name, row_text, rows_text, standing, waiting};
 
-use flow_types::{Connection, Flight, OutOfMemory, Scenario};
+use flow_types::{Connection, Flight, OutOfMemory};
 use std::alloc::Global;
 use text_records::{put, put_field, put_number};
 
-/// Adds the line of each connection. As with `put`, nothing is said of the text after
-/// `OutOfMemory`.
-pub fn put_connections(alloc: Global, out: &mut Vec<u8>, s: &Scenario) -> Result<(), OutOfMemory>
-    ensures { OnOk result (out.new.items ≡ out.old.items
-        ++ rows_text (map (connection_row (parts_of s.now).flights)
-        (parts_of s.now).connections)) }
-{
-    put_all(alloc, out, s.flights(), s.connections())
-}
-
-// Adds the lines of these connections.
-fn put_all(
+/// Adds the lines of the connections at the front that can stand behind so many flights, and gives
+/// those that still wait. As with `put`, nothing is said of the text after `OutOfMemory`.
+pub fn put_standing<'a>(
     alloc: Global,
     out: &mut Vec<u8>,
     flights: &[Flight],
-    connections: &[Connection],
-) -> Result<(), OutOfMemory>
-    ensures { OnOk result (out.new.items ≡ out.old.items
-        ++ rows_text (map (connection_row flights.now) connections.now)) }
+    connections: &'a [Connection],
+    count: usize,
+) -> Result<&'a [Connection], OutOfMemory>
+    ensures text { OnOk result (out.new.items ≡ out.old.items
+        ++ rows_text (map (connection_row flights.now) (standing count connections.now))) }
+    ensures left { IfOk result (λ left. left.now ≡ waiting count connections.now) }
 {
-    for connection in connections {
-        put_connection(alloc, out, flights, *connection)?;
+    let mut left = connections;
+    while let Some((connection, rest)) = next_standing(left, count) {
+        put_connection(alloc, out, flights, connection)?;
+        left = rest;
     }
-    Ok(())
+    Ok(left)
+}
+
+// The connection at the front and those behind it, if it can stand behind so many flights.
+fn next_standing(connections: &[Connection], count: usize) -> Option<(Connection, &[Connection])>
+    ensures some { IfSome result (λ next. connections.now ≡ next.0 ∷ next.1.now) }
+    ensures stands { IfSome result (λ next. IsTrue (can_stand count next.0)) }
+    ensures none { result ≡ None → standing count connections.now ≡ [] }
+{
+    let (first, rest) = connections.split_first()?;
+    if can_stand(*first, count) {
+        Some((*first, rest))
+    } else {
+        None
+    }
+}
+
+// Whether both flights of the connection are among so many.
+fn can_stand(connection: Connection, count: usize) -> bool
+    ensures { result ≡ can_stand count connection }
+{
+    (connection.first as usize) < count && (connection.second as usize) < count
 }
 
 // Adds the line of a connection.

@@ -1,41 +1,14 @@
-//! The records of flights.
+//! The records of a flight.
 ghost use Rattle.std.specs.Prelude.{◌≡◌, ◌++◌, OnOk, map, slice_get};
-ghost use Rattle.flow_types.specs.Scenario.{parts_of};
-ghost use Rattle.scenario_maker.specs.Writing.{airborne_of, all_flight_rows, cost_rows, flight_row, flight_rows, hours_fields, leg_row, more_text, on_ground_of, place_name, price_fields, row_text, rows_text, table_name};
+ghost use Rattle.scenario_maker.specs.Writing.{airborne_of, cost_rows, flight_row, flight_rows, hours_fields, leg_row, more_text, on_ground_of, place_name, price_fields, row_text, rows_text, table_name};
 
-use flow_types::{Cost, CostTable, Flight, Leg, OutOfMemory, Place, Scenario, place_at};
+use flow_types::{Cost, CostTable, Flight, Leg, OutOfMemory, Place, place_at};
 use std::alloc::Global;
 use text_records::{put, put_field, put_number};
 
-/// Adds the lines of each flight, of its legs and of its tables. As with `put`, nothing is said of
-/// the text after `OutOfMemory`.
-pub fn put_flights(alloc: Global, out: &mut Vec<u8>, s: &Scenario) -> Result<(), OutOfMemory>
-    ensures { OnOk result (out.new.items ≡ out.old.items
-        ++ rows_text (all_flight_rows (parts_of s.now).places (parts_of s.now).tables
-        (parts_of s.now).flights)) }
-{
-    put_all(alloc, out, s.places(), s.tables(), s.flights())
-}
-
-// Adds the lines of these flights.
-fn put_all(
-    alloc: Global,
-    out: &mut Vec<u8>,
-    places: &[Place],
-    tables: &[CostTable],
-    flights: &[Flight],
-) -> Result<(), OutOfMemory>
-    ensures { OnOk result (out.new.items ≡ out.old.items
-        ++ rows_text (all_flight_rows places.now tables.now flights.now)) }
-{
-    for flight in flights {
-        put_flight(alloc, out, places, tables, flight)?;
-    }
-    Ok(())
-}
-
-// Adds the lines of a flight.
-fn put_flight(
+/// Adds the lines of a flight, of its legs and of its tables. As with `put`, nothing is said of the
+/// text after `OutOfMemory`.
+pub fn put_flight(
     alloc: Global,
     out: &mut Vec<u8>,
     places: &[Place],

@@ -1,19 +1,18 @@
 //! What the texts that are written mean.
-ghost use Rattle.std.specs.Prelude.{ℕ, ◌≡◌, ◌≤◌, List, Ok, length};
+ghost use Rattle.std.specs.Prelude.{ℕ, ◌≡◌, ◌≤◌, ◌↔◌, List, Ok, length};
 ghost use Rattle.flow_types.specs.declared.parts.Parts.{Parts};
 ghost use Rattle.flow_types.specs.Limits.{most_text_bytes};
 ghost use Rattle.flow_types.specs.Valid.{IsScenario};
 ghost use Rattle.scenario_reader.specs.Reading.{scenario_of};
-ghost use Rattle.scenario_maker.specs.Made.{made_parts};
-ghost use Rattle.scenario_maker.specs.Making.{made_text};
+ghost use Rattle.scenario_maker.specs.Made.{made_parts, made_text};
 ghost use Rattle.scenario_maker.specs.Order.{AreInOrder};
 ghost use Rattle.scenario_maker.specs.Writing.{scenario_text};
 
-/// The text of a scenario is read as this scenario, where the legs of each flight stand in an order
-/// in which they can be read.
+/// The text of parts is read as exactly these parts where they are a valid scenario whose flights
+/// have their legs in an order in which they can be read, and only there.
 pub fn written_scenarios_are_read()
-    ensures { (parts : Parts) → IsScenario parts → AreInOrder parts.flights
-        → scenario_of (scenario_text parts) ≡ Ok parts }
+    ensures { (parts : Parts) → scenario_of (scenario_text parts) ≡ Ok parts
+        ↔ (IsScenario parts × AreInOrder parts.flights) }
 {}
 
 /// The text of a made day is read as the day that the definition says.

@@ -1,14 +1,19 @@
 //! Days that a rule makes up, for trials.
-ghost use Rattle.std.specs.Prelude.{◌≡◌, ◌≤◌, ◌<◌, ◌++◌, ◌∷◌, [], IfOk, OnOk};
+ghost use Rattle.std.specs.Prelude.{◌≡◌, ◌≤◌, ◌<◌, ◌==◌, ◌%◌, ◌++◌, ◌∷◌, [], IfOk, Ok, OnOk, replicate};
 ghost use Rattle.std.specs.Fmt.{decimal};
-ghost use Rattle.text_records.specs.Lines.{field_text};
-ghost use Rattle.scenario_maker.specs.Making.{all_below, course_alone, course_back, course_of, course_out, end_id, first_sector, made_airport_row, made_flight_rows, made_leg_row, made_sector_row, made_text, other_end, other_way_rows, schedule_row, second_sector, third_sector, turn_rows, way_rows};
-ghost use Rattle.scenario_maker.specs.Writing.{row_text, rows_text};
+ghost use Rattle.flow_types.specs.Scenario.{parts_of};
+ghost use Rattle.scenario_reader.specs.Reading.{scenario_of};
+ghost use Rattle.scenario_maker.specs.Courses.{all_below, course_of};
+ghost use Rattle.scenario_maker.specs.Made.{made_airport, made_connections, made_flight, made_flights, made_leg, made_parts, made_places, made_sector, made_text, ways_legs, ways_nodes};
 
-use crate::places::put_day;
-use flow_types::{Day, OutOfMemory};
+use crate::courses::{Course, course_of, first_sector, second_sector, third_sector};
+use crate::writing::scenario_text;
+use flow_types::{
+    Caps, Connection, Connections, Cost, Day, Flight, Flights, Leg, Legs, Name, Nodes, OutOfMemory,
+    Parts, Place, PlaceKind, Places, Scenario, Sequence, Tables,
+};
 use std::alloc::Global;
-use text_records::{put, put_number};
+use text_records::put;
 
 const DAY: Day = Day {
     year: 2011,
@@ -20,314 +25,209 @@ const DAY: Day = Day {
     periods: 96,
 };
 
-// Where a flight goes, and when it is to depart.
-#[derive(Clone, Copy)]
-struct Course {
-    // Airports by their numbers.
-    from: u32,
-    to: u32,
-    departs: u32,
-}
-
-// Where a leg starts or leads to, by its number.
-#[derive(Clone, Copy)]
-enum End {
-    Airport(u32),
-    Sector(u32),
-}
-
-/// The text of a day of so many flights, at most 2,000, between six airports and through ten
-/// sectors, whose capacities grow with the flights. It takes memory for the text and for the digits
-/// of a number.
+/// The text of the made day of so many flights, at most 2,000. It takes memory for the day, its
+/// text and the digits of a number.
 pub fn make(alloc: Global, n: u32) -> Result<Vec<u8>, OutOfMemory>
     requires { n ≤ 2000 }
     ensures { IfOk result (λ text. text.items ≡ made_text n) }
 {
-    let mut out = Vec::new(alloc);
-    put_day(alloc, &mut out, DAY)?;
-    put_airports(alloc, &mut out, 1 + n / 120)?;
-    put_sectors(alloc, &mut out, 1 + n / 60)?;
-    put_flights(alloc, &mut out, n)?;
-    Ok(out)
+    scenario_text(alloc, &made_day(alloc, n)?)
 }
 
-// Adds the lines of the airports.
-fn put_airports(alloc: Global, out: &mut Vec<u8>, room: u32) -> Result<(), OutOfMemory>
-    ensures { OnOk result (out.new.items
-        ≡ out.old.items ++ rows_text (all_below 6 (λ k. made_airport_row room k ∷ []))) }
+/// A day of so many flights, at most 2,000, between six airports and through ten sectors, whose
+/// capacities grow with the flights. It is the day that its text is read as. It takes memory for its
+/// lists.
+pub fn made_day(alloc: Global, n: u32) -> Result<Scenario, OutOfMemory>
+    requires { n ≤ 2000 }
+    ensures parts { IfOk result (λ s. parts_of s ≡ made_parts n) }
+    ensures read { IfOk result (λ s. scenario_of (made_text n) ≡ Ok (parts_of s)) }
+{
+    let parts = made_parts(alloc, n)?;
+    Ok(Scenario::of_valid(parts))
+}
+
+// What a made day consists of.
+fn made_parts(alloc: Global, n: u32) -> Result<Parts, OutOfMemory>
+    requires { n ≤ 2000 }
+    ensures { IfOk result (λ parts. parts ≡ made_parts n) }
+{
+    Ok(Parts {
+        day: DAY,
+        places: made_places(alloc, n)?,
+        flights: made_flights(alloc, n)?,
+        tables: Tables::empty(alloc),
+        connections: made_connections(alloc, n)?,
+    })
+}
+
+// The airports, and then the sectors.
+fn made_places(alloc: Global, n: u32) -> Result<Places, OutOfMemory>
+    requires { n ≤ 2000 }
+    ensures { IfOk result (λ places. places ≡ made_places n) }
+{
+    let mut places = Places::empty(alloc);
+    add_airports(alloc, &mut places, 1 + n / 120)?;
+    add_sectors(alloc, &mut places, 1 + n / 60)?;
+    Ok(places)
+}
+
+// Adds six airports, each with so much room all day.
+fn add_airports(alloc: Global, places: &mut Places, room: u32) -> Result<(), OutOfMemory>
+    ensures { OnOk result
+        (places.new ≡ places.old ++ all_below 6 (λ k. made_airport room k ∷ [])) }
 {
     for k in 0..6 {
-        put_airport(alloc, out, room, k)?;
+        places.add(made_airport(alloc, room, k)?)?;
     }
     Ok(())
 }
 
-// Adds the line of an airport.
-fn put_airport(alloc: Global, out: &mut Vec<u8>, room: u32, k: u32) -> Result<(), OutOfMemory>
-    ensures { OnOk result
-        (out.new.items ≡ out.old.items ++ rows_text (made_airport_row room k ∷ [])) }
+fn made_airport(alloc: Global, room: u32, k: u32) -> Result<Place, OutOfMemory>
+    ensures { IfOk result (λ place. place ≡ made_airport room k) }
 {
-    put(out, b"airport")?;
-    put_id(alloc, out, b"P", k)?;
-    put_number(alloc, out, u64::from(room))?;
-    put_number(alloc, out, u64::from(room))?;
-    put(out, b"\n")
+    Ok(Place {
+        name: id(alloc, b"P", k)?,
+        kind: PlaceKind::Airport,
+        first: all_day(alloc, room)?,
+        second: all_day(alloc, room)?,
+    })
 }
 
-// Adds the lines of the sectors.
-fn put_sectors(alloc: Global, out: &mut Vec<u8>, room: u32) -> Result<(), OutOfMemory>
-    ensures { OnOk result (out.new.items
-        ≡ out.old.items ++ rows_text (all_below 10 (λ k. made_sector_row room k ∷ []))) }
+// Adds ten sectors, each with so much room all day.
+fn add_sectors(alloc: Global, places: &mut Places, room: u32) -> Result<(), OutOfMemory>
+    ensures { OnOk result
+        (places.new ≡ places.old ++ all_below 10 (λ k. made_sector room k ∷ [])) }
 {
     for k in 0..10 {
-        put_sector(alloc, out, room, k)?;
+        places.add(made_sector(alloc, room, k)?)?;
     }
     Ok(())
 }
 
-// Adds the line of a sector.
-fn put_sector(alloc: Global, out: &mut Vec<u8>, room: u32, k: u32) -> Result<(), OutOfMemory>
-    ensures { OnOk result
-        (out.new.items ≡ out.old.items ++ rows_text (made_sector_row room k ∷ [])) }
+fn made_sector(alloc: Global, room: u32, k: u32) -> Result<Place, OutOfMemory>
+    ensures { IfOk result (λ place. place ≡ made_sector room k) }
 {
-    put(out, b"sector")?;
-    put_id(alloc, out, b"Z", k)?;
-    put_number(alloc, out, u64::from(room))?;
-    put(out, b"\n")
+    Ok(Place {
+        name: id(alloc, b"Z", k)?,
+        kind: PlaceKind::Sector,
+        first: all_day(alloc, room)?,
+        second: Caps::empty(alloc),
+    })
 }
 
-// Adds a field that is a letter and a number.
-fn put_id(alloc: Global, out: &mut Vec<u8>, letter: &[u8], number: u32) -> Result<(), OutOfMemory>
-    ensures { OnOk result
-        (out.new.items ≡ out.old.items ++ field_text (letter.now ++ decimal number)) }
+// The same capacity in each period.
+fn all_day(alloc: Global, room: u32) -> Result<Caps, OutOfMemory>
+    ensures { IfOk result (λ caps. caps ≡ replicate 96 room) }
 {
-    put(out, b",")?;
-    put(out, letter)?;
-    put(out, number.to_string(alloc)?.as_bytes())
+    list(alloc, &[room; 96])
 }
 
-// Adds the lines of the flights.
-fn put_flights(alloc: Global, out: &mut Vec<u8>, n: u32) -> Result<(), OutOfMemory>
+fn made_flights(alloc: Global, n: u32) -> Result<Flights, OutOfMemory>
     requires { n ≤ 2000 }
-    ensures { OnOk result
-        (out.new.items ≡ out.old.items ++ rows_text (all_below n made_flight_rows)) }
+    ensures { IfOk result (λ flights. flights ≡ made_flights n) }
 {
+    let mut flights = Flights::empty(alloc);
     for i in 0..n {
-        put_flight(alloc, out, i)?;
+        flights.add(made_flight(alloc, i)?)?;
     }
-    Ok(())
+    Ok(flights)
 }
 
-// Adds the lines of a flight.
-fn put_flight(alloc: Global, out: &mut Vec<u8>, i: u32) -> Result<(), OutOfMemory>
+// Every third flight has another way, by which it is longer under way.
+fn made_flight(alloc: Global, i: u32) -> Result<Flight, OutOfMemory>
     requires { i < 2000 }
-    ensures { OnOk result (out.new.items ≡ out.old.items ++ rows_text (made_flight_rows i)) }
+    ensures { IfOk result (λ flight. flight ≡ made_flight i) }
 {
     let course = course_of(i);
-    put_schedule(alloc, out, i, course)?;
-    put_way(alloc, out, i, course)?;
-    match i % 3 {
-        0 => put_other_way(alloc, out, i, course),
-        2 => put_turn(alloc, out, i),
-        _ => Ok(()),
-    }
+    let another = i % 3 == 0;
+    let departs = course.departs as u16;
+    Ok(Flight {
+        name: id(alloc, b"F", i)?,
+        from: course.from,
+        to: course.to,
+        sd: departs,
+        sa: departs + 5,
+        mg: 8,
+        md: 8,
+        nodes: made_nodes(alloc, i, course, another)?,
+        legs: made_legs(alloc, another)?,
+        cost: Cost::Linear {
+            ground: 1,
+            airborne: 2,
+        },
+    })
 }
 
-// The course of the flight of this number.
-fn course_of(i: u32) -> Course
-    requires { i < 2000 }
-    ensures is { result ≡ course_of i }
-    ensures from { result.from < 6 }
-    ensures to { result.to < 6 }
-    ensures departs { result.departs < 70 }
-{
-    let three = i / 3;
-    match i % 3 {
-        0 => course_alone(three),
-        1 => course_out(three),
-        _ => course_back(course_out(three)),
-    }
-}
-
-// The course of a flight alone.
-fn course_alone(three: u32) -> Course
-    requires { three < 2000 }
-    ensures is { result ≡ course_alone three }
-    ensures from { result.from < 6 }
-    ensures to { result.to < 6 }
-    ensures departs { result.departs < 60 }
-{
-    let from = three % 6;
-    Course {
-        from,
-        to: other_end(three, from),
-        departs: 7 * three % 60,
-    }
-}
-
-// The course of a flight out.
-fn course_out(three: u32) -> Course
-    requires { three < 2000 }
-    ensures is { result ≡ course_out three }
-    ensures from { result.from < 6 }
-    ensures to { result.to < 6 }
-    ensures departs { result.departs < 60 }
-{
-    let from = (three + 2) % 6;
-    Course {
-        from,
-        to: other_end(three, from),
-        departs: (7 * three + 3) % 60,
-    }
-}
-
-// The course back of a flight out.
-fn course_back(out: Course) -> Course
-    requires { out.departs < 60 }
-    ensures { result ≡ course_back out }
-{
-    Course {
-        from: out.to,
-        to: out.from,
-        departs: out.departs + 7,
-    }
-}
-
-// Where a flight from the airport goes.
-fn other_end(three: u32, airport: u32) -> u32
-    requires { airport < 6 }
-    ensures is { result ≡ other_end three airport }
-    ensures small { result < 6 }
-{
-    (airport + 1 + three % 5) % 6
-}
-
-// Adds the line of a flight's schedule.
-fn put_schedule(alloc: Global, out: &mut Vec<u8>, i: u32, course: Course) -> Result<(), OutOfMemory>
-    requires course { course ≡ course_of i }
-    requires departs { course.departs < 70 }
-    ensures { OnOk result (out.new.items ≡ out.old.items ++ row_text (schedule_row i)) }
-{
-    put(out, b"flight")?;
-    put_id(alloc, out, b"F", i)?;
-    put_id(alloc, out, b"P", course.from)?;
-    put_id(alloc, out, b"P", course.to)?;
-    put_number(alloc, out, u64::from(course.departs))?;
-    put_number(alloc, out, u64::from(course.departs + 5))?;
-    put(out, b",8,8,1,2\n")
-}
-
-// Adds the lines of a flight's first way: through two sectors.
-fn put_way(alloc: Global, out: &mut Vec<u8>, i: u32, course: Course) -> Result<(), OutOfMemory>
+// The places of a flight, with another way or without. Sectors stand behind the six airports.
+fn made_nodes(alloc: Global, i: u32, course: Course, another: bool) -> Result<Nodes, OutOfMemory>
     requires course { course ≡ course_of i }
     requires from { course.from < 6 }
     requires to { course.to < 6 }
     requires small { i < 2000 }
-    ensures { OnOk result (out.new.items ≡ out.old.items ++ rows_text (way_rows i)) }
+    ensures { IfOk result (λ nodes. nodes ≡ ways_nodes another i) }
 {
-    let first = End::Sector(first_sector(i, course));
-    let second = End::Sector(second_sector(i, course));
-    put_leg(alloc, out, i, End::Airport(course.from), first, 1)?;
-    put_leg(alloc, out, i, first, second, 2)?;
-    put_leg(alloc, out, i, second, End::Airport(course.to), 2)
-}
-
-// Adds the lines of another way: through the first sector and a third one.
-fn put_other_way(
-    alloc: Global,
-    out: &mut Vec<u8>,
-    i: u32,
-    course: Course,
-) -> Result<(), OutOfMemory>
-    requires course { course ≡ course_of i }
-    requires from { course.from < 6 }
-    requires to { course.to < 6 }
-    requires small { i < 2000 }
-    ensures { OnOk result (out.new.items ≡ out.old.items ++ rows_text (other_way_rows i)) }
-{
-    let third = End::Sector(third_sector(i, course));
-    put_leg(
-        alloc,
-        out,
-        i,
-        End::Sector(first_sector(i, course)),
-        third,
-        3,
-    )?;
-    put_leg(alloc, out, i, third, End::Airport(course.to), 2)
-}
-
-// Adds the line of the flight's turnaround, after the flight before it.
-fn put_turn(alloc: Global, out: &mut Vec<u8>, i: u32) -> Result<(), OutOfMemory>
-    requires { 1 ≤ i }
-    ensures { OnOk result (out.new.items ≡ out.old.items ++ rows_text (turn_rows i)) }
-{
-    put(out, b"connect")?;
-    put_id(alloc, out, b"F", i - 1)?;
-    put_id(alloc, out, b"F", i)?;
-    put(out, b",2\n")
-}
-
-// Adds the line of a leg of the flight.
-fn put_leg(
-    alloc: Global,
-    out: &mut Vec<u8>,
-    i: u32,
-    from: End,
-    to: End,
-    least: u8,
-) -> Result<(), OutOfMemory>
-    ensures { OnOk result
-        (out.new.items ≡ out.old.items ++ row_text (made_leg_row i from to least)) }
-{
-    put(out, b"leg")?;
-    put_id(alloc, out, b"F", i)?;
-    put_end(alloc, out, from)?;
-    put_end(alloc, out, to)?;
-    put_number(alloc, out, u64::from(least))?;
-    put(out, b"\n")
-}
-
-// Adds the name of a leg's end.
-fn put_end(alloc: Global, out: &mut Vec<u8>, end: End) -> Result<(), OutOfMemory>
-    ensures { OnOk result (out.new.items ≡ out.old.items ++ field_text (end_id end)) }
-{
-    match end {
-        End::Airport(k) => put_id(alloc, out, b"P", k),
-        End::Sector(k) => put_id(alloc, out, b"Z", k),
+    let first = 6 + first_sector(i, course);
+    let second = 6 + second_sector(i, course);
+    if another {
+        let third = 6 + third_sector(i, course);
+        list(alloc, &[course.from, first, second, third, course.to])
+    } else {
+        list(alloc, &[course.from, first, second, course.to])
     }
 }
 
-// The sector that a flight enters first.
-fn first_sector(i: u32, course: Course) -> u32
-    requires course { course ≡ course_of i }
-    requires from { course.from < 6 }
-    requires to { course.to < 6 }
-    requires small { i < 2000 }
-    ensures is { result ≡ first_sector i }
-    ensures small { result < 10 }
+fn made_legs(alloc: Global, another: bool) -> Result<Legs, OutOfMemory>
+    ensures { IfOk result (λ legs. legs ≡ ways_legs another) }
 {
-    (course.from + 2 * course.to + i) % 10
+    if another {
+        let legs = [
+            leg(0, 1, 1),
+            leg(1, 2, 2),
+            leg(2, 4, 2),
+            leg(1, 3, 3),
+            leg(3, 4, 2),
+        ];
+        list(alloc, &legs)
+    } else {
+        list(alloc, &[leg(0, 1, 1), leg(1, 2, 2), leg(2, 3, 2)])
+    }
 }
 
-// The sector that follows.
-fn second_sector(i: u32, course: Course) -> u32
-    requires course { course ≡ course_of i }
-    requires from { course.from < 6 }
-    requires to { course.to < 6 }
-    requires small { i < 2000 }
-    ensures { result ≡ second_sector i }
+fn leg(from: u16, to: u16, least: u16) -> Leg
+    ensures { result ≡ made_leg from to least }
 {
-    (first_sector(i, course) + 1 + i % 4) % 10
+    Leg { from, to, least }
 }
 
-// The sector that follows on the other way.
-fn third_sector(i: u32, course: Course) -> u32
-    requires course { course ≡ course_of i }
-    requires from { course.from < 6 }
-    requires to { course.to < 6 }
-    requires small { i < 2000 }
-    ensures { result ≡ third_sector i }
+// Each flight back waits for the aircraft of the flight before it.
+fn made_connections(alloc: Global, n: u32) -> Result<Connections, OutOfMemory>
+    ensures { IfOk result (λ connections. connections ≡ made_connections n) }
 {
-    (first_sector(i, course) + 5 + i % 4) % 10
+    let mut connections = Connections::empty(alloc);
+    for i in 0..n {
+        if i % 3 == 2 {
+            connections.add(Connection {
+                first: i - 1,
+                second: i,
+                turnaround: 2,
+            })?;
+        }
+    }
+    Ok(connections)
+}
+
+// A name of a letter and a number.
+fn id(alloc: Global, letter: &[u8], number: u32) -> Result<Name, OutOfMemory>
+    ensures { IfOk result (λ name. name ≡ letter.now ++ decimal number) }
+{
+    let mut name = Vec::from_slice(alloc, letter)?;
+    put(&mut name, number.to_string(alloc)?.as_bytes())?;
+    Ok(Name::from_vec(name))
+}
+
+// The items as a list.
+fn list<T: Copy>(alloc: Global, items: &[T]) -> Result<Sequence<T>, OutOfMemory>
+    ensures { IfOk result (λ list. list ≡ items.now) }
+{
+    Ok(Sequence::from_vec(Vec::from_slice(alloc, items)?))
 }

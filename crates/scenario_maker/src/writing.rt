@@ -3,10 +3,9 @@ ghost use Rattle.std.specs.Prelude.{◌≡◌, IfOk};
 ghost use Rattle.flow_types.specs.Scenario.{parts_of};
 ghost use Rattle.scenario_maker.specs.Writing.{scenario_text};
 
-use crate::connections::put_connections;
-use crate::flights::put_flights;
 use crate::places::{put_changes, put_day, put_places};
 use crate::tables::put_tables;
+use crate::traffic::put_traffic;
 use flow_types::{OutOfMemory, Scenario};
 use std::alloc::Global;
 
@@ -19,7 +18,6 @@ pub fn scenario_text(alloc: Global, s: &Scenario) -> Result<Vec<u8>, OutOfMemory
     put_places(alloc, &mut out, s.places())?;
     put_changes(alloc, &mut out, s.places())?;
     put_tables(alloc, &mut out, s.tables())?;
-    put_flights(alloc, &mut out, s)?;
-    put_connections(alloc, &mut out, s)?;
+    put_traffic(alloc, &mut out, s)?;
     Ok(out)
 }

@@ -1,18 +1,18 @@
 use Rattle.std.proofs.Common.{◌++◌, ◌∙◌, ap, map}
 use Rattle.flow_types.specs.Scenario.{parts_of}
-use Rattle.scenario_maker.specs.Writing.{all_flight_rows, change_rows, connection_row, day_row, place_row, row_text, rows_text, table_row}
-use Rattle.scenario_maker.proofs.TextFacts.{six_texts, text_is}
+use Rattle.scenario_maker.specs.Writing.{change_rows, day_row, place_row, row_text, rows_text, table_row, traffic_rows}
+use Rattle.scenario_maker.proofs.TextFacts.{five_texts, text_is}
 use Rattle.scenario_maker.proofs.writing.scenario_text.Goals as goal
 
 pub returns : goal.returns
 returns c =
     let parts = parts_of c.args.s.now in
-    six_texts (row_text (day_row parts.day)) (rows_text (map place_row parts.places))
+    five_texts (row_text (day_row parts.day)) (rows_text (map place_row parts.places))
     (rows_text (change_rows parts.places)) (rows_text (map table_row parts.tables))
-    (rows_text (all_flight_rows parts.places parts.tables parts.flights))
-    (rows_text (map (connection_row parts.flights) parts.connections)) c.new-out.result.items
+    (rows_text (traffic_rows parts.places parts.tables parts.flights 0 parts.flights
+    parts.connections)) c.new-out.result.items
     c.put_day.new.out.items c.put_places.new.out.items c.put_changes.new.out.items
-    c.put_tables.new.out.items c.put_flights.new.out.items c.put_connections.new.out.items
+    c.put_tables.new.out.items c.put_traffic.new.out.items
     (c.in_ok-put_day.ensures
     ∙ ap (λ day. c.new-out.result.items ++ row_text (day_row day)) c.day.ensures)
     (c.in_ok-put_places.ensures
@@ -23,5 +23,5 @@ returns c =
     (c.in_ok-put_tables.ensures
     ∙ ap (λ tables. c.put_changes.new.out.items ++ rows_text (map table_row tables))
     c.tables.ensures)
-    c.in_ok-put_flights.ensures c.in_ok-put_connections.ensures c.new-out.ensures.items
+    c.in_ok-put_traffic.ensures c.new-out.ensures.items
     ∙ text_is parts

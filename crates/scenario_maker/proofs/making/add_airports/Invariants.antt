@@ -1,0 +1,8 @@
+use Rattle.std.proofs.Common.{◌≡◌, ◌++◌, ◌∷◌, []}
+use Rattle.scenario_maker.specs.Courses.{all_below}
+use Rattle.scenario_maker.specs.Made.{made_airport}
+use Rattle.scenario_maker.proofs.making.add_airports.Given as goal
+
+-- the places so far
+abbrev pub invariant-loop-k : goal.invariant-loop-k
+invariant-loop-k l = l.places ≡ l.fn.places ++ all_below l.k (λ k. made_airport l.room k ∷ [])
