@@ -1,5 +1,5 @@
 -- Ways at the rates of a flight are its trips in the box.
-use Rattle.std.proofs.Common.{◌≡◌, ◌⊎◌, ◌*◌, ℕ, zero, suc, ◌+◌, ◌<◌, ◌≤◌, ◌^◌, List, [], ◌∷◌, ◌++◌, take, drop, length, get_or, replicate, slice_get, Option, Some, None, IfSome, MatchOption, ℤ, pos, sym, ap, ◌∙◌, subst, inl, inr, arith}
+use Rattle.std.proofs.Common.{◌≡◌, ◌⊎◌, ◌*◌, ℕ, zero, suc, ◌+◌, ◌<◌, ◌≤◌, ◌^◌, List, [], ◌∷◌, ◌++◌, take, drop, length, get_or, replicate, slice_get, Option, Some, None, IfSome, MatchOption, ℤ, pos, ◌≤ℤ◌, sym, ap, ◌∙◌, subst, inl, inr, arith}
 use Rattle.std.proofs.lemmas.Bool.{cases_lt}
 use Rattle.std.proofs.Math.Seq.{take-append_seam}
 use Rattle.std.proofs.lemmas.Int.{ints}
@@ -15,20 +15,23 @@ use Rattle.flow_types.specs.Limits.{most_nodes, most_periods}
 use Rattle.flow_types.specs.Trips.{IsTrip}
 use Rattle.flow_types.specs.Valid.{IsFlight, IsScenario}
 use Rattle.time_windows.specs.declared.access.Access.{Access}
-use Rattle.time_windows.specs.Boxes.{Box, IsBoxOf, IsProper, IsTripInBox, IsWindowWithin, root_access, root_box, root_row}
+use Rattle.time_windows.specs.declared.ends.End.TheVariants.{Arrival, Departure}
+use Rattle.time_windows.specs.Boxes.{Box, IsBoxOf, IsInWindow, IsProper, IsTripInBox, IsWindowWithin, root_access, root_box, root_row}
 use Rattle.time_windows.proofs.BoxFacts.{trip_in_same}
-use Rattle.flight_routes.specs.Filling.{IsFitTable, IsPriceTable}
+use Rattle.flight_routes.specs.Filling.{AreSmallAt, IsFitTable, IsPriceTable, OnlyEnd}
 use Rattle.flight_routes.specs.FitRates.{AreFitRates}
 use Rattle.flight_routes.specs.Fits.{FitsAs, IsTripThatFits}
+use Rattle.flight_routes.specs.GuideRates.{AreExchanged, AreGuideRates, if_both}
 use Rattle.flight_routes.specs.Inside.{IsTripIn}
 use Rattle.flight_routes.specs.Prices.{PriceTable, priced_cost, priced_cost_of}
 use Rattle.flight_routes.specs.RateLists.{IsBlank, RateLists, place_of, rates_of}
 use Rattle.flight_routes.specs.Rates.{AreClear, IsWay, Rates, whole_cost}
 use Rattle.exact_sums.specs.Near.{IsNear}
-use Rattle.flight_routes.specs.Ready.{AreRising, AreWindows, IsReady, IsUpward, row_of}
+use Rattle.flight_routes.specs.Ready.{AreRising, AreSmall, AreWindows, IsReady, IsUpward, row_of}
 use Rattle.flight_routes.specs.TripOrder.{IsNoLater}
 use Rattle.flight_routes.specs.TripRates.{AreTripRates}
 use Rattle.flight_routes.proofs.FitFacts.{allowed_cost, allowed_fits, fits_allowed}
+use Rattle.flight_routes.proofs.GuideFacts.{fits_guide, guide_cost, guide_fits, there_if}
 use Rattle.flight_routes.proofs.TripFacts.{IsRowOf, in_day, in_hours, trip_way, way_trip}
 use Rattle.flight_routes.proofs.TripRateFacts.{all_allowed, priced_is}
 
@@ -166,6 +169,44 @@ module _ (parts : Parts) (valid : IsScenario parts) (box : Box) (of : IsBoxOf pa
         (whole_cost rates) (trip_cost_at parts.tables (slice_get parts.flights number)) fit_to
         fit_back IsNoLater
 
+  -- under prices, beside the loads
+  module _ (weight : ℕ) (table : PriceTable) (trips : List (List Stop))
+      (long : number < length trips) (fit price rates : Rates)
+      (fit_are : AreFitRates parts trips number flight row fit)
+      (price_are : AreTripRates weight table parts number flight row price)
+      (guide_are : AreGuideRates flight row fit price rates) where
+    guide_to : (stops : List Stop) → IsWay flight row rates stops
+        → IsTripThatFits parts box trips number stops
+        × (priced_cost weight table parts number stops ≡ whole_cost rates stops)
+    guide_to stops way =
+        let fits = (fit_to trips long fit fit_are stops
+        (guide_fits flight row fit price rates guide_are stops way)).0 in
+        let cost = (priced_to weight table price price_are stops
+        (priced_back weight table price price_are stops fits.inside)).1 in
+        (fits, cost ∙ sym (guide_cost flight row fit price rates guide_are stops way))
+
+    guide_back : (stops : List Stop) → IsTripThatFits parts box trips number stops
+        → IsWay flight row rates stops
+    guide_back stops is =
+        fits_guide flight row fit price rates guide_are
+        (λ t window. there_if (price.leaves t) _ (price_are.leaves t window))
+        (λ n t last window. there_if (price.arrives t) _ (price_are.arrives n t last window))
+        stops (fit_back trips long fit fit_are stops is)
+
+    pub guide_least : (least : Option ℤ)
+        → IsLeast (IsWay flight row rates) (whole_cost rates) least
+        → IsLeast (IsTripThatFits parts box trips number)
+        (priced_cost weight table parts number) least
+    guide_least = least_said (IsWay flight row rates) (IsTripThatFits parts box trips number)
+        (whole_cost rates) (priced_cost weight table parts number) guide_to guide_back
+
+    pub guide_first : (stops : List Stop)
+        → IsFirstLeast (IsWay flight row rates) (whole_cost rates) IsNoLater stops
+        → IsFirstLeast (IsTripThatFits parts box trips number)
+        (priced_cost weight table parts number) IsNoLater stops
+    guide_first = first_said (IsWay flight row rates) (IsTripThatFits parts box trips number)
+        (whole_cost rates) (priced_cost weight table parts number) guide_to guide_back IsNoLater
+
 -- what is read of a list of one number
 read_replicate : {X : Type 0} (n k : ℕ) (x : X) → (k < n) ⊎ (n ≤ k) → get_or (replicate n x) k x ≡ x
 read_replicate n k x (inl within) = get_or-replicate n k x x within
@@ -272,6 +313,28 @@ module _ (parts : Parts) (valid : IsScenario parts) (box : Box) (of : IsBoxOf pa
     network = network;
   }
 
+  pub most_windows : AreWindows most_periods row
+  most_windows = record {
+    proper = proper;
+    within = λ n t window.
+        let day = day_windows.within n t window in
+        let few = valid.day.periods_to in
+        omega (arith, day, few);
+  }
+
+  pub guide_ready : (lists : RateLists) → lists.periods ≡ parts.day.periods
+      → AreClear lists.periods (rates_of lists) → AreSmall (rates_of lists)
+      → IsReady flight row lists.periods (rates_of lists)
+  guide_ready lists is clear small = record {
+    day = record {
+      few = omega (arith, is, valid.day.periods_to);
+      clear = clear;
+      small = small;
+    };
+    windows = subst (λ p. AreWindows p row) (sym is) day_windows;
+    network = network;
+  }
+
   pub fit_ready : (lists : RateLists) → lists.periods ≡ parts.day.periods → IsFitTable lists
       → IsReady flight row lists.periods (rates_of lists)
   fit_ready lists is table = record {
@@ -288,6 +351,75 @@ module _ (parts : Parts) (valid : IsScenario parts) (box : Box) (of : IsBoxOf pa
     windows = subst (λ p. AreWindows p row) (sym is) day_windows;
     network = network;
   }
+
+-- The rates of prices where trips fit: the departures, then the arrivals are closed, and then what
+-- is clear is taken from the table beside the loads.
+module _ (flight : Flight) (row : ℕ → Access) (last : ℕ) (end_is : last + 1 ≡ length flight.nodes)
+    (first closed_one closed_both fits guide other : RateLists)
+    (one : OnlyEnd Departure first closed_one) (two : OnlyEnd Arrival closed_one closed_both)
+    (exchanged : AreExchanged closed_both fits guide other) where
+  paid_same : guide.paid ≡ first.paid
+  paid_same = exchanged.paid ∙ two.paid ∙ one.paid
+
+  leaves_same : guide.leaves ≡ closed_one.leaves
+  leaves_same = exchanged.leaves ∙ two.leaves
+
+  pub guide_rates : ((t : ℕ) → IsInWindow (row 0).window t
+      → (rates_of closed_one).leaves t
+      ≡ if_both ((rates_of fits).leaves t) ((rates_of first).leaves t))
+      → ((t : ℕ) → IsInWindow (row last).window t
+      → (rates_of closed_both).arrives t
+      ≡ if_both ((rates_of fits).arrives t) ((rates_of closed_one).arrives t))
+      → AreGuideRates flight row (rates_of fits) (rates_of first) (rates_of guide)
+  guide_rates leaving arriving = record {
+    leaves = λ t window.
+        ap (λ (xs : List (Option ℤ)). get_or xs t None) leaves_same ∙ leaving t window;
+    arrives = λ n t at_last window.
+        let same : n ≡ last = omega (arith, at_last, end_is) in
+        ap (λ (xs : List (Option ℤ)). get_or xs t None) exchanged.arrives
+        ∙ arriving t (subst (λ (k : ℕ). IsInWindow (row k).window t) same window)
+        ∙ ap (λ (xs : List (Option ℤ)). if_both ((rates_of fits).arrives t) (get_or xs t None))
+        one.arrives;
+    paid = λ n t. ap (λ (xs : List ℤ). get_or xs (place_of n t) (pos 0)) paid_same;
+    clear = λ n t.
+        ap (λ (xs : List ℕ). get_or xs (place_of n t) most_periods) exchanged.clear;
+  }
+
+  pub guide_rising : (periods : ℕ) → AreRising flight periods (rates_of first)
+      → AreRising flight periods (rates_of guide)
+  guide_rising periods rising =
+      subst (λ (paid : List ℤ). (n t u : ℕ) → n + 1 < length flight.nodes → t ≤ u → u < periods
+      → get_or paid (place_of n t) (pos 0) ≤ℤ get_or paid (place_of n u) (pos 0))
+      (sym paid_same) rising
+
+  pub guide_small : IsPriceTable first → (AreSmallAt Departure first → AreSmallAt Departure closed_one)
+      → (AreSmallAt Arrival closed_one → AreSmallAt Arrival closed_both)
+      → AreSmall (rates_of guide)
+  guide_small table within within_too = record {
+    leaves = subst (λ (xs : List (Option ℤ)). (t : ℕ) → IfSome (get_or xs t None) (IsNear (2 ^ 110)))
+        (sym leaves_same) (within table.leaves);
+    arrives = subst
+        (λ (xs : List (Option ℤ)). (t : ℕ) → IfSome (get_or xs t None) (IsNear (2 ^ 110)))
+        (sym exchanged.arrives)
+        (within_too (subst
+        (λ (xs : List (Option ℤ)). (t : ℕ) → IfSome (get_or xs t None) (IsNear (2 ^ 110)))
+        (sym one.arrives) table.arrives));
+    paid = subst
+        (λ (xs : List ℤ). (n t : ℕ) → IsNear (2 ^ 100) (get_or xs (place_of n t) (pos 0)))
+        (sym paid_same) table.paid;
+  }
+
+  pub guide_clear : (periods : ℕ) → fits.periods ≡ periods → periods ≤ most_periods
+      → IsFitTable fits → AreClear periods (rates_of guide)
+  guide_clear periods same few table =
+      subst (λ (xs : List ℕ). (n t : ℕ) → t + 1 < periods
+      → (get_or xs (place_of n t) most_periods ≡ t)
+      ⊎ ((t < get_or xs (place_of n t) most_periods)
+      × (get_or xs (place_of n t) most_periods
+      ≡ get_or xs (place_of n (t + 1)) most_periods)))
+      (sym exchanged.clear)
+      (subst (λ (p : ℕ). AreClear p (rates_of fits)) same
+      (λ n. fit_clear_by fits n (omega (arith, same, few)) table (cases_lt n most_nodes)))
 
 -- a whole vector that was written through a slice
 pub written : {X : Type 0} (len : ℕ) (news items read : List X)

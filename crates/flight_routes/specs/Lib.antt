@@ -7,6 +7,7 @@ pub mod Firsts
 pub mod FitRates
 pub mod FitTimes
 pub mod Fits
+pub mod GuideRates
 pub mod Inside
 pub mod Later
 pub mod PriceRates

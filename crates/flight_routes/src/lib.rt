@@ -1,5 +1,5 @@
-//! The least trip of a flight in a box: under prices on capacities and connections, or beside the
-//! trips of other flights. It is a shortest path through nodes and periods, found by dynamic
+//! The least trip of a flight in a box: under prices on capacities and connections, beside the trips
+//! of other flights, or both. It is a shortest path through nodes and periods, found by dynamic
 //! programming from the last node to the first.
 //!
 //! A caller makes `Work` once for a scenario, and asks for one flight at a time:
@@ -20,17 +20,18 @@
 //! fit beside the trips of others), `Prices` (prices, and what a trip costs under them) and
 //! `TripOrder` (the order of trips). `Work` is what the room for least trips is seen as. The others
 //! serve the proof: `Rates` and `Ways` (what a flight pays on its way, and the least ways on from a
-//! stop), `TripRates` and `FitRates` (the rates at which ways are trips), `Entries` and `Firsts`
+//! stop), `TripRates`, `FitRates` and `GuideRates` (the rates at which ways are trips, trips that fit,
+//! and trips that fit under prices), `Entries` and `Firsts`
 //! (the next stop), `Early` (ways that end early), and `Costs`, `Ends`, `Filling`, `FitTimes`,
 //! `Later`, `PriceRates`, `RateLists`, `Ready`, `TimeCosts` and `TurnTimes`.
 //!
-//! Proved: `least_trip` and `least_fit` answer the least over all trips of the flight in the box,
-//! or over all of those that fit, and nothing exactly where there is none (`least`). `trip` is then
+//! Proved: `least_trip` answers the least over all trips of the flight in the box, `least_fit` and
+//! `least_priced_fit` over all of those that fit, and nothing exactly where there is none (`least`). `trip` is then
 //! the first, in the order of trips, of those that reach it, and has no stops where there is none
 //! (`first`). A price is what it was set to last (`here`, `others`), and 0 before (`free`);
 //! `copy_from` takes all those of another `Prices` over.
 //!
-//! Both calls turn their question into rates of the flight: what leaving and arriving in a period
+//! The calls turn their question into rates of the flight: what leaving and arriving in a period
 //! cost, what being at a node has cost up to a period, and how long the flight may stay there. A
 //! table holds the least cost of going on from each node in each period, and is filled from the
 //! destination back. Along each leg, from the last period to the first, the least of the later
@@ -46,7 +47,8 @@
 //! connection and period. The calls take none. Time: `least_trip` looks at each sector of the
 //! flight and each of its connections once a period, and at its legs once a node and once a period
 //! between the windows that they join, as far as these are cut, all fillings together at most some
-//! twice; `least_fit` does the same, with its connections once in all.
+//! twice; `least_fit` does the same, with its connections once in all; and `least_priced_fit` fills
+//! the rates of both.
 #![tactic(auto)]
 
 mod accesses;
@@ -56,6 +58,7 @@ mod early;
 mod ends;
 mod fill;
 mod fit_rates;
+mod guide_rates;
 mod later;
 mod price_block;
 mod price_rates;

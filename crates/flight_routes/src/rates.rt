@@ -204,6 +204,7 @@ impl RateTable {
     ghost use Rattle.std.specs.Prelude.{◌≡◌, ◌≢◌, ◌<◌, ◌^◌, ℕ, pos};
     ghost use Rattle.flow_types.specs.Limits.{most_nodes, most_periods};
     ghost use Rattle.flight_routes.specs.Filling.{ArePaidSmall, OnlyClear, OnlyEnd, OnlyPaid};
+    ghost use Rattle.flight_routes.specs.GuideRates.{AreExchanged};
     ghost use Rattle.flight_routes.specs.RateLists.{rates_of};
     ghost use Rattle.flight_routes.specs.Rates.{rate_at};
 
@@ -245,5 +246,12 @@ impl RateTable {
         ensures only { OnlyClear node self.old self.new }
     {
         self.clear[place_of(node, time)] = first;
+    }
+
+    /// Exchanges what is clear in the two tables.
+    pub fn exchange_clear(&mut self, other: &mut RateTable)
+        ensures { AreExchanged self.old other.old self.new other.new }
+    {
+        std::mem::swap(&mut self.clear, &mut other.clear);
     }
 }

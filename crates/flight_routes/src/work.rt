@@ -13,15 +13,17 @@ use crate::cost::Cost;
 use crate::distances::distances_of;
 use crate::early::{about_first_end, early_way, last_end};
 use crate::fit_rates::set_fit_rates;
+use crate::guide_rates::close_end_in;
 use crate::price_rates::set_price_rates;
 use crate::prices::Prices;
 use crate::rates::RateTable;
 use crate::table::Table;
+use crate::time_costs::last_of;
 use flow_types::{Flight, MOST_NODES, OutOfMemory, Scenario, Stop};
 use plan_rules::Loads;
 use std::alloc::Global;
 use std::marker::Model;
-use time_windows::{Access, Boxes};
+use time_windows::{Access, Boxes, End};
 
 /// The room in which least trips are found, made once for a scenario: 0.9 MB. Contracts see it as
 /// the stops of the last least trip and the periods of the scenario.
@@ -197,6 +199,71 @@ impl Work {
             &mut self.stops,
         )
         .get()
+    }
+
+    /// The least of weight times cost plus prices over the trips of the flight in the box that fit
+    /// beside the trips that the loads count, as for `least_fit`. Nothing where there is no such
+    /// trip. The flight isn't in the loads yet; it, the box, the prices and the loads are of the
+    /// scenario that the work was made for, and the weight is below 2^62. It takes no memory, and
+    /// the time of both other calls.
+    pub fn least_priced_fit(
+        &mut self,
+        s: &Scenario,
+        boxes: &Boxes,
+        flight: u32,
+        weight: u64,
+        prices: &Prices,
+        loads: &Loads,
+    ) -> Option<i128>
+        requires made { IsWorkFor (parts_of s.now) self.old }
+        requires boxes { IsMadeFor (parts_of s.now) boxes.now }
+        requires flight { flight < length (parts_of s.now).flights }
+        requires weight { weight < 2 ^ 62 }
+        requires prices { ArePricesOf (parts_of s.now) prices.now }
+        requires loads { AreLoadsFor (parts_of s.now) loads.now }
+        ensures least { (trips : List (List Stop)) → AreLoads (parts_of s.now) trips loads.now
+            → IsLeast (IsTripThatFits (parts_of s.now) (box_of boxes.now) trips flight)
+            (priced_cost weight prices.now (parts_of s.now) flight) result }
+        ensures first { (trips : List (List Stop)) → AreLoads (parts_of s.now) trips loads.now
+            → MatchOption result (self.new.trip ≡ []) (λ least.
+            IsFirstLeast (IsTripThatFits (parts_of s.now) (box_of boxes.now) trips flight)
+            (priced_cost weight prices.now (parts_of s.now) flight) IsNoLater self.new.trip) }
+        ensures made { IsWorkFor (parts_of s.now) self.new }
+    {
+        take_row(&mut self.accesses, boxes, flight);
+        let row: &[Access] = &self.accesses;
+        set_price_rates(
+            &mut self.priced,
+            &mut self.sums,
+            s,
+            row,
+            flight,
+            weight,
+            prices,
+            boxes.turns(),
+        );
+        set_fit_rates(&mut self.fitting, s, row, flight, loads, boxes.turns());
+        let details = &s.flights()[flight as usize];
+        close_end_in(&mut self.priced, &self.fitting, End::Departure, row, 0);
+        close_end_in(
+            &mut self.priced,
+            &self.fitting,
+            End::Arrival,
+            row,
+            last_of(details),
+        );
+        // A stay is as long as it fits while the least is looked for.
+        self.priced.exchange_clear(&mut self.fitting);
+        let least = least_way(
+            &mut self.table,
+            details,
+            row,
+            &mut self.cut,
+            &self.priced,
+            &mut self.stops,
+        );
+        self.priced.exchange_clear(&mut self.fitting);
+        least.get()
     }
 
     /// The stops of the first, in the order of trips, of those that reached the least that was
