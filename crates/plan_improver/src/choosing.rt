@@ -71,6 +71,12 @@ impl Chosen {
         self.flights.get(position).copied()
     }
 
+    /// A number that is drawn by lot, so great on average, which is told in 1,024ths.
+    pub fn drawn(&mut self, mean: u64) -> i64 {
+        let twice = mean.saturating_mul(self.generator.below(2048) as u64) >> 20;
+        twice.min(1 << 60) as i64
+    }
+
     /// Chooses this flight alone.
     pub fn choose_one(&mut self, flight: u32) -> Result<(), OutOfMemory> {
         self.flights.clear();
@@ -78,7 +84,8 @@ impl Chosen {
         Ok(())
     }
 
-    /// Chooses a delayed flight with some that are in its way, and tells whether one is delayed.
+    /// Chooses a delayed flight with some that are in its way, and tells whether one is delayed. In
+    /// one of two choices it is one that is left out, if there is such a flight.
     pub fn choose(
         &mut self,
         s: &Scenario,
@@ -89,7 +96,10 @@ impl Chosen {
         requires loads { IsMadeFor (parts_of s.now) loads.now }
         requires count { length choices.now ≡ length (parts_of s.now).flights }
     {
-        list_delayed(&mut self.delayed, choices)?;
+        list_left_out(&mut self.delayed, choices)?;
+        if self.delayed.is_empty() || self.generator.below(2) == 0 {
+            list_delayed(&mut self.delayed, choices)?;
+        }
         if self.delayed.is_empty() {
             return Ok(false);
         }
@@ -154,6 +164,19 @@ impl Chosen {
         self.others.truncate(1 + self.generator.below(MOST_OTHERS));
         Ok(())
     }
+}
+
+// Lists the flights without a trip.
+fn list_left_out(flights: &mut Vec<u32>, choices: &[Choice]) -> Result<(), OutOfMemory>
+    requires { length choices.now < 2 ^ 32 }
+{
+    flights.clear();
+    for flight in 0..choices.len() {
+        if choices[flight].trip.items().is_empty() {
+            flights.push(flight as u32)?;
+        }
+    }
+    Ok(())
 }
 
 // Lists the flights that cost more than their least.

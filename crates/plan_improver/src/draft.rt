@@ -38,15 +38,14 @@ pub fn extra_of(s: &Scenario, flight: u32, stops: &[Stop], least: i64) -> i64
     }
 }
 
-/// A choice for each flight, with the trips of the start, which has none for flights that are left
-/// out; nothing where a flight has no trip in the box even if it is alone. The loads hold no trips.
+/// A choice for each flight, which is left out; nothing where a flight has no trip in the box even if
+/// it is alone. The loads hold no trips.
 pub fn choices_of(
     alloc: Global,
     s: &Scenario,
     boxes: &Boxes,
     work: &mut Work,
     loads: &Loads,
-    start: &[Trip],
 ) -> Result<Option<Vec<Choice>>, OutOfMemory>
     requires boxes { IsMadeFor (parts_of s.now) boxes.now }
     requires work { IsWorkFor (parts_of s.now) work.old }
@@ -61,43 +60,21 @@ pub fn choices_of(
         if work.least_fit(s, boxes, flight, loads).is_none() {
             return Ok(None);
         }
-        choices.push(choice_of(alloc, s, flight, work.trip(), start)?)?;
+        choices.push(left_out(alloc, s, flight, work.trip())?)?;
     }
     Ok(Some(choices))
 }
 
-// What the flight has at the start, with its least trip if it were alone.
-fn choice_of(
-    alloc: Global,
-    s: &Scenario,
-    flight: u32,
-    alone: &[Stop],
-    start: &[Trip],
-) -> Result<Choice, OutOfMemory>
+// The flight without a trip, with its least one if it were alone.
+fn left_out(alloc: Global, s: &Scenario, flight: u32, alone: &[Stop]) -> Result<Choice, OutOfMemory>
     requires { flight < length (parts_of s.now).flights }
 {
-    let trip = match start.get(flight as usize) {
-        None => Trip::empty(alloc),
-        Some(trip) => Trip::from_stops(alloc, trip.items())?,
-    };
-    let least = trip_cost(s, flight, alone);
     Ok(Choice {
         alone: Trip::from_stops(alloc, alone)?,
-        least,
-        extra: extra_of(s, flight, trip.items(), least),
-        trip,
+        least: trip_cost(s, flight, alone),
+        trip: Trip::empty(alloc),
+        extra: LEFT_OUT,
     })
-}
-
-/// Adds the trips of all flights to loads that have none.
-pub fn add_trips(loads: &mut Loads, s: &Scenario, choices: &[Choice])
-    requires loads { AreLoadsFor (parts_of s.now) loads.old }
-    requires count { length choices.now ≡ length (parts_of s.now).flights }
-    ensures { AreLoadsFor (parts_of s.now) loads.new }
-{
-    for flight in 0..choices.len() {
-        loads.add(s, flight as u32, choices[flight].trip.items());
-    }
 }
 
 /// The plan that the choices make.

@@ -9,8 +9,7 @@ ghost use Rattle.plan_improver.specs.Cheaper.{IsCheaper, IsLess};
 ghost use Rattle.time_windows.specs.Plans.{IsPlanIn};
 
 use crate::choosing::Chosen;
-use crate::draft::{Choice, add_trips, choices_of, extra_of, plan_of};
-use crate::fits::fits;
+use crate::draft::{Choice, choices_of, extra_of, plan_of};
 use crate::inside::is_in_box;
 use flight_routes::{Prices, Work};
 use flow_types::{Bound, Flight, OutOfMemory, Plan, Scenario, Trip};
@@ -19,15 +18,20 @@ use std::alloc::Global;
 use std::marker::Model;
 use time_windows::Boxes;
 
-// How many trials there are for each flight.
-const TRIALS_A_FLIGHT: usize = 40;
+// How many trials there are, and how many more for each flight.
+const TRIALS: usize = 6_000;
+
+const TRIALS_A_FLIGHT: usize = 20;
 
 // How many legs, times the periods of the day, the trials may look at, if each takes one flight
 // out.
 const MOST_STEPS: usize = 40_000_000;
 
-// By which part of itself the weight of costs beside prices is raised.
-const MORE: u64 = 32;
+// By which factor costs weigh more beside prices, trial by trial; 0 where prices are passed over.
+const FACTORS: [u64; 8] = [1, 1, 1, 2, 2, 4, 64, 0];
+
+// More than any weight that costs may have.
+const MOST_WEIGHT: u64 = 1 << 61;
 
 // A trip that a flight is given in a trial, and how much more than the least it costs.
 #[derive(Debug, Drop)]
@@ -98,20 +102,21 @@ impl Improver {
 
     /// A plan in the box that keeps every rule, and costs less than the start if that keeps them
     /// too; nothing where the search finds none. The start may be any list of trips, as of the
-    /// first flights alone: where it breaks a rule, the search begins with the greedy plan, as far
-    /// as it goes.
+    /// first flights alone: the search begins with it only where it keeps every rule and costs no
+    /// more than a plan of its own.
     ///
     /// Flights are put back by prices too, where costs weigh so much: the better the prices, the
     /// better the plan. It ends where a plan costs no more than a bound that is enough.
     ///
     /// The box and the prices are of the scenario that the room was made for. What it is given
-    /// tells the plan, whatever was searched before. It takes memory for the stops of three plans
-    /// while it runs, and for the plan; time for forty trials a flight, fewer on long days with
-    /// many legs, each as 24 least trips at the most and a look at each flight. The room keeps
-    /// nothing that a caller sees, so it is as good as before also after want of memory.
+    /// tells the plan, whatever was searched before. It takes memory for the stops of four plans
+    /// while it runs, and for the plan; time for 6,000 trials and twenty more a flight, fewer on long
+    /// days with many legs, each as 24 least trips at the most and a look at each flight. The room
+    /// keeps nothing that a caller sees, so it is as good as before also after want of memory.
     ///
     /// Large neighbourhood search (Shaw, "Using constraint programming and local search methods to
-    /// solve vehicle routing problems", 1998).
+    /// solve vehicle routing problems", 1998), where dearer plans are taken too, the seldomer the
+    /// later (simulated annealing).
     pub fn cheaper_plan(
         &mut self,
         alloc: Global,
@@ -131,13 +136,18 @@ impl Improver {
         ensures made { IsSearchRoomFor (parts_of s.now) self.new }
     {
         self.chosen.restart();
-        let verdict = judge(&mut self.loads, s, start);
-        if !self.fill(alloc, s, boxes, trips_kept(verdict, start))? {
+        let known = judge(&mut self.loads, s, start);
+        if !self.fill(alloc, s, boxes)? {
             return Ok(None);
         }
-        self.place_all(alloc, s, boxes)?;
-        self.search(alloc, s, boxes, prices, weight + weight / MORE, enough)?;
-        let plan = plan_of(alloc, &self.choices)?;
+        self.place_all(alloc, s, boxes, prices, weight)?;
+        if costs_no_more(known, cost_of(&self.choices)) {
+            self.loads.clear();
+            take_over(alloc, s, &mut self.loads, &mut self.choices, start)?;
+        }
+        let mut best = Best::none();
+        self.search(alloc, s, boxes, prices, weight, enough, &mut best)?;
+        let plan = best.plan(alloc)?;
         Ok(if_cheaper(&mut self.loads, s, boxes, start, plan))
     }
 
@@ -153,14 +163,8 @@ impl Improver {
         if_kept(&mut self.loads, s, boxes, plan)
     }
 
-    // Takes the start for the present plan, and tells whether each flight has a trip at all.
-    fn fill(
-        &mut self,
-        alloc: Global,
-        s: &Scenario,
-        boxes: &Boxes,
-        start: &[Trip],
-    ) -> Result<bool, OutOfMemory>
+    // Leaves all flights out, and tells whether each has a trip at all.
+    fn fill(&mut self, alloc: Global, s: &Scenario, boxes: &Boxes) -> Result<bool, OutOfMemory>
         requires made { IsSearchRoomFor (parts_of s.now) self.old }
         requires boxes { IsMadeFor (parts_of s.now) boxes.now }
         ensures filled { IfOk result
@@ -168,34 +172,46 @@ impl Improver {
         ensures made { IsSearchRoomFor (parts_of s.now) self.new }
     {
         self.loads.clear();
-        let found = choices_of(alloc, s, boxes, &mut self.work, &self.loads, start)?;
-        match found {
+        match choices_of(alloc, s, boxes, &mut self.work, &self.loads)? {
             None => Ok(false),
             Some(choices) => {
-                add_trips(&mut self.loads, s, &choices);
                 self.choices = choices;
                 Ok(true)
             }
         }
     }
 
-    // Tries to give a trip to each flight that is left out.
-    fn place_all(&mut self, alloc: Global, s: &Scenario, boxes: &Boxes) -> Result<(), OutOfMemory>
+    // Gives each flight its least trip by the prices that fits, if there is one, in the order of
+    // their scheduled departures.
+    fn place_all(
+        &mut self,
+        alloc: Global,
+        s: &Scenario,
+        boxes: &Boxes,
+        prices: &Prices,
+        weight: u64,
+    ) -> Result<(), OutOfMemory>
         requires filled { IsFilledFor (parts_of s.now) self.old }
         requires boxes { IsMadeFor (parts_of s.now) boxes.now }
+        requires prices { ArePricesOf (parts_of s.now) prices.now }
+        requires weight { weight < 2 ^ 62 }
         ensures filled { IsFilledFor (parts_of s.now) self.new }
     {
-        for flight in 0..self.choices.len() {
-            if self.choices[flight].trip.items().is_empty() {
-                self.chosen.choose_one(flight as u32)?;
-                self.exchange(alloc, s, boxes, None, 0)?;
+        for (_, flight) in by_departure(alloc, s)? {
+            self.chosen.choose_one(flight)?;
+            if self
+                .try_others(alloc, s, boxes, Some(prices), weight, 0)?
+                .is_some()
+            {
+                accept(&mut self.choices, &mut self.offers);
             }
         }
         Ok(())
     }
 
     // Makes trials, while a flight is delayed and the plan costs more than what is enough: seven of
-    // eight by the prices.
+    // eight by the prices. A plan that costs more is taken too, the seldomer the more it costs and
+    // the more trials were made; the best is kept.
     fn search(
         &mut self,
         alloc: Global,
@@ -204,36 +220,55 @@ impl Improver {
         prices: &Prices,
         weight: u64,
         enough: Bound,
+        best: &mut Best,
     ) -> Result<(), OutOfMemory>
         requires filled { IsFilledFor (parts_of s.now) self.old }
         requires boxes { IsMadeFor (parts_of s.now) boxes.now }
         requires prices { ArePricesOf (parts_of s.now) prices.now }
-        requires weight { weight < 2 ^ 62 }
+        requires weight { weight < 2 ^ 61 }
         ensures filled { IsFilledFor (parts_of s.now) self.new }
     {
+        let delay = delay_cost(s);
+        let trials = trials_of(s);
         let mut cost = cost_of(&self.choices);
-        for trial in 0..trials_of(s) {
+        for trial in 0..trials {
             if is_enough(enough, cost)
                 || !self.chosen.choose(s, boxes, &self.loads, &self.choices)?
             {
-                return Ok(());
+                return best.keep(alloc, cost, &self.choices);
             }
-            let guide = if trial % 8 == 7 { None } else { Some(prices) };
-            cost = cost.saturating_sub(self.exchange(alloc, s, boxes, guide, weight)?);
+            let more = self.chosen.drawn(heat(delay, trials - trial, trials));
+            let factor = FACTORS[trial % 8];
+            let guide = if factor == 0 { None } else { Some(prices) };
+            if let Some(gain) = self.try_others(
+                alloc,
+                s,
+                boxes,
+                guide,
+                weighted(weight, factor),
+                more,
+            )? {
+                if gain < 0 {
+                    best.keep(alloc, cost, &self.choices)?;
+                }
+                accept(&mut self.choices, &mut self.offers);
+                cost = cost.saturating_sub(gain);
+            }
         }
-        Ok(())
+        best.keep(alloc, cost, &self.choices)
     }
 
-    // Gives the chosen flights other trips, if these cost no more together, and tells how much
-    // less.
-    fn exchange(
+    // Offers the chosen flights other trips, and tells how much less these cost together; nothing
+    // where they cost over so much more, and then the present ones stay in the loads.
+    fn try_others(
         &mut self,
         alloc: Global,
         s: &Scenario,
         boxes: &Boxes,
         guide: Option<&Prices>,
         weight: u64,
-    ) -> Result<i64, OutOfMemory>
+        more: i64,
+    ) -> Result<Option<i64>, OutOfMemory>
         requires filled { IsFilledFor (parts_of s.now) self.old }
         requires boxes { IsMadeFor (parts_of s.now) boxes.now }
         requires guide { IfSome guide (λ prices. ArePricesOf (parts_of s.now) prices.now) }
@@ -242,15 +277,13 @@ impl Improver {
     {
         let extra = take_out(&mut self.loads, s, &self.choices, self.chosen.flights());
         self.offers.clear();
-        match self.put_back(alloc, s, boxes, guide, weight, extra)? {
-            Some(gain) => {
-                accept(&mut self.choices, &mut self.offers);
-                Ok(gain)
-            }
+        let most = extra.saturating_add(more);
+        match self.put_back(alloc, s, boxes, guide, weight, most)? {
+            Some(left) => Ok(Some(left.saturating_sub(more))),
             None => {
                 refuse(&mut self.loads, s, &self.offers);
                 put_in(&mut self.loads, s, &self.choices, self.chosen.flights());
-                Ok(0)
+                Ok(None)
             }
         }
     }
@@ -284,8 +317,8 @@ impl Improver {
         Ok(Some(left))
     }
 
-    // Offers the flight its least trip by the prices, if it fits, else the least that fits; and
-    // tells how much more than its least it costs.
+    // Offers the flight the least trip that fits, by the prices if there are some; and tells how
+    // much more than its least it costs.
     fn offer(
         &mut self,
         alloc: Global,
@@ -305,9 +338,7 @@ impl Improver {
             return Ok(0);
         };
         let least = choice.least;
-        if !finds_priced(&mut self.work, s, &self.loads, boxes, guide, weight, flight) {
-            let _fit = self.work.least_fit(s, boxes, flight, &self.loads);
-        }
+        find_fit(&mut self.work, s, &self.loads, boxes, guide, weight, flight);
         let trip = Trip::from_stops(alloc, self.work.trip())?;
         let extra = extra_of(s, flight, trip.items(), least);
         self.loads.add(s, flight, trip.items());
@@ -320,8 +351,62 @@ impl Improver {
     }
 }
 
-// Finds the flight's least trip by the prices, if there are some, and tells whether it fits.
-fn finds_priced(
+// The best plan of a search so far.
+#[derive(Debug, Drop)]
+struct Best {
+    cost: i64,
+    plan: Option<Plan>,
+}
+
+impl Best {
+    fn none() -> Best {
+        Best {
+            cost: i64::MAX,
+            plan: None,
+        }
+    }
+
+    // Keeps the plan that the choices make, if it costs less.
+    fn keep(&mut self, alloc: Global, cost: i64, choices: &[Choice]) -> Result<(), OutOfMemory> {
+        if cost < self.cost {
+            self.plan = Some(plan_of(alloc, choices)?);
+            self.cost = cost;
+        }
+        Ok(())
+    }
+
+    // The plan that was kept last, of no flights where none was.
+    fn plan(self, alloc: Global) -> Result<Plan, OutOfMemory> {
+        Ok(self.plan.unwrap_or(Plan::empty(alloc)))
+    }
+}
+
+// Takes the trips of the plan for the present ones. The loads have none yet.
+fn take_over(
+    alloc: Global,
+    s: &Scenario,
+    loads: &mut Loads,
+    choices: &mut [Choice],
+    plan: &Plan,
+) -> Result<(), OutOfMemory>
+    requires loads { AreLoadsFor (parts_of s.now) loads.old }
+    requires count { length choices.old ≡ length (parts_of s.now).flights }
+    ensures loads { AreLoadsFor (parts_of s.now) loads.new }
+    ensures count { length choices.new ≡ length choices.old }
+{
+    for number in 0..choices.len() {
+        if let Some(trip) = plan.items().get(number) {
+            let flight = number as u32;
+            choices[number].extra = extra_of(s, flight, trip.items(), choices[number].least);
+            choices[number].trip = Trip::from_stops(alloc, trip.items())?;
+            loads.add(s, flight, trip.items());
+        }
+    }
+    Ok(())
+}
+
+// Finds the flight's least trip that fits, by the prices if there are some.
+fn find_fit(
     work: &mut Work,
     s: &Scenario,
     loads: &Loads,
@@ -329,7 +414,7 @@ fn finds_priced(
     guide: Option<&Prices>,
     weight: u64,
     flight: u32,
-) -> bool
+)
     requires work { IsWorkFor (parts_of s.now) work.old }
     requires loads { AreLoadsFor (parts_of s.now) loads.now }
     requires boxes { IsMadeFor (parts_of s.now) boxes.now }
@@ -338,12 +423,53 @@ fn finds_priced(
     requires flight { flight < length (parts_of s.now).flights }
     ensures { IsWorkFor (parts_of s.now) work.new }
 {
-    match guide {
-        None => false,
-        Some(prices) => {
-            work.least_trip(s, boxes, flight, weight, prices).is_some()
-                && fits(s, loads, boxes, flight, work.trip())
+    let _least = match guide {
+        None => work.least_fit(s, boxes, flight, loads),
+        Some(prices) => work.least_priced_fit(s, boxes, flight, weight, prices, loads),
+    };
+}
+
+// So many times the weight, if that is a weight.
+fn weighted(weight: u64, factor: u64) -> u64
+    ensures { result < 2 ^ 62 }
+{
+    weight.saturating_mul(factor).min(MOST_WEIGHT)
+}
+
+// What a period of delay costs on average, 1 at least.
+fn delay_cost(s: &Scenario) -> u64 {
+    let mut sum = 0i64;
+    let mut count = 0i64;
+    for flight in 0..s.flights().len() {
+        if s.flights()[flight].md > 0 {
+            let number = flight as u32;
+            sum = sum.saturating_add(s.total(number, 1).saturating_sub(s.total(number, 0)));
+            count = count.saturating_add(1);
         }
+    }
+    (sum / count.max(1)).max(1) as u64
+}
+
+// By how much a plan may cost more on average, in 1,024ths, with so many trials left.
+fn heat(delay: u64, left: usize, trials: usize) -> u64 {
+    delay.saturating_mul(1024).saturating_mul(left as u64) / (trials.max(1) as u64)
+}
+
+// The scheduled departures and the numbers of all flights, in that order.
+fn by_departure(alloc: Global, s: &Scenario) -> Result<Vec<(u16, u32)>, OutOfMemory> {
+    let mut departures = Vec::new(alloc);
+    for flight in 0..s.flights().len() {
+        departures.push((s.flights()[flight].sd, flight as u32))?;
+    }
+    departures.sort_unstable();
+    Ok(departures)
+}
+
+// Whether the plan of the verdict keeps every rule, and costs no more than so much.
+fn costs_no_more(verdict: Verdict, most: i64) -> bool {
+    match verdict {
+        Verdict::Keeps { cost } => cost <= most,
+        Verdict::Breaks(_) => false,
     }
 }
 
@@ -389,14 +515,6 @@ fn if_kept(loads: &mut Loads, s: &Scenario, boxes: &Boxes, plan: Plan) -> Option
     }
 }
 
-// The trips with which the search begins: those of the plan, if it keeps every rule.
-fn trips_kept(verdict: Verdict, plan: &Plan) -> &[Trip] {
-    match verdict {
-        Verdict::Keeps { .. } => plan.items(),
-        Verdict::Breaks(_) => &[],
-    }
-}
-
 // What the plan of the choices costs; flights that are left out count for what that costs.
 fn cost_of(choices: &[Choice]) -> i64 {
     let mut cost = 0i64;
@@ -420,8 +538,12 @@ fn is_enough(enough: Bound, cost: i64) -> bool {
 fn trials_of(s: &Scenario) -> usize {
     let flights = s.flights().len();
     let steps = legs_of(s.flights()).saturating_mul(usize::from(s.day().periods));
-    let trials = MOST_STEPS.saturating_mul(flights) / steps.max(1);
-    trials.min(TRIALS_A_FLIGHT.saturating_mul(flights))
+    let most = MOST_STEPS.saturating_mul(flights) / steps.max(1);
+    most.min(
+        TRIALS_A_FLIGHT
+            .saturating_mul(flights)
+            .saturating_add(TRIALS),
+    )
 }
 
 // How many legs the flights have.

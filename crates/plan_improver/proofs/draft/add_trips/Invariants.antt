@@ -1,6 +1,0 @@
-use Rattle.flow_types.specs.Scenario.{parts_of}
-use Rattle.plan_rules.specs.Loads.{IsMadeFor}
-use Rattle.plan_improver.proofs.draft.add_trips.Given as goal
-
-abbrev pub invariant-loop-flight : goal.invariant-loop-flight
-invariant-loop-flight l = IsMadeFor (parts_of l.s) l.loads
