@@ -1,4 +1,9 @@
 pub mod BestFacts
+pub mod Choices
+pub mod TripChoices
+pub mod ExistFacts
+pub mod ReachFacts
+pub mod FreeFacts
 pub mod StillFacts
 pub mod MoveFacts
 pub mod NearFacts

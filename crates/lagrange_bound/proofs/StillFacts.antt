@@ -1,4 +1,4 @@
--- After round 1,024 the step is 0: prices stay where they are, and no round tells more.
+-- Rounds that leave prices where they are tell no more, as those after round 1,024, of a step of 0.
 use Rattle.std.proofs.Common.{◌≡◌, ◌⊎◌, ℕ, zero, suc, ◌<◌, ◌≤◌, Bool, true, false, if◌then◌else◌, length, inl, inr, refl, sym, subst, arith}
 use Rattle.std.proofs.lemmas.Bool.{cases_lt}
 use Rattle.std.proofs.Math.Nat.{div-eq_of_lt}
@@ -44,57 +44,54 @@ module _ (parts : Parts) where
     rise = λ k within. omega arith;
   }
 
-  -- the prices of round 1,024 are those of each later one
-  module _ (box : Box) (valid : IsScenario parts) (table : PriceTable) (loads : Tally)
-      (size : ArePricesOf parts table)
-      (taken : HaveTaken parts box table (length parts.flights) loads)
-      (after : IsRoundTable parts box 1024 table) (last : Bound)
-      (told : IsTableBound parts box table last) where
-    step_stays : (round : ℕ) → 1024 < round → IsRoundStep parts box round table table
-    step_stays round late =
-        round_played parts box round 0 loads table table (sym (div-eq_of_lt late)) taken
-        (still loads table size)
-
-    stands : (round : ℕ) → 1024 ≤ round → IsRoundTable parts box round table
-    stands zero late = absurd (omega (arith, late))
-    stands (suc before) late = by (cases_lt before 1024) (λ more. stands before more) where
-      by : (before < 1024) ⊎ (1024 ≤ before)
-          → (1024 ≤ before → IsRoundTable parts box before table)
+  -- prices that each round after the first so many leaves as they are
+  module _ (box : Box) (valid : IsScenario parts) (first : ℕ) (table : PriceTable)
+      (after : IsRoundTable parts box first table) (last : Bound)
+      (told : IsTableBound parts box table last)
+      (stay : (round : ℕ) → first < round → IsRoundStep parts box round table table) where
+    stands : (round : ℕ) → first ≤ round → IsRoundTable parts box round table
+    stands zero late =
+        let same : first ≡ 0 = omega (arith, late) in
+        subst (λ n. IsRoundTable parts box n table) same after
+    stands (suc before) late = by (cases_lt before first) (λ more. stands before more) where
+      by : (before < first) ⊎ (first ≤ before)
+          → (first ≤ before → IsRoundTable parts box before table)
           → IsRoundTable parts box (suc before) table
-      by (inl first) goes_on =
-          let same : 1024 ≡ suc before = omega (arith, first, late) in
+      by (inl early) goes_on =
+          let same : first ≡ suc before = omega (arith, early, late) in
           subst (λ n. IsRoundTable parts box n table) same after
-      by (inr more) goes_on =
-          (table, goes_on more, step_stays (suc before) (omega (arith, more)))
+      by (inr more) goes_on = (table, goes_on more, stay (suc before) (omega (arith, more)))
 
-    tells : (round : ℕ) → 1024 ≤ round → IsRoundBound parts box round last
+    tells : (round : ℕ) → first ≤ round → IsRoundBound parts box round last
     tells round late = (table, stands round late, told)
 
-    pub most_stands : (up : Bound) → IsMostOfRounds parts box 1024 up → (rounds : ℕ)
+    pub most_stands : (up : Bound) → IsMostOfRounds parts box first up → (rounds : ℕ)
         → IsMostOfRounds parts box rounds up
     most_stands up most rounds = record {
-      told = λ round within. has round (cases_lt round 1024);
-      no_more = λ round other within at. by round other at (cases_lt round 1024);
+      told = λ round within. has round (cases_lt round first);
+      no_more = λ round other within at. by round other at (cases_lt round first);
     }
       where
-        has : (round : ℕ) → (round < 1024) ⊎ (1024 ≤ round)
+        has : (round : ℕ) → (round < first) ⊎ (first ≤ round)
             → (bound : Bound) × IsRoundBound parts box round bound
         has round (inl early) = most.told round (omega (arith, early))
         has round (inr late) = (last, tells round late)
 
         by : (round : ℕ) (other : Bound) → IsRoundBound parts box round other
-            → (round < 1024) ⊎ (1024 ≤ round) → IsAtMost other up
+            → (round < first) ⊎ (first ≤ round) → IsAtMost other up
         by round other at (inl early) = most.no_more round other (omega (arith, early)) at
         by round other at (inr late) =
             let same = round_same parts box round other last valid at (tells round late) in
             subst (λ b. IsAtMost b up) (sym same)
-            (most.no_more 1024 last (omega arith) (tells 1024 (omega arith)))
+            (most.no_more first last (omega arith) (tells first (omega arith)))
 
--- so the best of 1,024 rounds is the best of more
-pub best_stands : (parts : Parts) (box : Box) (valid : IsScenario parts) (prices best : PriceTable)
-    (loads : Tally) (bound : Bound) (rounds : ℕ) → 1024 ≤ rounds
-    → ArePlayed parts box 1024 prices best loads bound → IsBest parts box rounds best bound
-best_stands parts box valid prices best loads bound rounds late played = record {
+-- so the best of these rounds is the best of more
+pub best_stands : (parts : Parts) (box : Box) (valid : IsScenario parts) (first : ℕ)
+    (prices best : PriceTable) (loads : Tally) (bound : Bound) (rounds : ℕ) → first ≤ rounds
+    → (HaveTaken parts box prices (length parts.flights) loads → (round : ℕ) → first < round
+    → IsRoundStep parts box round prices prices)
+    → ArePlayed parts box first prices best loads bound → IsBest parts box rounds best bound
+best_stands parts box valid first prices best loads bound rounds late stay played = record {
   size = played.kept.size;
   one = record {
     round = played.kept.one.round;
@@ -105,12 +102,22 @@ best_stands parts box valid prices best loads bound rounds late played = record 
   most = by bound played;
 }
   where
-    by : (up : Bound) → ArePlayed parts box 1024 prices best loads up
+    by : (up : Bound) → ArePlayed parts box first prices best loads up
         → IsMostOfRounds parts box rounds up
     by NoPlan none = record {
-      told = rounds_go_on parts box 1024 none.kept.told none.kept.most.told rounds;
+      told = rounds_go_on parts box first none.kept.told none.kept.most.told rounds;
       no_more = λ round other within at. tt;
     }
     by (AtLeast least) some =
-        most_stands parts box valid prices loads some.size some.taken some.table some.last.0
-        some.last.1 (AtLeast least) some.kept.most rounds
+        most_stands parts box valid first prices some.table some.last.0 some.last.1
+        (stay some.taken) (AtLeast least) some.kept.most rounds
+
+-- after round 1,024 the step is 0
+pub last_stands : (parts : Parts) (box : Box) (valid : IsScenario parts) (prices best : PriceTable)
+    (loads : Tally) (bound : Bound) (rounds : ℕ) → 1024 ≤ rounds
+    → ArePlayed parts box 1024 prices best loads bound → IsBest parts box rounds best bound
+last_stands parts box valid prices best loads bound rounds late played =
+    best_stands parts box valid 1024 prices best loads bound rounds late
+    (λ taken round after. round_played parts box round 0 loads prices prices
+    (sym (div-eq_of_lt after)) taken (still parts loads prices played.size))
+    played

@@ -1,10 +1,13 @@
 -- The best of so many rounds: the prices whose bound is the greatest.
-use Rattle.std.specs.Prelude.{ℕ, ◌≤◌}
+use Rattle.std.specs.Prelude.{◌≡◌, ℕ, ◌≤◌, List, ℤ}
 use Rattle.flow_types.specs.declared.bound.Bound.{Bound}
 use Rattle.flow_types.specs.Bounds.{IsAtMost}
 use Rattle.flow_types.specs.declared.parts.Parts.{Parts}
+use Rattle.flow_types.specs.declared.plan.Stop.{Stop}
+use Rattle.flow_types.specs.Costs.{plan_cost}
 use Rattle.flight_routes.specs.Prices.{PriceTable}
 use Rattle.time_windows.specs.Boxes.{Box}
+use Rattle.time_windows.specs.Plans.{IsPlanIn}
 use Rattle.lagrange_bound.specs.Rounds.{IsRoundBound, IsRoundTable}
 
 -- the prices after one of so many rounds
@@ -25,3 +28,9 @@ pub record IsMostOfRounds (parts : Parts) (box : Box) (rounds : ℕ) (most : Bou
   pub told : HaveBounds parts box rounds
   pub no_more : (round : ℕ) (bound : Bound) → round ≤ rounds → IsRoundBound parts box round bound
       → IsAtMost bound most
+
+-- a plan in the box that keeps every rule costs so much
+pub record HasPlanAt (parts : Parts) (box : Box) (cost : ℤ) : Type 0 where
+  pub plan : List (List Stop)
+  pub inside : IsPlanIn parts box plan
+  pub costs : plan_cost parts.tables parts.flights plan ≡ cost

@@ -1,5 +1,5 @@
 //! Prices that are found in rounds, and the best of them.
-ghost use Rattle.std.specs.Prelude.{◌≡◌, ◌<◌, ◌+◌, length};
+ghost use Rattle.std.specs.Prelude.{◌≡◌, ◌<◌, ◌+◌, IfSome, length};
 ghost use Rattle.flow_types.specs.Scenario.{parts_of};
 ghost use Rattle.flight_routes.specs.Prices.{AreFree, ArePricesOf};
 ghost use Rattle.flight_routes.specs.Work.{IsWorkFor};
@@ -7,10 +7,12 @@ ghost use Rattle.plan_rules.specs.Loads.{IsMadeFor as AreLoadsFor};
 ghost use Rattle.time_windows.specs.Boxes.{Box};
 ghost use Rattle.time_windows.specs.Held.{IsMadeFor, box_of};
 ghost use Rattle.flow_types.specs.Bounds.{IsNearBound};
+ghost use Rattle.lagrange_bound.specs.Best.{HasPlanAt};
 ghost use Rattle.lagrange_bound.specs.Rounds.{IsRoundStep, IsTableBound};
 ghost use Rattle.lagrange_bound.specs.Taking.{HaveTaken};
 ghost use Rattle.lagrange_bound.specs.Work.{AreLow, ArePlayed, AreTakenFor, IsBest, most_rounds};
 
+use crate::limits::are_within;
 use crate::moves::move_prices;
 use crate::taking::{COST_WEIGHT, take_trips};
 use crate::values::value_of;
@@ -61,14 +63,14 @@ impl Model for Rounds {
 }
 
 impl Rounds {
-    ghost use Rattle.std.specs.Prelude.{◌≡◌, IfOk};
+    ghost use Rattle.std.specs.Prelude.{◌≡◌, IfOk, IfSome};
     ghost use Rattle.flow_types.specs.Scenario.{parts_of};
     ghost use Rattle.flight_routes.specs.Prices.{AreFree};
     ghost use Rattle.time_windows.specs.Held.{IsMadeFor, box_of};
     ghost use Rattle.time_windows.specs.Plans.{IsBoundIn};
     ghost use Rattle.flow_types.specs.Bounds.{IsNearBound};
     ghost use Rattle.priced_plans.specs.Keys.{ArePlaced};
-    ghost use Rattle.lagrange_bound.specs.Best.{IsMostOfRounds, IsOneOfRounds};
+    ghost use Rattle.lagrange_bound.specs.Best.{HasPlanAt, IsMostOfRounds, IsOneOfRounds};
     ghost use Rattle.lagrange_bound.specs.Rounds.{IsTableBound};
     ghost use Rattle.lagrange_bound.specs.Work.{IsRoomFor, most_rounds};
 
@@ -89,12 +91,18 @@ impl Rounds {
     /// greatest bound. Answers what they tell: no feasible plan in the box costs less, or there is
     /// none, since a flight has no trip in the box. The bound is nearer to 0 than 2^115.
     ///
+    /// Where a plan in the box is known to cost so much, it ends at the first round whose bound
+    /// reaches that: no other one tells more than a plan costs. And it ends before the first where
+    /// the least trips pass no limit, since no round moves a price then.
+    ///
     /// The room and the box are of the scenario. With no round the prices are 0, and after round
     /// 1,024 none moves them any more. It takes no memory, and time as a least trip for each
-    /// flight, and for each place and period, once more often than there are rounds up to 1,024.
-    pub fn play(&mut self, s: &Scenario, boxes: &Boxes, rounds: u32) -> Bound
+    /// flight, and for each place and period, once more often than there are rounds up to 1,024, at
+    /// the most.
+    pub fn play(&mut self, s: &Scenario, boxes: &Boxes, rounds: u32, enough: Option<i64>) -> Bound
         requires made { IsRoomFor (parts_of s.now) self.old }
         requires boxes { IsMadeFor (parts_of s.now) boxes.now }
+        requires enough { IfSome enough (HasPlanAt (parts_of s.now) (box_of boxes.now)) }
         ensures one { IsOneOfRounds (parts_of s.now) (box_of boxes.now) rounds self.new.best }
         ensures told { IsTableBound (parts_of s.now) (box_of boxes.now) self.new.best result }
         ensures least { IsMostOfRounds (parts_of s.now) (box_of boxes.now) rounds result }
@@ -109,6 +117,7 @@ impl Rounds {
             s,
             boxes,
             rounds,
+            enough,
             &mut self.prices,
             &mut self.best,
             &mut self.work,
@@ -124,17 +133,19 @@ impl Rounds {
     }
 }
 
-// Plays the rounds, from prices of 0.
+// Plays the rounds, from prices of 0, as far as they may tell more.
 fn play_rounds(
     s: &Scenario,
     boxes: &Boxes,
     rounds: u32,
+    enough: Option<i64>,
     prices: &mut Prices,
     best: &mut Prices,
     work: &mut Work,
     loads: &mut Loads,
 ) -> Bound
     requires boxes { IsMadeFor (parts_of s.now) boxes.now }
+    requires enough { IfSome enough (HasPlanAt (parts_of s.now) (box_of boxes.now)) }
     requires prices { ArePricesOf (parts_of s.now) prices.old }
     requires free { AreFree prices.old }
     requires best { ArePricesOf (parts_of s.now) best.old }
@@ -148,9 +159,15 @@ fn play_rounds(
 {
     let mut bound = tell(s, boxes, prices, work, loads);
     best.copy_from(prices);
+    if are_within(s, loads) {
+        return bound;
+    }
     for played in 0..rounds.min(LAST_ROUND) {
         if let Bound::NoPlan = bound {
             return Bound::NoPlan;
+        }
+        if bound.is_reached(enough) {
+            return bound;
         }
         bound = play_round(s, boxes, played, bound, prices, best, work, loads);
     }

@@ -1,10 +1,12 @@
-use Rattle.std.proofs.Common.{◌≡◌, ◌⊎◌, ◌<◌, ◌≤◌, inl, inr, subst, arith}
+use Rattle.std.proofs.Common.{◌≡◌, ◌⊎◌, ◌<◌, ◌≤◌, inl, inr, refl, sym, ◌∙◌, subst, arith}
 use Rattle.std.proofs.lemmas.Bool.{cases_lt}
 use Rattle.flow_types.specs.Scenario.{parts_of}
 use Rattle.time_windows.specs.Held.{box_of}
 use Rattle.lagrange_bound.specs.Work.{ArePlayed, IsBest}
 use Rattle.lagrange_bound.proofs.BestFacts.{best_ends, first_played}
-use Rattle.lagrange_bound.proofs.StillFacts.{best_stands}
+use Rattle.lagrange_bound.proofs.FreeFacts.{free_best}
+use Rattle.lagrange_bound.proofs.ReachFacts.{best_reached}
+use Rattle.lagrange_bound.proofs.StillFacts.{last_stands}
 use Rattle.lagrange_bound.proofs.rounds.play_rounds.Goals as goal
 
 pub loop-played-init : goal.loop-played-init
@@ -34,7 +36,7 @@ returns-clause-kept c = by (cases_lt c.args.rounds 1024) where
   by (inr many) =
       let last : c.loop-played.played ≡ 1024 =
       omega (arith, all, many, c.min-played-end.ensures) in
-      best_stands (parts_of c.args.s.now) (box_of c.args.boxes.now) c.args.s.now.valid
+      last_stands (parts_of c.args.s.now) (box_of c.args.boxes.now) c.args.s.now.valid
       c.loop-played.prices c.loop-played.best c.loop-played.loads c.loop-played.bound c.args.rounds
       many
       (subst (λ n. ArePlayed (parts_of c.args.s.now) (box_of c.args.boxes.now) n
@@ -48,3 +50,18 @@ returns-in-NoPlan-clause-kept c =
     (omega (arith, c.loop-played.auto.played-end, c.loop-played-test.true))
     (subst (IsBest (parts_of c.args.s.now) (box_of c.args.boxes.now) c.loop-played.played
     c.loop-played.best) c.in-NoPlan.is c.loop-played.invariant.0.kept)
+
+pub returns-then-are_within-clause-kept : goal.returns-then-are_within-clause-kept
+returns-then-are_within-clause-kept c =
+    free_best (parts_of c.args.s.now) (box_of c.args.boxes.now) c.args.s.now.valid
+    c.args.prices.now c.copy_from.new.self c.tell-bound.new.loads c.tell-bound.result c.args.rounds
+    c.requires.prices c.requires.free c.tell-bound.ensures.told c.tell-bound.ensures.taken
+    c.copy_from.ensures (c.if-are_within.ensures refl)
+
+pub returns-then-is_reached-clause-kept : goal.returns-then-is_reached-clause-kept
+returns-then-is_reached-clause-kept c =
+    best_reached (parts_of c.args.s.now) (box_of c.args.boxes.now) c.args.s.now.valid
+    c.requires.boxes.inside c.args.enough c.requires.enough c.loop-played.played c.args.rounds
+    (omega (arith, c.loop-played.auto.played-end, c.loop-played-test.true)) c.loop-played.best
+    c.loop-played.bound (sym c.is_reached.ensures ∙ c.if-is_reached.true)
+    c.loop-played.invariant.0.kept
