@@ -6,6 +6,7 @@ pub mod EnoughFacts
 pub mod FoundFacts
 pub mod GreedyFacts
 pub mod ImproveFacts
+pub mod KnownFacts
 pub mod OptionFacts
 pub mod PriceFacts
 pub mod ProductFacts

@@ -1,19 +1,21 @@
 -- What is seen of a box: a Unit leaf has a bound, and the run's leaf is kept where it may.
-use Rattle.std.proofs.Common.{◌≡◌, ℕ, ◌+◌, ◌<◌, ◌≤◌, ◌⊎◌, Bool, true, false, not, ◌&&◌, IsTrue, Option, None, Some, Result, Ok, Err, if◌then◌else◌, ℤ, inl, inr, refl, sym, ◌∙◌, subst, arith}
+use Rattle.std.proofs.Common.{◌≡◌, ℕ, ◌+◌, ◌<◌, ◌≤◌, ◌⊎◌, Bool, true, false, not, ◌&&◌, IfSome, IsTrue, Option, None, Some, Result, Ok, Err, if◌then◌else◌, ℤ, inl, inr, refl, sym, ◌∙◌, subst, arith}
 use Rattle.std.proofs.lemmas.Int.{ints}
 use Rattle.std.specs.Prelude.{int_lt}
 use Rattle.std.specs.Result.{IsOk}
 use Rattle.flow_types.specs.declared.bound.Bound.{Bound}
 use Rattle.flow_types.specs.declared.bound.Bound.TheVariants.{AtLeast, NoPlan}
 use Rattle.flow_types.specs.declared.parts.Parts.{Parts}
+use Rattle.flow_types.specs.Valid.{IsScenario}
 use Rattle.time_windows.specs.declared.access.Access.{Access}
 use Rattle.time_windows.specs.Boxes.{Box, IsBoxOf, options_of, width_of}
 use Rattle.time_windows.specs.Splits.{IsBranching}
 use Rattle.time_windows.specs.Tight.{IsLive, IsTight}
 use Rattle.flight_routes.specs.Prices.{PriceTable}
-use Rattle.lagrange_bound.specs.Best.{IsMostOfRounds}
+use Rattle.lagrange_bound.specs.Best.{HasPlanAt, IsMostOfRounds}
 use Rattle.flow_types.specs.Bounds.{IsAtMost, IsNearBound, is_reached}
 use Rattle.lagrange_bound.proofs.BestFacts.{at_most_itself}
+use Rattle.lagrange_bound.proofs.ReachFacts.{enough_most}
 use Rattle.branch_tree.specs.declared.leaf.Leaf.{Leaf}
 use Rattle.branch_tree.specs.Leaves.{IsInRange}
 use Rattle.dual_leaf.specs.PriceLeaf.{IsLagOf}
@@ -201,3 +203,29 @@ apart b is isnt = let e : true ≡ false = sym is ∙ isnt in cc
 
 pub never : IsTrue false → ⊥
 never is = let e : false ≡ true = is in cc
+
+-- the run's leaf, where its bound reaches what a plan in the box costs
+pub known_seen : (parts : Parts) (budget : Budget) (cutoff : Option ℤ) (more : Bool) (box : Box)
+    (branch : Branch) → IsScenario parts → IsBoxOf parts box → IsLive box
+    → IsBranchOf parts box branch → IfSome cutoff (HasPlanAt parts box) → (run : Bound)
+    → is_reached cutoff run ≡ true → (leaf : Leaf)
+    → leaf ≡ relaxed_leaf parts box budget.limits cutoff → IsLeafBound parts box leaf (Ok run)
+    → IsInRange leaf → IsNearOf leaf run → IsLeafSeen parts budget cutoff more box leaf run
+known_seen parts budget cutoff more box branch valid made live branch_is known run reached leaf is
+    bound_is range near = record {
+      node = record {
+        inside = made;
+        range = range;
+        bound_is = bound_is;
+        kind = subst (IsLeafKind parts budget cutoff run box) (sym is) (record {
+          box_is = record {
+            live = live;
+            choice = branch_choice parts box branch branch_is;
+            rounds = enough_most parts box valid made cutoff known run budget.rounds reached;
+          };
+          is = refl;
+        });
+      };
+      reached = λ room. reached;
+      near = subst (λ z. IsNearOf z run) is near;
+    }

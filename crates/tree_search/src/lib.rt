@@ -14,8 +14,8 @@
 //!         Bound::NoPlan => println!("no plan is in the box"),
 //!     }
 //!
-//! First a climb looks for good prices, and a plan that costs less than the greedy one is looked
-//! for by them. Then it goes depth first, the early side of a split before the late one. For each
+//! Where prices of 0 tell what the greedy plan costs, that is the answer. Else a climb looks for
+//! good prices, and a plan that costs less than the greedy one is looked for by them. Then it goes depth first, the early side of a split before the late one. For each
 //! box the greedy plan is made, and kept where it is cheaper than the last; so is the plan that the
 //! least trips of a climb are, where they keep the rules. An empty box is done with, and so is one
 //! in which there is no choice. Else the run of the box's relaxation gives a leaf, and prices
@@ -36,7 +36,8 @@
 //! and 24 for each row of a Dual leaf and each price of a Lag leaf, the plans, and what one run
 //! takes, one leaf, rounds of prices, climbs and the search for cheaper plans. Time: for each node
 //! a greedy plan, a run, the rounds, and a climb of as many steps; at the begin a climb of sixteen
-//! times as many, and the search for a cheaper plan.
+//! times as many, and the search for a cheaper plan. In the first box no more is done once a bound
+//! reaches what the best plan costs.
 #![tactic(auto)]
 
 mod branching;

@@ -1,11 +1,11 @@
 //! What prices tell of a box.
-ghost use Rattle.std.specs.Prelude.{IfOk, Ok};
+ghost use Rattle.std.specs.Prelude.{IfOk, IfSome, Ok};
 ghost use Rattle.time_windows.specs.Tight.{IsLive};
 ghost use Rattle.dual_leaf.specs.Leaf.{IsLeafBound};
 ghost use Rattle.flow_types.specs.declared.bound.Bound.{Bound};
 ghost use Rattle.flow_types.specs.Scenario.{parts_of};
 ghost use Rattle.branch_tree.specs.Leaves.{IsInRange};
-ghost use Rattle.lagrange_bound.specs.Best.{IsMostOfRounds};
+ghost use Rattle.lagrange_bound.specs.Best.{HasPlanAt, IsMostOfRounds};
 ghost use Rattle.flow_types.specs.Bounds.{IsNearBound};
 ghost use Rattle.dual_leaf.specs.PriceLeaf.{IsLagOf};
 ghost use Rattle.priced_plans.specs.Keys.{ArePlaced};
@@ -54,7 +54,8 @@ pub struct Priced {
 }
 
 /// Where a search begins: climbs from prices of 0, and answers what the prices tell to which that
-/// leads.
+/// leads. Where there are no rounds, or prices of 0 tell a bound that reaches the cutoff, it stays
+/// at these.
 pub fn begin_climb(
     s: &Scenario,
     boxes: &Boxes,
@@ -66,6 +67,10 @@ pub fn begin_climb(
     requires rooms { ArePriceRoomsFor (parts_of s.now) rooms.old }
     ensures { ArePriceRoomsFor (parts_of s.now) rooms.new }
 {
+    let first = rooms.ascent.tell(s, boxes);
+    if rounds == 0 || first.is_reached(cutoff) {
+        return first;
+    }
     let steps = first_steps(s, rooms.ascent.rising(), rounds);
     let climbed = rooms.ascent.climb(s, boxes, cutoff, FIRST_PART, steps);
     if cutoff.is_none() && rooms.ascent.has_none(s, boxes) {
@@ -98,7 +103,8 @@ fn looks_of(s: &Scenario) -> u64 {
 
 /// The greatest bound that rounds of prices tell; or, where neither that nor the bound of the run
 /// reaches the cutoff, what the prices tell that the climb before has kept, if that is more; with
-/// no cutoff, also that no plan is in the box.
+/// no cutoff, also that no plan is in the box. Where a plan in the box is known to cost so much, no
+/// more rounds are played than it takes to reach that.
 pub fn price(
     s: &Scenario,
     boxes: &Boxes,
@@ -106,15 +112,17 @@ pub fn price(
     rounds: u32,
     cutoff: Option<i64>,
     run: Bound,
+    enough: Option<i64>,
 ) -> Priced
     requires made { IsMadeFor (parts_of s.now) boxes.now }
     requires rooms { ArePriceRoomsFor (parts_of s.now) rooms.old }
+    requires enough { IfSome enough (HasPlanAt (parts_of s.now) (box_of boxes.now)) }
     ensures told { IsToldBy (parts_of s.now) (box_of boxes.now) rooms.new result }
     ensures most { IsMostOfRounds (parts_of s.now) (box_of boxes.now) rounds result.bound }
     ensures near { IsNearBound result.bound }
     ensures rooms { ArePriceRoomsFor (parts_of s.now) rooms.new }
 {
-    let played = rooms.rounds.play(s, boxes, rounds);
+    let played = rooms.rounds.play(s, boxes, rounds, enough);
     if rounds > 0 && !run.is_reached(cutoff) && !played.is_reached(cutoff) {
         if cutoff.is_none() && rooms.ascent.has_none(s, boxes) {
             return Priced {

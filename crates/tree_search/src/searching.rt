@@ -104,7 +104,8 @@ fn offer_found(
     }
 }
 
-// Looks for a plan of the present box that costs less than its greedy plan, and offers it.
+// Looks for a plan of the present box that costs less than its greedy plan, and offers it; where
+// the bound reaches what the best plan costs there is none.
 fn improve(
     alloc: Global,
     s: &Scenario,
@@ -119,6 +120,9 @@ fn improve(
         → OnOk result (IsSearching (parts_of s.now) budget walk.now draft.new) }
     ensures rooms { AreRoomsFor (parts_of s.now) rooms.new }
 {
+    if bound.is_reached(draft.best) {
+        return Ok(());
+    }
     let found = find_cheaper(alloc, s, walk.boxes(), rooms, bound)?;
     offer_found(s, walk, draft, found)
 }
@@ -181,7 +185,8 @@ fn split(
     walk.split(s, branch)
 }
 
-// Sees the present box, writes down what is seen, and goes to the next one, if there is one.
+// Sees the present box, writes down what is seen, and goes to the next one, if there is one. Each
+// plan that is known is in the first box.
 fn go_on(
     alloc: Global,
     s: &Scenario,
@@ -189,7 +194,9 @@ fn go_on(
     rooms: &mut Rooms,
     walk: &mut Walk,
     draft: &mut RecordDraft,
+    first: bool,
 ) -> Result<bool, OutOfMemory>
+    requires first { IsTrue first → walk.old.above ≡ [] }
     requires searching { IsSearching (parts_of s.now) budget walk.old draft.old }
     requires rooms { AreRoomsFor (parts_of s.now) rooms.old }
     ensures left { IfOk result
@@ -198,7 +205,7 @@ fn go_on(
 {
     let more = has_room(budget, walk, draft);
     let cutoff = draft.best;
-    let seen = see(alloc, s, walk.boxes(), rooms, budget, cutoff, more)?;
+    let seen = see(alloc, s, walk.boxes(), rooms, budget, cutoff, more, first)?;
     match seen {
         Seen::Leaf { leaf, bound } => {
             let next = leave(s, walk, draft, leaf, bound)?;
@@ -265,21 +272,23 @@ fn step(
     rooms: &mut Rooms,
     walk: &mut Walk,
     draft: &mut RecordDraft,
+    first: bool,
 ) -> Result<bool, OutOfMemory>
+    requires first { IsTrue first → walk.old.above ≡ [] }
     requires searching { IsSearching (parts_of s.now) budget walk.old draft.old }
     requires rooms { AreRoomsFor (parts_of s.now) rooms.old }
     ensures stepped { IfOk result
         (IsStepped (parts_of s.now) budget walk.old draft.old walk.new draft.new) }
     ensures rooms { AreRoomsFor (parts_of s.now) rooms.new }
 {
-    if !go_on(alloc, s, budget, rooms, walk, draft)? {
+    if !go_on(alloc, s, budget, rooms, walk, draft, first)? {
         return Ok(false);
     }
     visit(alloc, s, walk.boxes(), rooms, draft)?;
     Ok(true)
 }
 
-// Goes on to the next box after a climb in the present one.
+// Goes on to the next box after a climb of so many steps in the present one.
 fn advance(
     alloc: Global,
     s: &Scenario,
@@ -287,19 +296,23 @@ fn advance(
     rooms: &mut Rooms,
     walk: &mut Walk,
     draft: &mut RecordDraft,
+    steps: u32,
+    first: bool,
 ) -> Result<bool, OutOfMemory>
+    requires first { IsTrue first → walk.old.above ≡ [] }
     requires searching { IsSearching (parts_of s.now) budget walk.old draft.old }
     requires rooms { AreRoomsFor (parts_of s.now) rooms.old }
     ensures stepped { IfOk result
         (IsStepped (parts_of s.now) budget walk.old draft.old walk.new draft.new) }
     ensures rooms { AreRoomsFor (parts_of s.now) rooms.new }
 {
-    climb_on(alloc, s, walk, rooms, draft, budget.rounds)?;
-    let more = step(alloc, s, budget, rooms, walk, draft)?;
+    climb_on(alloc, s, walk, rooms, draft, steps)?;
+    let more = step(alloc, s, budget, rooms, walk, draft, first)?;
     Ok(more)
 }
 
-// Searches from the tight box on, which is the path's first one, until no box waits.
+// Searches from the tight box on, which is the path's first one, until no box waits. The climb in
+// that box has so many steps.
 fn run(
     alloc: Global,
     s: &Scenario,
@@ -307,12 +320,19 @@ fn run(
     rooms: &mut Rooms,
     walk: &mut Walk,
     draft: &mut RecordDraft,
+    first_steps: u32,
 ) -> Result<(), OutOfMemory>
+    requires first { walk.old.above ≡ [] }
     requires searching { IsSearching (parts_of s.now) budget walk.old draft.old }
     requires rooms { AreRoomsFor (parts_of s.now) rooms.old }
     ensures { OnOk result (IsSearched (parts_of s.now) budget (top_box walk.old) draft.new) }
 {
-    while advance(alloc, s, budget, rooms, walk, draft)? {}
+    let mut steps = first_steps;
+    let mut first = true;
+    while advance(alloc, s, budget, rooms, walk, draft, steps, first)? {
+        steps = budget.rounds;
+        first = false;
+    }
     Ok(())
 }
 
@@ -359,6 +379,11 @@ fn found_in(alloc: Global, draft: RecordDraft) -> Found
     }
 }
 
+// How many steps of so many the next climb has: none, where the bound reaches the cutoff.
+fn steps_for(rounds: u32, bound: Bound, cutoff: Option<i64>) -> u32 {
+    if bound.is_reached(cutoff) { 0 } else { rounds }
+}
+
 // Searches from the tight box on, which is the path's first one, for plans and for prices; and then
 // until no box waits.
 fn search_from(
@@ -369,6 +394,7 @@ fn search_from(
     walk: &mut Walk,
     draft: &mut RecordDraft,
 ) -> Result<(), OutOfMemory>
+    requires first { walk.old.above ≡ [] }
     requires searching { IsSearching (parts_of s.now) budget walk.old draft.old }
     requires rooms { AreRoomsFor (parts_of s.now) rooms.old }
     ensures { OnOk result (IsSearched (parts_of s.now) budget (top_box walk.old) draft.new) }
@@ -381,7 +407,8 @@ fn search_from(
         draft.best,
     );
     improve(alloc, s, walk, rooms, draft, bound)?;
-    run(alloc, s, budget, rooms, walk, draft)
+    let steps = steps_for(budget.rounds, bound, draft.best);
+    run(alloc, s, budget, rooms, walk, draft, steps)
 }
 
 // Searches the tight box, of which nothing is written down yet.

@@ -1,13 +1,16 @@
 //! What is seen of a box: a leaf, or where it is split.
-ghost use Rattle.std.specs.Prelude.{◌≡◌, IfOk, Ok, Result, true};
+ghost use Rattle.std.specs.Prelude.{◌≡◌, IfOk, IfSome, IsTrue, Ok, Result, true};
 ghost use Rattle.std.specs.Result.{IsOk};
 ghost use Rattle.branch_tree.specs.Leaves.{IsInRange};
 ghost use Rattle.dual_leaf.specs.declared.fault.LeafFault.{LeafFault};
 ghost use Rattle.dual_leaf.specs.Leaf.{IsCostIn, IsLeafBound, IsNearOf, IsUnitBox};
 ghost use Rattle.dual_leaf.specs.Work.{IsRoomFor};
+ghost use Rattle.lagrange_bound.specs.Best.{HasPlanAt};
 ghost use Rattle.tree_search.specs.Rooms.{AreRoomsFor};
 ghost use Rattle.flow_types.specs.Scenario.{parts_of};
 ghost use Rattle.flow_types.specs.declared.bound.Bound.{Bound};
+ghost use Rattle.flow_types.specs.declared.parts.Parts.{Parts};
+ghost use Rattle.time_windows.specs.Boxes.{Box};
 ghost use Rattle.flow_types.specs.Bounds.{is_reached};
 ghost use Rattle.time_windows.specs.Held.{IsMadeFor, box_of};
 ghost use Rattle.time_windows.specs.Tight.{IsLive, IsTight};
@@ -38,7 +41,7 @@ pub enum Seen {
 /// What is seen of the box. Where no plan is in it the leaf is Empty, and where it has no choice
 /// the leaf is Unit. Else the leaf is that of the relaxation's run or of prices, whichever tells
 /// more; or, where neither reaches the cutoff and there is room for two nodes more, the box is
-/// split.
+/// split. Where a plan in the box is known to cost the cutoff, a bound that reaches it is enough.
 pub fn see(
     alloc: Global,
     s: &Scenario,
@@ -47,10 +50,13 @@ pub fn see(
     budget: Budget,
     cutoff: Option<i64>,
     more: bool,
+    known: bool,
 ) -> Result<Seen, OutOfMemory>
     requires made { IsMadeFor (parts_of s.now) boxes.now }
     requires tight { IsTight (parts_of s.now) (box_of boxes.now) }
     requires rooms { AreRoomsFor (parts_of s.now) rooms.old }
+    requires known { IsTrue known
+        → IfSome cutoff (HasPlanAt (parts_of s.now) (box_of boxes.now)) }
     requires tried { IsUnitBox (box_of boxes.now) → (bound : Bound)
         → IsCostIn (parts_of s.now) (box_of boxes.now) bound
         → is_reached cutoff bound ≡ true }
@@ -72,7 +78,7 @@ pub fn see(
             })
         }
         Some(branch) => {
-            let seen = see_open(alloc, s, boxes, rooms, budget, cutoff, more, branch)?;
+            let seen = see_open(alloc, s, boxes, rooms, budget, cutoff, more, known, branch)?;
             Ok(seen)
         }
     }
@@ -87,11 +93,14 @@ fn see_open(
     budget: Budget,
     cutoff: Option<i64>,
     more: bool,
+    known: bool,
     branch: Branch,
 ) -> Result<Seen, OutOfMemory>
     requires made { IsMadeFor (parts_of s.now) boxes.now }
     requires tight { IsTight (parts_of s.now) (box_of boxes.now) }
     requires rooms { AreRoomsFor (parts_of s.now) rooms.old }
+    requires known { IsTrue known
+        → IfSome cutoff (HasPlanAt (parts_of s.now) (box_of boxes.now)) }
     requires live { IsLive (box_of boxes.now) }
     requires branch { IsBranchOf (parts_of s.now) (box_of boxes.now) branch }
     ensures seen { IfOk result (IsSeen (parts_of s.now) budget cutoff more (box_of boxes.now)) }
@@ -104,7 +113,19 @@ fn see_open(
         point,
     } = relax(alloc, s, &rooms.pool, boxes, table, budget.limits, cutoff)?;
     let run = bound_of(s, &rooms.pool, boxes, &mut rooms.leaves, &leaf);
-    let priced = price(s, boxes, &mut rooms.prices, budget.rounds, cutoff, run);
+    if is_closed(known, cutoff, run) {
+        return Ok(Seen::Leaf { leaf, bound: run });
+    }
+    let enough = if_known(known, cutoff);
+    let priced = price(
+        s,
+        boxes,
+        &mut rooms.prices,
+        budget.rounds,
+        cutoff,
+        run,
+        enough,
+    );
     if may_split(more, cutoff, run, priced.bound) {
         let branch = choose(s, boxes, &point, &rooms.prices.ascent, branch);
         Ok(Seen::Split(branch))
@@ -117,6 +138,22 @@ fn see_open(
     } else {
         Ok(Seen::Leaf { leaf, bound: run })
     }
+}
+
+// Whether a plan is known, and the bound reaches what it costs.
+fn is_closed(known: bool, cutoff: Option<i64>, run: Bound) -> bool
+    ensures known { IsTrue result → IsTrue known }
+    ensures reached { IsTrue result → is_reached cutoff run ≡ true }
+{
+    known && run.is_reached(cutoff)
+}
+
+// The cutoff, if it is what a known plan costs.
+fn if_known(known: bool, cutoff: Option<i64>) -> Option<i64>
+    ensures { (parts : Parts) (box : Box) → (IsTrue known → IfSome cutoff (HasPlanAt parts box))
+        → IfSome result (HasPlanAt parts box) }
+{
+    if known { cutoff } else { None }
 }
 
 // Whether there is room to split a box with these bounds, and neither reaches the cutoff.

@@ -1,7 +1,9 @@
-use Rattle.std.proofs.Common.{refl, subst}
+use Rattle.std.proofs.Common.{IfSome, refl, sym, subst}
 use Rattle.flow_types.specs.Scenario.{parts_of}
 use Rattle.time_windows.specs.Held.{Held, box_of}
+use Rattle.lagrange_bound.specs.Best.{HasPlanAt}
 use Rattle.tree_search.specs.Seen.{IsSeen}
+use Rattle.tree_search.proofs.KnownFacts.{known_first}
 use Rattle.tree_search.proofs.SearchFacts.{left_leaf, split_on}
 use Rattle.tree_search.proofs.searching.go_on.Goals as goal
 
@@ -30,3 +32,10 @@ returns-in_ok-split-in-Split-clause-left c =
     c.in_ok-split-in-Split.ensures.noted c.split.new.walk.present
     c.in_ok-split-in-Split.ensures.tight c.in_ok-split-in-Split.ensures.made c.split.new.walk
     refl c.in_ok-split-in-Split.ensures.above c.in_ok-split-in-Split.ensures.steps
+
+pub see-requires-clause-known : goal.see-requires-clause-known
+see-requires-clause-known c = λ first.
+    subst (λ (h : Held). IfSome c.args.draft.now.best
+    (HasPlanAt (parts_of c.args.s.now) (box_of h))) (sym c.boxes.ensures)
+    (known_first (parts_of c.args.s.now) c.args.budget c.args.walk.now c.args.draft.now
+    c.requires.searching.arrived (c.requires.first first))

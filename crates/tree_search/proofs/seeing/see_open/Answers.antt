@@ -1,9 +1,9 @@
-use Rattle.std.proofs.Common.{sym, ◌∙◌}
+use Rattle.std.proofs.Common.{refl, sym, ◌∙◌}
 use Rattle.flow_types.specs.Scenario.{parts_of}
 use Rattle.time_windows.specs.Held.{box_of}
 use Rattle.tree_search.specs.Rooms.{prices_from, weight_from}
 use Rattle.tree_search.proofs.RelaxFacts.{leaf_has}
-use Rattle.tree_search.proofs.SeenFacts.{priced_seen, run_seen, split_seen}
+use Rattle.tree_search.proofs.SeenFacts.{known_seen, priced_seen, run_seen, split_seen}
 use Rattle.tree_search.proofs.seeing.see_open.Goals as goal
 
 pub bound_of-run-requires-clause-some : goal.bound_of-run-requires-clause-some
@@ -43,3 +43,12 @@ returns-else-is_above-clause-seen c =
     c.in_ok-leaf.field-0.leaf c.in_ok-leaf.ensures.leaf c.bound_of-run.ensures.bound
     (c.is_above.ensures.not c.if-is_above.false) (sym c.may_split.ensures ∙ c.if-may_split.false)
     c.in_ok-leaf.ensures.range c.bound_of-run.ensures.near
+
+pub returns-then-is_closed-clause-seen : goal.returns-then-is_closed-clause-seen
+returns-then-is_closed-clause-seen c =
+    known_seen (parts_of c.args.s.now) c.args.budget c.args.cutoff c.args.more
+    (box_of c.args.boxes.now) c.args.branch c.args.s.now.valid c.requires.made.inside
+    c.requires.live c.requires.branch (c.requires.known (c.if-is_closed.ensures.known refl))
+    c.bound_of-run.result (c.if-is_closed.ensures.reached refl) c.in_ok-leaf.field-0.leaf
+    c.in_ok-leaf.ensures.leaf c.bound_of-run.ensures.bound c.in_ok-leaf.ensures.range
+    c.bound_of-run.ensures.near
