@@ -1,6 +1,6 @@
 -- What is answered to a certificate is what is answered to the words, where the day was read
 -- before; and what an accepted claim says of all plans.
-use Rattle.std.proofs.Common.{◌≡◌, ℕ, List, [], Option, None, Some, IfSome, Result, Ok, Err, refl, ap, subst, inl, inr}
+use Rattle.std.proofs.Common.{◌≡◌, ℕ, List, [], Option, None, Some, IfSome, Result, Ok, Err, refl, subst, inl, inr}
 use Rattle.flow_outside.specs.Held.{Held}
 use Rattle.flow_outside.specs.Seen.{AreKept, FilesSeen}
 use Rattle.flow_types.specs.declared.parts.Parts.{Parts}

@@ -1,6 +1,7 @@
 pub mod AnswerFacts
 pub mod CertifyingFacts
 pub mod CheckingFacts
+pub mod CompleteFacts
 pub mod JudgingFacts
 pub mod OwnDigest
 pub mod OwnSizes

@@ -1,11 +1,12 @@
 -- Whole runs, from the words and the files to the bytes that are written, of any texts that say
 -- what is said of them here.
 use Rattle.std.specs.Prelude.{codes}
-use Rattle.std.proofs.Common.{◌≡◌, ℕ, ◌+◌, ◌≤◌, List, [], ◌∷◌, length, Some, Ok, Err, IsSome, refl, sym, subst, ◌∙◌, inl, inr}
+use Rattle.std.proofs.Common.{◌≡◌, ℕ, ◌+◌, ◌<◌, ◌≤◌, List, [], ◌∷◌, length, Some, Ok, Err, IsSome, refl, sym, subst, ◌∙◌, inl, inr, arith}
 use Rattle.std.specs.Cmp.Lexicographic.{nat_list_cmp_total}
 use Rattle.std.specs.FinMap.{from_entries, get, get-from_entries}
 use Rattle.std.specs.Fmt.{digits}
 use Rattle.std.proofs.lemmas.Bool.{false≢true}
+use Rattle.flow_outside.specs.Counts.{Rose}
 use Rattle.flow_outside.specs.Held.{Held}
 use Rattle.flow_outside.specs.Seen.{FilesSeen, SinkSeen}
 use Rattle.flow_types.specs.declared.fault.Fault.{Fault}
@@ -18,9 +19,11 @@ use Rattle.plan_rules.specs.FirstBroken.{first_broken, over}
 use Rattle.plan_text.specs.Plans.{plan_of}
 use Rattle.scenario_reader.proofs.ValidTexts.{text_is}
 use Rattle.scenario_reader.specs.Reading.{scenario_of}
+use Rattle.flow_cli.specs.declared.answer.Ran.{Ran}
 use Rattle.flow_cli.specs.declared.status.Status.{Status}
 use Rattle.flow_cli.specs.declared.status.Status.TheVariants.{BadPlan, BadScenario, Broken, Done, ReadFault, Usage}
 use Rattle.flow_cli.specs.Answer.{Ends, IsAnswer}
+use Rattle.flow_cli.specs.Complete.{EndsDone, HoldsDay, HoldsPlan, NothingFailed}
 use Rattle.flow_cli.specs.Faults.{fault_text, too_long_text}
 use Rattle.flow_cli.specs.Judging.{IsVerdict}
 use Rattle.flow_cli.specs.Outside.{Change, change}
@@ -28,6 +31,7 @@ use Rattle.flow_cli.specs.Reading.{IsDayOf, IsNoDay, IsTextOf}
 use Rattle.command_words.specs.Words.{asked}
 use Rattle.flow_cli.specs.Words.{usage_text}
 use Rattle.worked_days.specs.Days.{two_flights}
+use Rattle.flow_cli.proofs.CompleteFacts.{judged as judge_ends}
 use Rattle.flow_cli.proofs.WorkedCases.{keeps, on_time}
 
 one_value : {A : Type 0} {x y : A} → Some x ≡ Some y → x ≡ y
@@ -48,12 +52,23 @@ unchanged held =
     let files : FilesSeen = record { held = Some held; faults = 0; store_faults = 0 } in
     change files files
 
+-- an output that was empty, and to which this text was written
+abbrev wrote : List ℕ → Change SinkSeen
+wrote text =
+    let empty : SinkSeen = record { written = Some []; faults = 0 } in
+    change empty (record { written = Some text; faults = 0 })
+
+-- no count rose
+nothing_failed : (held : Held) (text : List ℕ) → NothingFailed (unchanged held) (wrote text)
+nothing_failed held text = record { reads = none; stores = none; writes = none }
+  where
+    none : Rose 0 0 → ⊥
+    none rose = let more : 0 < 0 = rose (omega arith) in omega (arith, more)
+
 -- a run on these files prints this text, and ends with this status
 abbrev EndsOn : Held → List (List ℕ) → List ℕ → Status → Type 0
 EndsOn held words text status =
-    let empty : SinkSeen = record { written = Some []; faults = 0 } in
-    Ends (unchanged held) (change empty (record { written = Some text; faults = 0 })) words
-    (record { status = status; records = [] })
+    Ends (unchanged held) (wrote text) words (record { status = status; records = [] })
 
 -- a run with this answer
 run_answers : (held : Held) (words : List (List ℕ)) (text : List ℕ) (status : Status)
@@ -164,6 +179,41 @@ module _ (text plan : List ℕ) (few : length text ≤ most_text_bytes)
   run_is_kept read plan_read =
       judged 2 read (codes "keeps,0\n") Done plan_read
       (inl (record { feasible = keeps; ends = refl; text = refl; no_record = refl }))
+
+  -- So it ends whatever is printed, unless there is no memory: all that the law asks for is there.
+  day_is_held : (parts : Parts) → scenario_of text ≡ Ok parts
+      → HoldsDay (Some files) day_name parts
+  day_is_held parts read = record {
+    bytes = text;
+    holds = record {
+      told =
+          get-from_entries nat_list_cmp_total ((day_name, text) ∷ (plan_name, plan) ∷ []) day_name;
+      within = few;
+    };
+    read = read;
+  }
+
+  plan_is_held : plan_of (two_flights 2 9 9) plan ≡ Ok on_time
+      → HoldsPlan (Some files) plan_name (two_flights 2 9 9)
+  plan_is_held read = record {
+    bytes = plan;
+    holds = record {
+      told =
+          get-from_entries nat_list_cmp_total ((day_name, text) ∷ (plan_name, plan) ∷ []) plan_name;
+      within = few_of_plan;
+    };
+    plan = on_time;
+    read = read;
+    feasible = keeps;
+  }
+
+  judge_is_done : scenario_of text ≡ Ok (two_flights 2 9 9)
+      → plan_of (two_flights 2 9 9) plan ≡ Ok on_time → (written : List ℕ) (ran : Ran)
+      → Ends (unchanged files) (wrote written) judge_words ran → EndsDone ran.status
+  judge_is_done read plan_read written ran ends =
+      judge_ends (unchanged files) (wrote written) judge_words ran ends
+      (nothing_failed files written) day_name plan_name (two_flights 2 9 9) refl
+      (day_is_held (two_flights 2 9 9) read) (plan_is_held plan_read)
 
   first_is_departures : first_broken (two_flights 1 9 9) on_time ≡ Some (over Dep 0 0 2 1)
   first_is_departures = refl

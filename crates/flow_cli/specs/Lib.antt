@@ -2,6 +2,7 @@ pub mod Answer
 pub mod Answers
 pub mod Certifying
 pub mod Checking
+pub mod Complete
 pub mod Exit
 pub mod Faults
 pub mod Judging

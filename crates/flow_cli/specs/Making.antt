@@ -11,7 +11,7 @@ use Rattle.tree_search.specs.declared.found.Found.{Found}
 use Rattle.text_records.specs.Lines.{line_text}
 use Rattle.text_records.specs.Rows.{rows_of}
 use Rattle.scenario_reader.specs.Reading.{scenario_of}
-use Rattle.scenario_maker.specs.Making.{made_text}
+use Rattle.scenario_maker.specs.Made.{made_text}
 use Rattle.delay_report.specs.Claims.{Claimed}
 use Rattle.delay_report.specs.Texts.{claim_text}
 use Rattle.flow_cli.specs.declared.status.Status.TheVariants.{Done, OpenGap}

@@ -20,7 +20,9 @@
 //! the reports and verdicts, byte by byte, in `delay_report`. Where a day was planned, `run` hands
 //! back the record of the search whose numbers it printed. From the status to the number that the
 //! process ends with, and from the words of the environment to those of `run`, it is said by
-//! `exit_code`'s, in `specs/Exit.antt`.
+//! `exit_code`'s, in `specs/Exit.antt`. Where the files tell that they hold what a command reads,
+//! no call fails and there is memory, it does its work: that is [`runs_are_complete`], in
+//! `specs/Complete.antt`.
 //!
 //! What `plan --cert` stores is the certificate of a search's record ([`certificate_of`], as
 //! `specs/Own.antt` defines it). Its numbers are within the limits of lines, and the verdict on its
@@ -38,6 +40,7 @@ mod checking;
 mod exit;
 mod faults;
 mod judging;
+mod laws;
 mod making;
 mod own_certificate;
 mod planning;
@@ -47,6 +50,7 @@ mod status;
 
 pub use answer::{FoundList, Ran};
 pub use exit::exit_code;
+pub use laws::runs_are_complete;
 pub use own_certificate::{certificate_of, own_certificates_are_accepted};
 pub use running::run;
 pub use status::Status;

@@ -7,7 +7,7 @@ ghost use Rattle.tree_search.specs.Records.{last_cost, last_plan};
 ghost use Rattle.text_records.specs.Lines.{line_text};
 ghost use Rattle.text_records.specs.Rows.{rows_of};
 ghost use Rattle.scenario_reader.specs.Reading.{scenario_of};
-ghost use Rattle.scenario_maker.specs.Making.{made_text};
+ghost use Rattle.scenario_maker.specs.Made.{made_text};
 ghost use Rattle.flow_cli.specs.Making.{IsOfMake, IsOfTrial, TellsTrial, claimed_of, trial_budget, trial_lines, trial_text};
 ghost use Rattle.flow_cli.specs.Outside.{printed_by};
 ghost use Rattle.flow_cli.specs.Status.{status_of};
@@ -19,8 +19,7 @@ use csv::ByteRecord;
 use delay_report::{Claim, claim_report};
 use flow_types::{OutOfMemory, Scenario};
 use relaxed_bound::Limits;
-use scenario_maker::{made_texts_are_read, made_texts_are_short, make};
-use scenario_reader::{Refusal, read_scenario};
+use scenario_maker::{made_day, make, scenario_text};
 use std::alloc::Global;
 use text_records::{Rows, put, put_line};
 use tree_search::{Budget, Found};
@@ -39,8 +38,8 @@ pub fn try_day(alloc: Global, count: u32) -> Result<Answer, OutOfMemory>
     requires { count ≤ 2000 }
     ensures { IfOk result (λ answer. IsOfTrial count (printed_by answer)) }
 {
-    let text = make(alloc, count)?;
-    let s = made_day(alloc, count, &text)?;
+    let s = made_day(alloc, count)?;
+    let text = scenario_text(alloc, &s)?;
     let found = search_day(alloc, &s, trial_budget())?;
     told(alloc, count, &text, &s, found)
 }
@@ -56,21 +55,6 @@ fn trial_budget() -> Budget
             cells: 2_000_000,
         },
         rounds: 16,
-    }
-}
-
-// The day of the text that is made of so many flights.
-fn made_day(alloc: Global, count: u32, text: &[u8]) -> Result<Scenario, OutOfMemory>
-    requires count { count ≤ 2000 }
-    requires made { text.now ≡ made_text count }
-    ensures { IfOk result (λ s. scenario_of (made_text count) ≡ Ok (parts_of s)) }
-{
-    made_texts_are_read();
-    made_texts_are_short();
-    match read_scenario(alloc, text) {
-        Ok(s) => Ok(s),
-        Err(Refusal::Text(_)) => unreachable!(),
-        Err(Refusal::OutOfMemory) => Err(OutOfMemory),
     }
 }
 
