@@ -38,8 +38,8 @@ pub fn extra_of(s: &Scenario, flight: u32, stops: &[Stop], least: i64) -> i64
     }
 }
 
-/// A choice for each flight, which is left out; nothing where a flight has no trip in the box even if
-/// it is alone. The loads hold no trips.
+/// A choice for each flight, which is left out; nothing where a flight has no trip in the box even
+/// if it is alone. The loads hold no trips.
 pub fn choices_of(
     alloc: Global,
     s: &Scenario,

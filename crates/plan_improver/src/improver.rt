@@ -27,6 +27,10 @@ const TRIALS_A_FLIGHT: usize = 20;
 // out.
 const MOST_STEPS: usize = 40_000_000;
 
+// Up to so many flights a dearer plan is taken as easily, and from then on the seldomer the more
+// there are.
+const HOT_FLIGHTS: u64 = 64;
+
 // By which factor costs weigh more beside prices, trial by trial; 0 where prices are passed over.
 const FACTORS: [u64; 8] = [1, 1, 1, 2, 2, 4, 64, 0];
 
@@ -228,7 +232,7 @@ impl Improver {
         requires weight { weight < 2 ^ 61 }
         ensures filled { IsFilledFor (parts_of s.now) self.new }
     {
-        let delay = delay_cost(s);
+        let first = first_heat(s);
         let trials = trials_of(s);
         let mut cost = cost_of(&self.choices);
         for trial in 0..trials {
@@ -237,7 +241,7 @@ impl Improver {
             {
                 return best.keep(alloc, cost, &self.choices);
             }
-            let more = self.chosen.drawn(heat(delay, trials - trial, trials));
+            let more = self.chosen.drawn(heat(first, trials - trial, trials));
             let factor = FACTORS[trial % 8];
             let guide = if factor == 0 { None } else { Some(prices) };
             if let Some(gain) = self.try_others(
@@ -450,9 +454,16 @@ fn delay_cost(s: &Scenario) -> u64 {
     (sum / count.max(1)).max(1) as u64
 }
 
-// By how much a plan may cost more on average, in 1,024ths, with so many trials left.
-fn heat(delay: u64, left: usize, trials: usize) -> u64 {
-    delay.saturating_mul(1024).saturating_mul(left as u64) / (trials.max(1) as u64)
+// By how much a plan may cost more on average in the first trial, in 1,024ths: as much as a period
+// of delay, and less on a day of many flights.
+fn first_heat(s: &Scenario) -> u64 {
+    let flights = (s.flights().len() as u64).max(HOT_FLIGHTS);
+    delay_cost(s).saturating_mul(1024 * HOT_FLIGHTS) / flights
+}
+
+// The same with so many trials left.
+fn heat(first: u64, left: usize, trials: usize) -> u64 {
+    first.saturating_mul(left as u64) / (trials.max(1) as u64)
 }
 
 // The scheduled departures and the numbers of all flights, in that order.

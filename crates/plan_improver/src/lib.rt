@@ -12,18 +12,19 @@
 //!         None => println!("none that costs less was found"),
 //!     }
 //!
-//! The search begins with a plan in which the flights, in the order of their scheduled departures,
-//! each take the least trip that fits, by its cost and its prices together; or with the start, if
-//! that costs no more. Then it goes by trials. A trial takes out one flight that costs more than it
-//! would alone, some of the flights that fill the capacities in its way, and those that have
-//! connections with them, 24 at the most (Shaw, "Using constraint programming and local search
-//! methods to solve vehicle routing problems", 1998). It puts them back in an order that is drawn by
-//! lot, each by the least trip that fits, where costs weigh more or less beside prices; in one of
-//! eight trials the prices are passed over. If they cost no more together than before, they stay so,
-//! and else if they cost less more than a number that is drawn by lot and falls to 0 as the trials go
-//! on (simulated annealing: Kirkpatrick, Gelatt and Vecchi, 1983); or the trips before are restored. A
-//! flight for which none fits is left out, at a great cost, so that where the greedy plan is stuck
-//! the same trials complete it. The best plan on the way is the one that counts.
+//! The search begins with a plan in which the flights, in the order of their scheduled
+//! departures, each take the least trip that fits, by its cost and its prices together; or with
+//! the start, if that costs no more. Then it goes by trials. A trial takes out one flight that
+//! costs more than it would alone, some of the flights that fill the capacities in its way, and
+//! those that have connections with them, 24 at the most (Shaw, "Using constraint programming
+//! and local search methods to solve vehicle routing problems", 1998). It puts them back in an
+//! order that is drawn by lot, each by the least trip that fits, where costs weigh more or less
+//! beside prices; in one of eight trials the prices are passed over. If they cost no more
+//! together than before, they stay so, and else if they cost less more than a number that is
+//! drawn by lot and falls to 0 as the trials go on (simulated annealing: Kirkpatrick, Gelatt and
+//! Vecchi, 1983); or the trips before are restored. A flight for which none fits is left out, at
+//! a great cost, so that where the greedy plan is stuck the same trials complete it. The best
+//! plan on the way is the one that counts.
 //!
 //! Proved: what is handed on keeps every rule and is in the box; and where the start keeps every
 //! rule too, it costs less (`cheaper`). The search itself is free to do what it likes, since the
