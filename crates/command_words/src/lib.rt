@@ -21,7 +21,7 @@
 //! takes all words of that form where there is memory, and that its matches tell what they ask for.
 //!
 //! Memory: the commands as `clap` knows them, and its matches, which grow with the number of words.
-//! Time: with the number of words, squared.
+//! Time: with the number of words.
 #![tactic(auto)]
 
 mod command;

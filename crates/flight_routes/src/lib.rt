@@ -1,6 +1,6 @@
-//! The least trip of a flight in a box: under prices on capacities and connections, beside the trips
-//! of other flights, or both. It is a shortest path through nodes and periods, found by dynamic
-//! programming from the last node to the first.
+//! The least trip of a flight in a box: under prices on capacities and connections, beside the
+//! trips of other flights, or both. It is a shortest path through nodes and periods, found by
+//! dynamic programming from the last node to the first.
 //!
 //! A caller makes `Work` once for a scenario, and asks for one flight at a time:
 //!
@@ -20,16 +20,16 @@
 //! fit beside the trips of others), `Prices` (prices, and what a trip costs under them) and
 //! `TripOrder` (the order of trips). `Work` is what the room for least trips is seen as. The others
 //! serve the proof: `Rates` and `Ways` (what a flight pays on its way, and the least ways on from a
-//! stop), `TripRates`, `FitRates` and `GuideRates` (the rates at which ways are trips, trips that fit,
-//! and trips that fit under prices), `Entries` and `Firsts`
-//! (the next stop), `Early` (ways that end early), and `Costs`, `Ends`, `Filling`, `FitTimes`,
-//! `Later`, `PriceRates`, `RateLists`, `Ready`, `TimeCosts` and `TurnTimes`.
+//! stop), `TripRates`, `FitRates` and `GuideRates` (the rates at which ways are trips, trips that
+//! fit, and trips that fit under prices), `Entries` and `Firsts` (the next stop), `Early` (ways that
+//! end early), and `Costs`, `Ends`, `Filling`, `FitTimes`, `Later`,
+//! `PriceRates`, `RateLists`, `Ready`, `TimeCosts` and `TurnTimes`.
 //!
-//! Proved: `least_trip` answers the least over all trips of the flight in the box, `least_fit` and
-//! `least_priced_fit` over all of those that fit, and nothing exactly where there is none (`least`). `trip` is then
-//! the first, in the order of trips, of those that reach it, and has no stops where there is none
-//! (`first`). A price is what it was set to last (`here`, `others`), and 0 before (`free`);
-//! `copy_from` takes all those of another `Prices` over.
+//! Proved: `least_trip` answers the least over all trips of the flight in the box, `least_fit`
+//! and `least_priced_fit` over all of those that fit, and nothing exactly where there is none
+//! (`least`). `trip` is then the first, in the order of trips, of those that reach it, and has
+//! no stops where there is none (`first`). A price is what it was set to last (`here`,
+//! `others`), and 0 before (`free`); `copy_from` takes all those of another `Prices` over.
 //!
 //! The calls turn their question into rates of the flight: what leaving and arriving in a period
 //! cost, what being at a node has cost up to a period, and how long the flight may stay there. A

@@ -15,7 +15,9 @@ ghost use Rattle.flow_cli.specs.Words.{budget_of};
 ghost use Rattle.flow_cli.specs.declared.answer.Ran.{Ran};
 
 /// A run whose words make a command does what they ask for, where the files tell that the names
-/// hold what it reads, no call fails, as far as the counts tell, and there is memory. So it ends:
+/// hold what it reads, and no call fails, as far as the counts tell; or it ends with `OutOfMemory`,
+/// of which no clause says when it may come. The real files tell nothing of what they hold, so of
+/// them it says what `make` and `trial` do. A run ends:
 ///
 /// - `plan` on the text of a scenario with `Done`, `Infeasible` or `OpenGap`, and never with the
 ///   last where the nodes are enough (`planned`). With `--cert` it may end with `TooLong` too, but
@@ -23,9 +25,8 @@ ghost use Rattle.flow_cli.specs.declared.answer.Ran.{Ran};
 ///   (`certified`).
 /// - `check` and `explain` on such a text and a certificate without a fault with `Done`
 ///   (`checked`), and `judge` on such a text and that of a plan which keeps every rule (`judged`).
-/// - `make` with `Done` (`made`), and `trial` as `plan` does on the made day (`tried`).
-///
-/// Where there is no memory, each of them ends with `OutOfMemory`.
+/// - `make` with `Done` (`made`), and `trial` as `plan` does on the made day (`tried`), whose nodes
+///   are never enough to rule `OpenGap` out.
 pub fn runs_are_complete()
     ensures planned { (files : Change FilesSeen) (out : Change SinkSeen) (words : List (List ℕ))
         (ran : Ran) (name : List ℕ) (limits : SearchLimits) (parts : Parts)

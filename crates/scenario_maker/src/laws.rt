@@ -9,7 +9,8 @@ ghost use Rattle.scenario_maker.specs.Order.{AreInOrder};
 ghost use Rattle.scenario_maker.specs.Writing.{scenario_text};
 
 /// The text of parts is read as exactly these parts where they are a valid scenario whose flights
-/// have their legs in an order in which they can be read, and only there.
+/// have their legs in an order in which they can be read, and only there. That is so whatever the
+/// length: one of more than 64 MiB isn't read by the program.
 pub fn written_scenarios_are_read()
     ensures { (parts : Parts) → scenario_of (scenario_text parts) ≡ Ok parts
         ↔ (IsScenario parts × AreInOrder parts.flights) }

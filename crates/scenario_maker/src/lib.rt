@@ -1,5 +1,6 @@
-//! Writes the text of a day: of a scenario that is there, or of one that a rule makes up. What it
-//! writes is read as that day.
+//! Writes the text of a day: of a scenario that is there, or of one that a rule makes up. It is read
+//! as that day where the legs of each flight stand in an order in which they can be read, and where
+//! it isn't longer than a text may be; else it is refused.
 //!
 //!     // The text of a day with so many flights, and of a scenario.
 //!     fn made(alloc: Global, flights: u32) -> Result<Vec<u8>, OutOfMemory> {

@@ -15,10 +15,11 @@
 //!     }
 //!
 //! Where prices of 0 tell what the greedy plan costs, that is the answer. Else a climb looks for
-//! good prices, and a plan that costs less than the greedy one is looked for by them. Then it goes depth first, the early side of a split before the late one. For each
-//! box the greedy plan is made, and kept where it is cheaper than the last; so is the plan that the
-//! least trips of a climb are, where they keep the rules. An empty box is done with, and so is one
-//! in which there is no choice. Else the run of the box's relaxation gives a leaf, and prices
+//! good prices, and a plan that costs less than the greedy one is looked for by them. Then it goes
+//! depth first, the early side of a split before the late one. For each box the greedy plan is
+//! made, and kept where it is cheaper than the last; so is the plan that the least trips of a climb
+//! are, where they keep the rules. An empty box is done with, and so is one in which there is no
+//! choice. Else the run of the box's relaxation gives a leaf, and prices
 //! another one, those of rounds or those of the climb: where the bound of one reaches what the best
 //! plan costs, or where there is no room for two nodes more, the box is done with, by the one that
 //! tells more; and else it is split.
