@@ -6,7 +6,7 @@ use Rattle.flow_types.specs.declared.plan.Stop.{Stop}
 use Rattle.time_windows.specs.declared.access.Access.{Access}
 use Rattle.time_windows.specs.Boxes.{IsInWindow}
 use Rattle.flight_routes.specs.GuideRates.{AreGuideRates, if_both}
-use Rattle.flight_routes.specs.Rates.{IsPassage, IsWay, IsWayOn, Rates, value_or_zero, way_cost, whole_cost}
+use Rattle.flight_routes.specs.Rates.{IsWay, IsWayOn, Rates, value_or_zero, way_cost, whole_cost}
 
 pub there_if : (a : Option ℤ) (value : ℤ) → a ≡ Some value → IsSome a
 there_if None value is = let no : ⊥ = cc in absurd no

@@ -1,5 +1,5 @@
 -- The rates of prices, where the trip fits.
-use Rattle.std.specs.Prelude.{◌≡◌, ℕ, ◌+◌, List, length, Option, None, Some, ℤ}
+use Rattle.std.specs.Prelude.{◌≡◌, ℕ, ◌+◌, length, Option, None, Some, ℤ}
 use Rattle.flow_types.specs.declared.flight.Flight.{Flight}
 use Rattle.time_windows.specs.declared.access.Access.{Access}
 use Rattle.time_windows.specs.Boxes.{IsInWindow}
