@@ -6,13 +6,13 @@ pub mod FillFacts
 pub mod FirstFacts
 pub mod FitFacts
 pub mod FreeFacts
-pub mod GuideFacts
 pub mod LaterFacts
 pub mod LoadRateFacts
 pub mod MoveFacts
 pub mod PassageFacts
 pub mod PriceFacts
 pub mod PriceRateFacts
+pub mod PricedFitFacts
 pub mod TripFacts
 pub mod TripRateFacts
 pub mod TurnFacts

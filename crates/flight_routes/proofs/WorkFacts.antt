@@ -21,7 +21,7 @@ use Rattle.time_windows.proofs.BoxFacts.{trip_in_same}
 use Rattle.flight_routes.specs.Filling.{AreSmallAt, IsFitTable, IsPriceTable, OnlyEnd}
 use Rattle.flight_routes.specs.FitRates.{AreFitRates}
 use Rattle.flight_routes.specs.Fits.{FitsAs, IsTripThatFits}
-use Rattle.flight_routes.specs.GuideRates.{AreExchanged, AreGuideRates, if_both}
+use Rattle.flight_routes.specs.PricedFitRates.{AreExchanged, ArePricedFitRates, if_both}
 use Rattle.flight_routes.specs.Inside.{IsTripIn}
 use Rattle.flight_routes.specs.Prices.{PriceTable, priced_cost, priced_cost_of}
 use Rattle.flight_routes.specs.RateLists.{IsBlank, RateLists, place_of, rates_of}
@@ -31,7 +31,7 @@ use Rattle.flight_routes.specs.Ready.{AreRising, AreSmall, AreWindows, IsReady, 
 use Rattle.flight_routes.specs.TripOrder.{IsNoLater}
 use Rattle.flight_routes.specs.TripRates.{AreTripRates}
 use Rattle.flight_routes.proofs.FitFacts.{allowed_cost, allowed_fits, fits_allowed}
-use Rattle.flight_routes.proofs.GuideFacts.{fits_guide, guide_cost, guide_fits, there_if}
+use Rattle.flight_routes.proofs.PricedFitFacts.{fits_guide, priced_fit_cost, priced_fit_fits, there_if}
 use Rattle.flight_routes.proofs.TripFacts.{IsRowOf, in_day, in_hours, trip_way, way_trip}
 use Rattle.flight_routes.proofs.TripRateFacts.{all_allowed, priced_is}
 
@@ -174,38 +174,38 @@ module _ (parts : Parts) (valid : IsScenario parts) (box : Box) (of : IsBoxOf pa
       (long : number < length trips) (fit price rates : Rates)
       (fit_are : AreFitRates parts trips number flight row fit)
       (price_are : AreTripRates weight table parts number flight row price)
-      (guide_are : AreGuideRates flight row fit price rates) where
-    guide_to : (stops : List Stop) → IsWay flight row rates stops
+      (priced_fit_are : ArePricedFitRates flight row fit price rates) where
+    priced_fit_to : (stops : List Stop) → IsWay flight row rates stops
         → IsTripThatFits parts box trips number stops
         × (priced_cost weight table parts number stops ≡ whole_cost rates stops)
-    guide_to stops way =
+    priced_fit_to stops way =
         let fits = (fit_to trips long fit fit_are stops
-        (guide_fits flight row fit price rates guide_are stops way)).0 in
+        (priced_fit_fits flight row fit price rates priced_fit_are stops way)).0 in
         let cost = (priced_to weight table price price_are stops
         (priced_back weight table price price_are stops fits.inside)).1 in
-        (fits, cost ∙ sym (guide_cost flight row fit price rates guide_are stops way))
+        (fits, cost ∙ sym (priced_fit_cost flight row fit price rates priced_fit_are stops way))
 
-    guide_back : (stops : List Stop) → IsTripThatFits parts box trips number stops
+    priced_fit_back : (stops : List Stop) → IsTripThatFits parts box trips number stops
         → IsWay flight row rates stops
-    guide_back stops is =
-        fits_guide flight row fit price rates guide_are
+    priced_fit_back stops is =
+        fits_guide flight row fit price rates priced_fit_are
         (λ t window. there_if (price.leaves t) _ (price_are.leaves t window))
         (λ n t last window. there_if (price.arrives t) _ (price_are.arrives n t last window))
         stops (fit_back trips long fit fit_are stops is)
 
-    pub guide_least : (least : Option ℤ)
+    pub priced_fit_least : (least : Option ℤ)
         → IsLeast (IsWay flight row rates) (whole_cost rates) least
         → IsLeast (IsTripThatFits parts box trips number)
         (priced_cost weight table parts number) least
-    guide_least = least_said (IsWay flight row rates) (IsTripThatFits parts box trips number)
-        (whole_cost rates) (priced_cost weight table parts number) guide_to guide_back
+    priced_fit_least = least_said (IsWay flight row rates) (IsTripThatFits parts box trips number)
+        (whole_cost rates) (priced_cost weight table parts number) priced_fit_to priced_fit_back
 
-    pub guide_first : (stops : List Stop)
+    pub priced_fit_first : (stops : List Stop)
         → IsFirstLeast (IsWay flight row rates) (whole_cost rates) IsNoLater stops
         → IsFirstLeast (IsTripThatFits parts box trips number)
         (priced_cost weight table parts number) IsNoLater stops
-    guide_first = first_said (IsWay flight row rates) (IsTripThatFits parts box trips number)
-        (whole_cost rates) (priced_cost weight table parts number) guide_to guide_back IsNoLater
+    priced_fit_first = first_said (IsWay flight row rates) (IsTripThatFits parts box trips number)
+        (whole_cost rates) (priced_cost weight table parts number) priced_fit_to priced_fit_back IsNoLater
 
 -- what is read of a list of one number
 read_replicate : {X : Type 0} (n k : ℕ) (x : X) → (k < n) ⊎ (n ≤ k) → get_or (replicate n x) k x ≡ x
@@ -322,10 +322,10 @@ module _ (parts : Parts) (valid : IsScenario parts) (box : Box) (of : IsBoxOf pa
         omega (arith, day, few);
   }
 
-  pub guide_ready : (lists : RateLists) → lists.periods ≡ parts.day.periods
+  pub priced_fit_ready : (lists : RateLists) → lists.periods ≡ parts.day.periods
       → AreClear lists.periods (rates_of lists) → AreSmall (rates_of lists)
       → IsReady flight row lists.periods (rates_of lists)
-  guide_ready lists is clear small = record {
+  priced_fit_ready lists is clear small = record {
     day = record {
       few = omega (arith, is, valid.day.periods_to);
       clear = clear;
@@ -364,14 +364,14 @@ module _ (flight : Flight) (row : ℕ → Access) (last : ℕ) (end_is : last + 
   leaves_same : guide.leaves ≡ closed_one.leaves
   leaves_same = exchanged.leaves ∙ two.leaves
 
-  pub guide_rates : ((t : ℕ) → IsInWindow (row 0).window t
+  pub priced_fit_rates : ((t : ℕ) → IsInWindow (row 0).window t
       → (rates_of closed_one).leaves t
       ≡ if_both ((rates_of fits).leaves t) ((rates_of first).leaves t))
       → ((t : ℕ) → IsInWindow (row last).window t
       → (rates_of closed_both).arrives t
       ≡ if_both ((rates_of fits).arrives t) ((rates_of closed_one).arrives t))
-      → AreGuideRates flight row (rates_of fits) (rates_of first) (rates_of guide)
-  guide_rates leaving arriving = record {
+      → ArePricedFitRates flight row (rates_of fits) (rates_of first) (rates_of guide)
+  priced_fit_rates leaving arriving = record {
     leaves = λ t window.
         ap (λ (xs : List (Option ℤ)). get_or xs t None) leaves_same ∙ leaving t window;
     arrives = λ n t at_last window.
@@ -385,17 +385,17 @@ module _ (flight : Flight) (row : ℕ → Access) (last : ℕ) (end_is : last + 
         ap (λ (xs : List ℕ). get_or xs (place_of n t) most_periods) exchanged.clear;
   }
 
-  pub guide_rising : (periods : ℕ) → AreRising flight periods (rates_of first)
+  pub priced_fit_rising : (periods : ℕ) → AreRising flight periods (rates_of first)
       → AreRising flight periods (rates_of guide)
-  guide_rising periods rising =
+  priced_fit_rising periods rising =
       subst (λ (paid : List ℤ). (n t u : ℕ) → n + 1 < length flight.nodes → t ≤ u → u < periods
       → get_or paid (place_of n t) (pos 0) ≤ℤ get_or paid (place_of n u) (pos 0))
       (sym paid_same) rising
 
-  pub guide_small : IsPriceTable first → (AreSmallAt Departure first → AreSmallAt Departure closed_one)
+  pub priced_fit_small : IsPriceTable first → (AreSmallAt Departure first → AreSmallAt Departure closed_one)
       → (AreSmallAt Arrival closed_one → AreSmallAt Arrival closed_both)
       → AreSmall (rates_of guide)
-  guide_small table within within_too = record {
+  priced_fit_small table within within_too = record {
     leaves = subst (λ (xs : List (Option ℤ)). (t : ℕ) → IfSome (get_or xs t None) (IsNear (2 ^ 110)))
         (sym leaves_same) (within table.leaves);
     arrives = subst
@@ -409,9 +409,9 @@ module _ (flight : Flight) (row : ℕ → Access) (last : ℕ) (end_is : last + 
         (sym paid_same) table.paid;
   }
 
-  pub guide_clear : (periods : ℕ) → fits.periods ≡ periods → periods ≤ most_periods
+  pub priced_fit_clear : (periods : ℕ) → fits.periods ≡ periods → periods ≤ most_periods
       → IsFitTable fits → AreClear periods (rates_of guide)
-  guide_clear periods same few table =
+  priced_fit_clear periods same few table =
       subst (λ (xs : List ℕ). (n t : ℕ) → t + 1 < periods
       → (get_or xs (place_of n t) most_periods ≡ t)
       ⊎ ((t < get_or xs (place_of n t) most_periods)

@@ -7,10 +7,10 @@ pub mod Firsts
 pub mod FitRates
 pub mod FitTimes
 pub mod Fits
-pub mod GuideRates
 pub mod Inside
 pub mod Later
 pub mod PriceRates
+pub mod PricedFitRates
 pub mod Prices
 pub mod RateLists
 pub mod Rates

@@ -20,7 +20,7 @@
 //! fit beside the trips of others), `Prices` (prices, and what a trip costs under them) and
 //! `TripOrder` (the order of trips). `Work` is what the room for least trips is seen as. The others
 //! serve the proof: `Rates` and `Ways` (what a flight pays on its way, and the least ways on from a
-//! stop), `TripRates`, `FitRates` and `GuideRates` (the rates at which ways are trips, trips that
+//! stop), `TripRates`, `FitRates` and `PricedFitRates` (the rates at which ways are trips, trips that
 //! fit, and trips that fit under prices), `Entries` and `Firsts` (the next stop), `Early` (ways that
 //! end early), and `Costs`, `Ends`, `Filling`, `FitTimes`, `Later`,
 //! `PriceRates`, `RateLists`, `Ready`, `TimeCosts` and `TurnTimes`.
@@ -58,10 +58,10 @@ mod early;
 mod ends;
 mod fill;
 mod fit_rates;
-mod guide_rates;
 mod later;
 mod price_block;
 mod price_rates;
+mod priced_fit_rates;
 mod prices;
 mod rates;
 mod relax;

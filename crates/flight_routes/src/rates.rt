@@ -204,7 +204,7 @@ impl RateTable {
     ghost use Rattle.std.specs.Prelude.{◌≡◌, ◌≢◌, ◌<◌, ◌^◌, ℕ, pos};
     ghost use Rattle.flow_types.specs.Limits.{most_nodes, most_periods};
     ghost use Rattle.flight_routes.specs.Filling.{ArePaidSmall, OnlyClear, OnlyEnd, OnlyPaid};
-    ghost use Rattle.flight_routes.specs.GuideRates.{AreExchanged};
+    ghost use Rattle.flight_routes.specs.PricedFitRates.{AreExchanged};
     ghost use Rattle.flight_routes.specs.RateLists.{rates_of};
     ghost use Rattle.flight_routes.specs.Rates.{rate_at};
 

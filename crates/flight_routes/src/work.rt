@@ -13,8 +13,8 @@ use crate::cost::Cost;
 use crate::distances::distances_of;
 use crate::early::{about_first_end, early_way, last_end};
 use crate::fit_rates::set_fit_rates;
-use crate::guide_rates::close_end_in;
 use crate::price_rates::set_price_rates;
+use crate::priced_fit_rates::close_end_in;
 use crate::prices::Prices;
 use crate::rates::RateTable;
 use crate::table::Table;
@@ -158,8 +158,9 @@ impl Work {
 
     /// The least cost of the trips of the flight in the box that fit beside the trips that the
     /// loads count: they take no count above a capacity and break no connection. Nothing where
-    /// there is no such trip. The flight isn't in the loads yet; it, the box and the loads are of
-    /// the scenario that the work was made for. It takes no memory, and time as `least_trip`.
+    /// there is no such trip. A trip of its own that the loads count takes room like any other. The
+    /// flight, the box and the loads are of the scenario that the work was made for. It takes no
+    /// memory, and time as `least_trip`.
     pub fn least_fit(
         &mut self,
         s: &Scenario,
@@ -203,9 +204,9 @@ impl Work {
 
     /// The least of weight times cost plus prices over the trips of the flight in the box that fit
     /// beside the trips that the loads count, as for `least_fit`. Nothing where there is no such
-    /// trip. The flight isn't in the loads yet; it, the box, the prices and the loads are of the
-    /// scenario that the work was made for, and the weight is below 2^62. It takes no memory, and
-    /// the time of both other calls.
+    /// trip. The flight, the box, the prices and the loads are of the scenario that the work was
+    /// made for, and the weight is below 2^62. It takes no memory, and the time in which both other
+    /// calls set their rates and one of them finds its least.
     pub fn least_priced_fit(
         &mut self,
         s: &Scenario,

@@ -12,7 +12,7 @@ use Rattle.flight_routes.specs.Rates.{IsWay, whole_cost}
 use Rattle.flight_routes.specs.Ready.{row_of}
 use Rattle.flight_routes.specs.TripOrder.{IsNoLater}
 use Rattle.flight_routes.specs.Work.{Worked}
-use Rattle.flight_routes.proofs.WorkFacts.{guide_clear, guide_first, guide_least, guide_rates, guide_ready, guide_rising, guide_small, match_first, most_windows, price_rising, proper_written, row_written, written}
+use Rattle.flight_routes.proofs.WorkFacts.{priced_fit_clear, priced_fit_first, priced_fit_least, priced_fit_rates, priced_fit_ready, priced_fit_rising, priced_fit_small, match_first, most_windows, price_rising, proper_written, row_written, written}
 use Rattle.flight_routes.proofs.work.Work.least_priced_fit.Goals as goal
 
 pub close_end_in-requires-clause-windows : goal.close_end_in-requires-clause-windows
@@ -69,16 +69,16 @@ least_way-least-requires-clause-ready c =
     let periods = c.exchange_clear.ensures.periods ∙ c.close_end_in-2.ensures.only.periods
     ∙ c.close_end_in.ensures.only.periods ∙ priced in
     let few = c.args.s.now.valid.day.periods_to in
-    guide_ready parts c.args.s.now.valid (box_of c.args.boxes.now) c.requires.boxes.inside
+    priced_fit_ready parts c.args.s.now.valid (box_of c.args.boxes.now) c.requires.boxes.inside
     c.args.flight c.index-flights-flight.result here row same proper c.exchange_clear.new.self
     periods
-    (guide_clear c.index-flights-flight.result row c.last_of.result c.last_of.ensures
+    (priced_fit_clear c.index-flights-flight.result row c.last_of.result c.last_of.ensures
     c.set_price_rates.new.table c.close_end_in.new.table c.close_end_in-2.new.table
     c.set_fit_rates.new.table c.exchange_clear.new.self c.exchange_clear.new.other
     c.close_end_in.ensures.only c.close_end_in-2.ensures.only c.exchange_clear.ensures
     c.exchange_clear.new.self.periods (fitting ∙ sym periods) (omega (arith, periods, few))
     c.set_fit_rates.ensures.table)
-    (guide_small c.index-flights-flight.result row c.last_of.result c.last_of.ensures
+    (priced_fit_small c.index-flights-flight.result row c.last_of.result c.last_of.ensures
     c.set_price_rates.new.table c.close_end_in.new.table c.close_end_in-2.new.table
     c.set_fit_rates.new.table c.exchange_clear.new.self c.exchange_clear.new.other
     c.close_end_in.ensures.only c.close_end_in-2.ensures.only c.exchange_clear.ensures
@@ -100,7 +100,7 @@ least_way-least-requires-clause-rising c =
     let priced = c.set_price_rates.ensures.periods ∙ c.self.invariant.0 ∙ made in
     let periods = c.exchange_clear.ensures.periods ∙ c.close_end_in-2.ensures.only.periods
     ∙ c.close_end_in.ensures.only.periods ∙ priced in
-    guide_rising c.index-flights-flight.result row c.last_of.result c.last_of.ensures
+    priced_fit_rising c.index-flights-flight.result row c.last_of.result c.last_of.ensures
     c.set_price_rates.new.table c.close_end_in.new.table c.close_end_in-2.new.table
     c.set_fit_rates.new.table c.exchange_clear.new.self c.exchange_clear.new.other
     c.close_end_in.ensures.only c.close_end_in-2.ensures.only c.exchange_clear.ensures
@@ -122,7 +122,7 @@ returns-clause-least c = λ trips are.
     let row = row_of c.deref-row.result.now in
     let same = row_written c.deref-row.result.now c.take_row.new.accesses
     (box_of c.args.boxes.now c.args.flight) read c.take_row.ensures.row in
-    let guided = guide_rates c.index-flights-flight.result row c.last_of.result c.last_of.ensures
+    let fitted = priced_fit_rates c.index-flights-flight.result row c.last_of.result c.last_of.ensures
     c.set_price_rates.new.table c.close_end_in.new.table c.close_end_in-2.new.table
     c.set_fit_rates.new.table c.exchange_clear.new.self c.exchange_clear.new.other
     c.close_end_in.ensures.only c.close_end_in-2.ensures.only c.exchange_clear.ensures
@@ -133,12 +133,12 @@ returns-clause-least c = λ trips are.
     let count = AreTripsOrNone-length parts.day.periods parts.flights trips are.each in
     omega (arith, c.requires.flight, count) in
     rw c.get.ensures
-    (guide_least parts c.args.s.now.valid (box_of c.args.boxes.now) c.requires.boxes.inside
+    (priced_fit_least parts c.args.s.now.valid (box_of c.args.boxes.now) c.requires.boxes.inside
     c.args.flight c.index-flights-flight.result here row same c.args.weight c.args.prices.now
     trips (long trips are) (rates_of c.set_fit_rates.new.table)
     (rates_of c.set_price_rates.new.table) (rates_of c.exchange_clear.new.self)
     (c.set_fit_rates.ensures.rates trips c.index-flights-flight.result are here)
-    (c.set_price_rates.ensures.rates c.index-flights-flight.result here) guided
+    (c.set_price_rates.ensures.rates c.index-flights-flight.result here) fitted
     c.least_way-least.result c.least_way-least.ensures.least)
 
 pub returns-clause-first : goal.returns-clause-first
@@ -153,7 +153,7 @@ returns-clause-first c = λ trips are.
     let row = row_of c.deref-row.result.now in
     let same = row_written c.deref-row.result.now c.take_row.new.accesses
     (box_of c.args.boxes.now c.args.flight) read c.take_row.ensures.row in
-    let guided = guide_rates c.index-flights-flight.result row c.last_of.result c.last_of.ensures
+    let fitted = priced_fit_rates c.index-flights-flight.result row c.last_of.result c.last_of.ensures
     c.set_price_rates.new.table c.close_end_in.new.table c.close_end_in-2.new.table
     c.set_fit_rates.new.table c.exchange_clear.new.self c.exchange_clear.new.other
     c.close_end_in.ensures.only c.close_end_in-2.ensures.only c.exchange_clear.ensures
@@ -171,10 +171,10 @@ returns-clause-first c = λ trips are.
     (priced_cost c.args.weight c.args.prices.now parts c.args.flight) IsNoLater
     c.least_way-least.result (c.least_way-least.new.stops.items ≡ [])
     c.least_way-least.new.stops.items
-    (guide_first parts c.args.s.now.valid (box_of c.args.boxes.now) c.requires.boxes.inside
+    (priced_fit_first parts c.args.s.now.valid (box_of c.args.boxes.now) c.requires.boxes.inside
     c.args.flight c.index-flights-flight.result here row same c.args.weight c.args.prices.now
     trips (long trips are) (rates_of c.set_fit_rates.new.table)
     (rates_of c.set_price_rates.new.table) (rates_of c.exchange_clear.new.self)
     (c.set_fit_rates.ensures.rates trips c.index-flights-flight.result are here)
-    (c.set_price_rates.ensures.rates c.index-flights-flight.result here) guided)
+    (c.set_price_rates.ensures.rates c.index-flights-flight.result here) fitted)
     c.least_way-least.ensures.first)

@@ -5,7 +5,7 @@ use Rattle.flow_types.specs.declared.flight.Flight.{Flight}
 use Rattle.flow_types.specs.declared.plan.Stop.{Stop}
 use Rattle.time_windows.specs.declared.access.Access.{Access}
 use Rattle.time_windows.specs.Boxes.{IsInWindow}
-use Rattle.flight_routes.specs.GuideRates.{AreGuideRates, if_both}
+use Rattle.flight_routes.specs.PricedFitRates.{ArePricedFitRates, if_both}
 use Rattle.flight_routes.specs.Rates.{IsWay, IsWayOn, Rates, value_or_zero, way_cost, whole_cost}
 
 pub there_if : (a : Option ℤ) (value : ℤ) → a ≡ Some value → IsSome a
@@ -26,7 +26,7 @@ second_is None price some = let no : ⊥ = cc in absurd no
 second_is (Some v) price some = refl
 
 module _ (flight : Flight) (row : ℕ → Access) (fit price rates : Rates)
-    (are : AreGuideRates flight row fit price rates) where
+    (are : ArePricedFitRates flight row fit price rates) where
   -- the rate where the way ends
   end_rate : (stop : Stop) → IsInWindow (row stop.node).window stop.time
       → stop.node + 1 ≡ length flight.nodes
@@ -91,10 +91,10 @@ module _ (flight : Flight) (row : ℕ → Access) (fit price rates : Rates)
   first_window stop at_first window =
       subst (λ (n : ℕ). IsInWindow (row n).window stop.time) (sym at_first) window
 
-  pub guide_fits : (stops : List Stop) → IsWay flight row rates stops
+  pub priced_fit_fits : (stops : List Stop) → IsWay flight row rates stops
       → IsWay flight row fit stops
-  guide_fits [] way = way
-  guide_fits (stop ∷ rest) way = (
+  priced_fit_fits [] way = way
+  priced_fit_fits (stop ∷ rest) way = (
     way.0,
     way.1,
     first_there (fit.leaves stop.time) (price.leaves stop.time)
@@ -116,10 +116,10 @@ module _ (flight : Flight) (row : ℕ → Access) (fit price rates : Rates)
     on_guide stop rest (first_window stop way.0 way.1) arrives way.3,
   )
 
-  pub guide_cost : (stops : List Stop) → IsWay flight row rates stops
+  pub priced_fit_cost : (stops : List Stop) → IsWay flight row rates stops
       → whole_cost rates stops ≡ whole_cost price stops
-  guide_cost [] way = refl
-  guide_cost (stop ∷ rest) way =
+  priced_fit_cost [] way = refl
+  priced_fit_cost (stop ∷ rest) way =
       let is = are.leaves stop.time way.1 in
       ap₂ (λ (a b : ℤ). a +ℤ b)
       (ap value_or_zero is

@@ -3,7 +3,7 @@ ghost use Rattle.std.specs.Prelude.{◌≡◌, ◌≤◌, ◌<◌, ℕ, length};
 ghost use Rattle.flow_types.specs.Limits.{most_nodes, most_periods};
 ghost use Rattle.time_windows.specs.Boxes.{IsInWindow};
 ghost use Rattle.flight_routes.specs.Filling.{AreSmallAt, OnlyEnd};
-ghost use Rattle.flight_routes.specs.GuideRates.{if_both};
+ghost use Rattle.flight_routes.specs.PricedFitRates.{if_both};
 ghost use Rattle.flight_routes.specs.RateLists.{rates_of};
 ghost use Rattle.flight_routes.specs.Rates.{rate_at};
 ghost use Rattle.flight_routes.specs.Ready.{AreWindows, row_of};
@@ -12,8 +12,8 @@ use crate::cost::Cost;
 use crate::rates::RateTable;
 use time_windows::{Access, End, Window};
 
-// Takes away what this end of the trip costs in each period of the window in which the flight may
-// not be there beside the loads.
+// Closes this end of the trip in each period of the window in which the flight may not be there
+// beside the loads.
 #[tactic(auto, using(crate::proofs::FillFacts::end_more, crate::proofs::FillFacts::end_none))]
 fn close_end(table: &mut RateTable, fits: &RateTable, end: End, window: Window)
     requires { window.hi < most_periods }
@@ -30,8 +30,8 @@ fn close_end(table: &mut RateTable, fits: &RateTable, end: End, window: Window)
     }
 }
 
-/// Takes away what this end of the trip costs in each period in which the flight may not be there
-/// beside the loads, where its node is open.
+/// Closes this end of the trip in each period in which the flight may not be there beside the
+/// loads, where its node is open.
 pub fn close_end_in(
     table: &mut RateTable,
     fits: &RateTable,

@@ -1,9 +1,9 @@
 use Rattle.std.proofs.Common.{◌≡◌, ◌≤◌, ◌<◌, ℕ}
 use Rattle.flight_routes.specs.Filling.{AreSmallAt, OnlyEnd}
-use Rattle.flight_routes.specs.GuideRates.{if_both}
+use Rattle.flight_routes.specs.PricedFitRates.{if_both}
 use Rattle.flight_routes.specs.RateLists.{rates_of}
 use Rattle.flight_routes.specs.Rates.{rate_at}
-use Rattle.flight_routes.proofs.guide_rates.close_end.Given as goal
+use Rattle.flight_routes.proofs.priced_fit_rates.close_end.Given as goal
 
 abbrev pub invariant-loop-time : goal.invariant-loop-time
 invariant-loop-time l =

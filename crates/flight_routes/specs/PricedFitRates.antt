@@ -26,7 +26,7 @@ pub record AreExchanged (old other new now : RateLists) : Type 0 where
 
 -- leaving and arriving cost what they do under prices, where the trip fits; a stay is paid as under
 -- prices, and is as long as one that fits
-pub record AreGuideRates (flight : Flight) (row : ℕ → Access) (fit price rates : Rates)
+pub record ArePricedFitRates (flight : Flight) (row : ℕ → Access) (fit price rates : Rates)
     : Type 0 where
   pub leaves : (t : ℕ) → IsInWindow (row 0).window t
       → rates.leaves t ≡ if_both (fit.leaves t) (price.leaves t)

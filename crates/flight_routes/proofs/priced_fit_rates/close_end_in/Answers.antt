@@ -2,7 +2,7 @@ use Rattle.std.proofs.Common.{rules}
 use Rattle.flow_types.specs.Limits.{most_periods}
 use Rattle.flight_routes.specs.Ready.{row_of}
 use Rattle.flight_routes.proofs.FillFacts.{window_end}
-use Rattle.flight_routes.proofs.guide_rates.close_end_in.Goals as goal
+use Rattle.flight_routes.proofs.priced_fit_rates.close_end_in.Goals as goal
 
 pub close_end-requires : goal.close_end-requires
 close_end-requires c =
