@@ -1,5 +1,6 @@
 //! What prices tell of all plans.
 ghost use Rattle.std.specs.Prelude.{◌≡◌, ◌≢◌, ℕ, ◌<◌, ◌^◌, List, length, ℤ, pos, ◌+ℤ◌, ◌≤ℤ◌};
+ghost use Rattle.flow_types.specs.Bounds.{IsAtMost};
 ghost use Rattle.flow_types.specs.Feasible.{AreTrips, IsFeasible};
 ghost use Rattle.flow_types.specs.Valid.{IsScenario};
 ghost use Rattle.flow_types.specs.declared.bound.Bound.{Bound};
@@ -53,6 +54,16 @@ pub fn prices_are_small()
         → ((other : PriceKey) → IsKeyOf old other → other ≢ chosen
         → price_at new other ≡ price_at old other)
         → AreSmall new }
+{}
+
+/// In a part of a box the same prices tell no less, since each flight has fewer trips there.
+pub fn prices_tell_no_less_in_parts()
+    ensures { (parts : Parts) (whole part : Box) (weight : ℕ) (table : PriceTable)
+        (in_whole in_part : Bound)
+        → ((number : ℕ) (stops : List Stop) → IsTripIn parts part number stops
+        → IsTripIn parts whole number stops)
+        → IsPricedBound parts whole weight table in_whole
+        → IsPricedBound parts part weight table in_part → IsAtMost in_whole in_part }
 {}
 
 /// The bound that prices tell bounds the feasible plans in a box.

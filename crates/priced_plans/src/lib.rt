@@ -32,6 +32,7 @@
 //! exactly that value, or None, and then some flight has no trip in the box (`value`); the value is
 //! no further from 0 than 2^123 (`within`). `priced_bound` gives that value divided by the weight
 //! and rounded up, and then no feasible plan in the box costs less (`priced_bounds_are_bounds`).
+//! In a part of the box the same prices tell no less (`prices_tell_no_less_in_parts`).
 //! Both ask that every price is below 2^62: prices of 0 are, and stay so where such a price is set
 //! (`prices_are_small`). What a price is put on, how often trips use it and how often they may, is
 //! told in one place for all kinds: `price_kinds`, `row_count`, `has_limit`, and `usage_of`, which
@@ -50,7 +51,7 @@ pub use bound::{priced_bound, rounded_up, told_by};
 pub use kinds::{has_limit, price_kinds, row_count};
 pub use laws::{
     plans_pay_by_counts, plans_pay_no_more_than_capacities, priced_bounds_are_bounds,
-    priced_values_are_bounds, prices_are_small,
+    priced_values_are_bounds, prices_are_small, prices_tell_no_less_in_parts,
 };
 pub use usage::{Usage, usage_of};
 pub use value::{limit_price, priced_value};
