@@ -29,6 +29,9 @@ pub struct Chosen {
     hotspots: Vec<Hotspot>,
     others: Vec<u32>,
     flights: Vec<u32>,
+    seed: u32,
+    is_some_left_out: bool,
+    ranks: Vec<Rank>,
 }
 
 // Written out, so that proofs see one call where a room is let go of.
@@ -40,6 +43,9 @@ impl Drop for Chosen {
             hotspots: _,
             others: _,
             flights: _,
+            seed: _,
+            is_some_left_out: _,
+            ranks: _,
         } = self;
     }
 }
@@ -53,6 +59,9 @@ impl Chosen {
             hotspots: Vec::new(alloc),
             others: Vec::new(alloc),
             flights: Vec::new(alloc),
+            seed: 0,
+            is_some_left_out: false,
+            ranks: Vec::new(alloc),
         }
     }
 
@@ -71,21 +80,50 @@ impl Chosen {
         self.flights.get(position).copied()
     }
 
-    /// A number that is drawn by lot, so great on average, which is told in 1,024ths.
-    pub fn drawn(&mut self, mean: u64) -> i64 {
-        let twice = mean.saturating_mul(self.generator.below(2048) as u64) >> 20;
-        twice.min(1 << 60) as i64
+    /// A number that is drawn by lot, the seldomer the greater it is, and so great on average; the
+    /// average is told in 1,024ths.
+    pub fn rare(&mut self, mean: u64) -> i64 {
+        self.generator.rare(mean)
+    }
+
+    /// All flights in the order of their scheduled departures, some up to so many half periods
+    /// later than they stand there.
+    pub fn by_departure(
+        &mut self,
+        alloc: Global,
+        s: &Scenario,
+        later: u16,
+    ) -> Result<Vec<(u32, u32)>, OutOfMemory> {
+        let mut departures = Vec::new(alloc);
+        for flight in 0..s.flights().len() {
+            let late = self.generator.up_to(later);
+            let departs = u32::from(s.flights()[flight].sd) * 2 + u32::from(late);
+            departures.push((departs, flight as u32))?;
+        }
+        departures.sort_unstable();
+        Ok(departures)
     }
 
     /// Chooses this flight alone.
     pub fn choose_one(&mut self, flight: u32) -> Result<(), OutOfMemory> {
+        self.seed = flight;
         self.flights.clear();
         self.flights.push(flight)?;
         Ok(())
     }
 
+    /// The flight that was chosen first: the others are in its way.
+    pub fn seed(&self) -> u32 {
+        self.seed
+    }
+
+    /// Whether a flight was left out when these were chosen.
+    pub fn is_some_left_out(&self) -> bool {
+        self.is_some_left_out
+    }
+
     /// Chooses a delayed flight with some that are in its way, and tells whether one is delayed. In
-    /// one of two choices it is one that is left out, if there is such a flight.
+    /// seven of eight choices it is one that is left out, if there is such a flight.
     pub fn choose(
         &mut self,
         s: &Scenario,
@@ -97,7 +135,8 @@ impl Chosen {
         requires count { length choices.now ≡ length (parts_of s.now).flights }
     {
         list_left_out(&mut self.delayed, choices)?;
-        if self.delayed.is_empty() || self.generator.below(2) == 0 {
+        self.is_some_left_out = !self.delayed.is_empty();
+        if self.delayed.is_empty() || self.generator.below(8) == 0 {
             list_delayed(&mut self.delayed, choices)?;
         }
         if self.delayed.is_empty() {
@@ -108,8 +147,21 @@ impl Chosen {
         self.list_others(s, boxes, loads, choices, flight)?;
         self.choose_one(flight)?;
         add_with_partners(&mut self.flights, boxes, &self.others)?;
-        self.generator.mix(&mut self.flights);
+        self.put_in_order(s, choices)?;
         Ok(true)
+    }
+
+    // Puts the chosen flights into an order that is drawn by lot: any one, that of scheduled or of
+    // latest departures, or the first one before the others. Flights for which no trip was found
+    // more often of late come first, and so do those that are left out.
+    fn put_in_order(&mut self, s: &Scenario, choices: &[Choice]) -> Result<(), OutOfMemory>
+        requires count { length choices.now ≡ length (parts_of s.now).flights }
+    {
+        self.generator.mix(&mut self.flights);
+        let order = order_of(self.generator.below(4));
+        rank_all(&mut self.ranks, s, choices, order, self.seed, &self.flights)?;
+        self.ranks.sort_unstable();
+        take_order(&mut self.flights, &self.ranks)
     }
 
     // Lists some full capacities that the flight would have to pass to be earlier.
@@ -163,6 +215,92 @@ impl Chosen {
         self.generator.mix(&mut self.others);
         self.others.truncate(1 + self.generator.below(MOST_OTHERS));
         Ok(())
+    }
+}
+
+// In which order flights are put back.
+#[derive(Clone, Copy, Debug, PartialEq, Eq)]
+enum Order {
+    Any,
+    SeedFirst,
+    Departure,
+    LatestDeparture,
+}
+
+// The order of this number.
+fn order_of(number: usize) -> Order {
+    match number {
+        0 => Order::Departure,
+        1 => Order::SeedFirst,
+        2 => Order::LatestDeparture,
+        _ => Order::Any,
+    }
+}
+
+// What flights are ordered by.
+#[derive(Clone, Copy, Debug, PartialEq, Eq, PartialOrd, Ord)]
+struct Rank {
+    // How often no trip was found for it of late, and once more where it is left out; below 0.
+    missed: i64,
+    later: u32,
+    drawn: usize,
+    flight: u32,
+}
+
+// Ranks the flights, which stand as they are drawn.
+fn rank_all(
+    ranks: &mut Vec<Rank>,
+    s: &Scenario,
+    choices: &[Choice],
+    order: Order,
+    seed: u32,
+    flights: &[u32],
+) -> Result<(), OutOfMemory>
+    requires count { length choices.now ≡ length (parts_of s.now).flights }
+{
+    ranks.clear();
+    for flight in flights {
+        let mut rank = rank_of(s, choices, order, seed, *flight);
+        rank.drawn = ranks.len();
+        ranks.push(rank)?;
+    }
+    Ok(())
+}
+
+// Lists the flights as they are ranked.
+fn take_order(flights: &mut Vec<u32>, ranks: &[Rank]) -> Result<(), OutOfMemory> {
+    flights.clear();
+    for rank in ranks {
+        flights.push(rank.flight)?;
+    }
+    Ok(())
+}
+
+// The rank of a flight in the order, where nothing is drawn.
+fn rank_of(s: &Scenario, choices: &[Choice], order: Order, seed: u32, flight: u32) -> Rank
+    requires count { length choices.now ≡ length (parts_of s.now).flights }
+{
+    let mut rank = Rank {
+        missed: 0,
+        later: 0,
+        drawn: 0,
+        flight,
+    };
+    if let Some(choice) = choices.get(flight as usize) {
+        let left_out = if choice.is_left_out() { -1i64 } else { 0 };
+        rank.missed = left_out.saturating_sub(choice.failures);
+        rank.later = later_in(order, &s.flights()[flight as usize], flight == seed);
+    }
+    rank
+}
+
+// How late a flight comes in the order, by its schedule or as the seed.
+fn later_in(order: Order, flight: &Flight, is_seed: bool) -> u32 {
+    match order {
+        Order::Any => 0,
+        Order::SeedFirst => { if is_seed { 0 } else { 1 } }
+        Order::Departure => u32::from(flight.sd),
+        Order::LatestDeparture => u32::from(flight.sd) + u32::from(flight.mg),
     }
 }
 

@@ -11,8 +11,8 @@ use plan_rules::{Loads, trip_cost};
 use std::alloc::Global;
 use time_windows::Boxes;
 
-/// What a flight that is left out costs more: above what all delays of a day cost together.
-pub const LEFT_OUT: i64 = 1 << 50;
+// How many times its worst delay a flight costs that is left out.
+const TIMES_LEFT_OUT: i64 = 3;
 
 /// What a flight has at present.
 #[derive(Debug, Drop)]
@@ -25,14 +25,33 @@ pub struct Choice {
     pub trip: Trip,
     /// How much more than the least it costs.
     pub extra: i64,
+    /// How much more than the least any trip of the flight costs, at the most.
+    pub worst: i64,
+    /// How often no trip was found for it of late.
+    pub failures: i64,
 }
 
-/// How much more than the least the trip of the flight costs.
-pub fn extra_of(s: &Scenario, flight: u32, stops: &[Stop], least: i64) -> i64
+impl Choice {
+    /// What it costs more where the flight is left out: more than its worst delay, and the more the
+    /// more often no trip was found for it.
+    pub fn left_out(&self) -> i64 {
+        self.worst
+            .saturating_mul(TIMES_LEFT_OUT)
+            .saturating_mul(self.failures.saturating_add(1))
+    }
+
+    /// Whether the flight is left out.
+    pub fn is_left_out(&self) -> bool {
+        self.trip.items().is_empty()
+    }
+}
+
+/// How much more than the least the trip of the flight costs; so much where it has no stops.
+pub fn extra_of(s: &Scenario, flight: u32, stops: &[Stop], least: i64, left_out: i64) -> i64
     requires { flight < length (parts_of s.now).flights }
 {
     if stops.is_empty() {
-        LEFT_OUT
+        left_out
     } else {
         trip_cost(s, flight, stops).saturating_sub(least)
     }
@@ -69,12 +88,38 @@ pub fn choices_of(
 fn left_out(alloc: Global, s: &Scenario, flight: u32, alone: &[Stop]) -> Result<Choice, OutOfMemory>
     requires { flight < length (parts_of s.now).flights }
 {
-    Ok(Choice {
+    let least = trip_cost(s, flight, alone);
+    let mut choice = Choice {
         alone: Trip::from_stops(alloc, alone)?,
-        least: trip_cost(s, flight, alone),
+        least,
         trip: Trip::empty(alloc),
-        extra: LEFT_OUT,
-    })
+        extra: 0,
+        worst: worst_of(s, flight).saturating_sub(least).max(1),
+        failures: 0,
+    };
+    choice.extra = choice.left_out();
+    Ok(choice)
+}
+
+// No trip of the flight costs more.
+fn worst_of(s: &Scenario, flight: u32) -> i64
+    requires { flight < length (parts_of s.now).flights }
+{
+    let details = &s.flights()[flight as usize];
+    let mut total = s.total(flight, 0);
+    for delay in 0..details.md {
+        total = total.max(s.total(flight, delay.saturating_add(1)));
+    }
+    let mut credit = s.credit(flight, 0);
+    for delay in 0..details.mg {
+        credit = credit.min(s.credit(flight, delay.saturating_add(1)));
+    }
+    total.saturating_sub(credit)
+}
+
+/// Whether no flight is left out.
+pub fn is_complete(choices: &[Choice]) -> bool {
+    choices.iter().all(|choice| !choice.is_left_out())
 }
 
 /// The plan that the choices make.

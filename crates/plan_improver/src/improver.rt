@@ -8,8 +8,10 @@ ghost use Rattle.time_windows.specs.Held.{IsMadeFor, box_of};
 ghost use Rattle.plan_improver.specs.Cheaper.{IsCheaper, IsLess};
 ghost use Rattle.time_windows.specs.Plans.{IsPlanIn};
 
+use crate::best::{Best, are_enough};
 use crate::choosing::Chosen;
-use crate::draft::{Choice, choices_of, extra_of, plan_of};
+use crate::draft::{Choice, choices_of, extra_of, is_complete};
+use crate::effort::Effort;
 use crate::inside::is_in_box;
 use flight_routes::{Prices, Work};
 use flow_types::{Bound, Flight, OutOfMemory, Plan, Scenario, Trip};
@@ -18,24 +20,31 @@ use std::alloc::Global;
 use std::marker::Model;
 use time_windows::Boxes;
 
-// How many trials there are, and how many more for each flight.
-const TRIALS: usize = 6_000;
+// In how many plans the search begins, one after the other; it goes on from the best that it found
+// so.
+const STARTS: usize = 4;
 
-const TRIALS_A_FLIGHT: usize = 20;
+// How much later than it is scheduled a flight may stand in the order of a second start, in half
+// periods.
+const LATER: u16 = 12;
 
-// How many legs, times the periods of the day, the trials may look at, if each takes one flight
-// out.
-const MOST_STEPS: usize = 40_000_000;
+// By which factor costs weigh more beside prices, start by start and trial by trial; 0 where prices
+// are passed over.
+const START_FACTORS: [u64; STARTS] = [1, 2, 1, 0];
 
-// Up to so many flights a dearer plan is taken as easily, and from then on the seldomer the more
-// there are.
-const HOT_FLIGHTS: u64 = 64;
-
-// By which factor costs weigh more beside prices, trial by trial; 0 where prices are passed over.
 const FACTORS: [u64; 8] = [1, 1, 1, 2, 2, 4, 64, 0];
 
-// More than any weight that costs may have.
+// The most that costs may weigh.
 const MOST_WEIGHT: u64 = 1 << 61;
+
+/// How long a search is.
+#[derive(Clone, Copy, Debug, PartialEq, Eq)]
+pub enum Search {
+    /// It begins in one plan.
+    Short,
+    /// It begins in one plan after the other, and goes on from the best; six times as long.
+    Long,
+}
 
 // A trip that a flight is given in a trial, and how much more than the least it costs.
 #[derive(Debug, Drop)]
@@ -109,14 +118,16 @@ impl Improver {
     /// first flights alone: the search begins with it only where it keeps every rule and costs no
     /// more than a plan of its own.
     ///
-    /// Flights are put back by prices too, where costs weigh so much: the better the prices, the
-    /// better the plan. It ends where a plan costs no more than a bound that is enough.
+    /// Flights are put back by prices too, beside which costs weigh so much, less than 2^61: the
+    /// better the prices, the better the plan. It ends where a plan costs no more than a bound that
+    /// is enough.
     ///
     /// The box and the prices are of the scenario that the room was made for. What it is given
     /// tells the plan, whatever was searched before. It takes memory for the stops of four plans
-    /// while it runs, and for the plan; time for 6,000 trials and twenty more a flight, fewer on long
-    /// days with many legs, each as 24 least trips at the most and a look at each flight. The room
-    /// keeps nothing that a caller sees, so it is as good as before also after want of memory.
+    /// while it runs, and for the plan; time for 18,000 trials and twelve more a flight, or a sixth
+    /// of them where it is short, fewer on long days with many legs, each as 24 least trips at the
+    /// most and a look at each flight. The room keeps nothing that a caller sees, so it is as good
+    /// as before also after want of memory.
     ///
     /// Large neighbourhood search (Shaw, "Using constraint programming and local search methods to
     /// solve vehicle routing problems", 1998), where dearer plans are taken too, the seldomer the
@@ -130,6 +141,7 @@ impl Improver {
         prices: &Prices,
         weight: u64,
         enough: Bound,
+        search: Search,
     ) -> Result<Option<Plan>, OutOfMemory>
         requires made { IsSearchRoomFor (parts_of s.now) self.old }
         requires boxes { IsMadeFor (parts_of s.now) boxes.now }
@@ -144,13 +156,16 @@ impl Improver {
         if !self.fill(alloc, s, boxes)? {
             return Ok(None);
         }
-        self.place_all(alloc, s, boxes, prices, weight)?;
-        if costs_no_more(known, cost_of(&self.choices)) {
-            self.loads.clear();
-            take_over(alloc, s, &mut self.loads, &mut self.choices, start)?;
-        }
         let mut best = Best::none();
-        self.search(alloc, s, boxes, prices, weight, enough, &mut best)?;
+        self.begin(alloc, s, boxes, prices, weight, 0)?;
+        if costs_no_more(known, cost_of(&self.choices)) {
+            self.take_over(alloc, s, start)?;
+        }
+        let effort = Effort::first(s);
+        self.search(alloc, s, boxes, prices, weight, enough, &mut best, effort)?;
+        if let Search::Long = search {
+            self.begin_anew(alloc, s, boxes, prices, weight, enough, &mut best)?;
+        }
         let plan = best.plan(alloc)?;
         Ok(if_cheaper(&mut self.loads, s, boxes, start, plan))
     }
@@ -185,26 +200,33 @@ impl Improver {
         }
     }
 
-    // Gives each flight its least trip by the prices that fits, if there is one, in the order of
-    // their scheduled departures.
-    fn place_all(
+    // Leaves all flights out. Then gives each its least trip by the prices that fits, if there is
+    // one, in the order of their scheduled departures, from which the second start and those after
+    // it deviate.
+    fn begin(
         &mut self,
         alloc: Global,
         s: &Scenario,
         boxes: &Boxes,
         prices: &Prices,
         weight: u64,
+        number: usize,
     ) -> Result<(), OutOfMemory>
         requires filled { IsFilledFor (parts_of s.now) self.old }
         requires boxes { IsMadeFor (parts_of s.now) boxes.now }
         requires prices { ArePricesOf (parts_of s.now) prices.now }
-        requires weight { weight < 2 ^ 62 }
+        requires weight { weight < 2 ^ 61 }
         ensures filled { IsFilledFor (parts_of s.now) self.new }
     {
-        for (_, flight) in by_departure(alloc, s)? {
+        self.loads.clear();
+        leave_all_out(alloc, &mut self.choices);
+        let later = if number == 0 { 0 } else { LATER };
+        let factor = START_FACTORS[number % STARTS];
+        let guide = if factor == 0 { None } else { Some(prices) };
+        for (_, flight) in self.chosen.by_departure(alloc, s, later)? {
             self.chosen.choose_one(flight)?;
             if self
-                .try_others(alloc, s, boxes, Some(prices), weight, 0)?
+                .try_others(alloc, s, boxes, guide, weighted(weight, factor), 0)?
                 .is_some()
             {
                 accept(&mut self.choices, &mut self.offers);
@@ -213,10 +235,17 @@ impl Improver {
         Ok(())
     }
 
-    // Makes trials, while a flight is delayed and the plan costs more than what is enough: seven of
-    // eight by the prices. A plan that costs more is taken too, the seldomer the more it costs and
-    // the more trials were made; the best is kept.
-    fn search(
+    // Takes the trips of the plan for the present ones.
+    fn take_over(&mut self, alloc: Global, s: &Scenario, plan: &Plan) -> Result<(), OutOfMemory>
+        requires filled { IsFilledFor (parts_of s.now) self.old }
+        ensures filled { IsFilledFor (parts_of s.now) self.new }
+    {
+        self.loads.clear();
+        take_over(alloc, s, &mut self.loads, &mut self.choices, plan)
+    }
+
+    // Searches from the other starts, as long as no plan is enough, and goes on from the best.
+    fn begin_anew(
         &mut self,
         alloc: Global,
         s: &Scenario,
@@ -232,34 +261,94 @@ impl Improver {
         requires weight { weight < 2 ^ 61 }
         ensures filled { IsFilledFor (parts_of s.now) self.new }
     {
-        let first = first_heat(s);
-        let trials = trials_of(s);
+        for number in 1..STARTS {
+            if !best.is_enough(enough) {
+                self.begin(alloc, s, boxes, prices, weight, number)?;
+                let effort = Effort::first(s);
+                self.search(alloc, s, boxes, prices, weight, enough, best, effort)?;
+            }
+        }
+        self.go_on(alloc, s, boxes, prices, weight, enough, best)
+    }
+
+    // Goes on from the best plan, if there is one; it ends at once where that is enough.
+    fn go_on(
+        &mut self,
+        alloc: Global,
+        s: &Scenario,
+        boxes: &Boxes,
+        prices: &Prices,
+        weight: u64,
+        enough: Bound,
+        best: &mut Best,
+    ) -> Result<(), OutOfMemory>
+        requires filled { IsFilledFor (parts_of s.now) self.old }
+        requires boxes { IsMadeFor (parts_of s.now) boxes.now }
+        requires prices { ArePricesOf (parts_of s.now) prices.now }
+        requires weight { weight < 2 ^ 61 }
+        ensures filled { IsFilledFor (parts_of s.now) self.new }
+    {
+        if let Some(plan) = best.copy(alloc)? {
+            self.take_over(alloc, s, &plan)?;
+        }
+        let effort = Effort::last(s);
+        self.search(alloc, s, boxes, prices, weight, enough, best, effort)
+    }
+
+    // Makes trials, while a flight is delayed and the plan costs more than what is enough: seven of
+    // eight by the prices. A plan that costs more is taken too, the seldomer the more it costs and
+    // the more trials were made; the best is kept.
+    fn search(
+        &mut self,
+        alloc: Global,
+        s: &Scenario,
+        boxes: &Boxes,
+        prices: &Prices,
+        weight: u64,
+        enough: Bound,
+        best: &mut Best,
+        effort: Effort,
+    ) -> Result<(), OutOfMemory>
+        requires filled { IsFilledFor (parts_of s.now) self.old }
+        requires boxes { IsMadeFor (parts_of s.now) boxes.now }
+        requires prices { ArePricesOf (parts_of s.now) prices.now }
+        requires weight { weight < 2 ^ 61 }
+        ensures filled { IsFilledFor (parts_of s.now) self.new }
+    {
         let mut cost = cost_of(&self.choices);
-        for trial in 0..trials {
-            if is_enough(enough, cost)
+        for trial in 0..effort.trials {
+            if are_enough(&self.choices, cost, enough)
                 || !self.chosen.choose(s, boxes, &self.loads, &self.choices)?
             {
                 return best.keep(alloc, cost, &self.choices);
             }
-            let more = self.chosen.drawn(heat(first, trials - trial, trials));
+            let more = self.chosen.rare(effort.heat(trial));
             let factor = FACTORS[trial % 8];
             let guide = if factor == 0 { None } else { Some(prices) };
-            if let Some(gain) = self.try_others(
-                alloc,
-                s,
-                boxes,
-                guide,
-                weighted(weight, factor),
-                more,
-            )? {
+            let weight = weighted(weight, factor);
+            if let Some(gain) = self.try_others(alloc, s, boxes, guide, weight, more)? {
                 if gain < 0 {
                     best.keep(alloc, cost, &self.choices)?;
                 }
                 accept(&mut self.choices, &mut self.offers);
                 cost = cost.saturating_sub(gain);
             }
+            cost = cost.saturating_add(self.note_failure(s));
         }
         best.keep(alloc, cost, &self.choices)
+    }
+
+    // Where the flight that was chosen first is still left out, that costs more from now on: tells
+    // how much. Where none is left out any more, it will cost less.
+    fn note_failure(&mut self, _s: &Scenario) -> i64
+        requires filled { IsFilledFor (parts_of _s.now) self.old }
+        ensures filled { IsFilledFor (parts_of _s.now) self.new }
+    {
+        if self.chosen.is_some_left_out() {
+            note_failure(&mut self.choices, self.chosen.seed())
+        } else {
+            0
+        }
     }
 
     // Offers the chosen flights other trips, and tells how much less these cost together; nothing
@@ -342,9 +431,10 @@ impl Improver {
             return Ok(0);
         };
         let least = choice.least;
+        let left_out = choice.left_out();
         find_fit(&mut self.work, s, &self.loads, boxes, guide, weight, flight);
         let trip = Trip::from_stops(alloc, self.work.trip())?;
-        let extra = extra_of(s, flight, trip.items(), least);
+        let extra = extra_of(s, flight, trip.items(), least, left_out);
         self.loads.add(s, flight, trip.items());
         self.offers.push(Offer {
             flight,
@@ -352,36 +442,6 @@ impl Improver {
             extra,
         })?;
         Ok(extra)
-    }
-}
-
-// The best plan of a search so far.
-#[derive(Debug, Drop)]
-struct Best {
-    cost: i64,
-    plan: Option<Plan>,
-}
-
-impl Best {
-    fn none() -> Best {
-        Best {
-            cost: i64::MAX,
-            plan: None,
-        }
-    }
-
-    // Keeps the plan that the choices make, if it costs less.
-    fn keep(&mut self, alloc: Global, cost: i64, choices: &[Choice]) -> Result<(), OutOfMemory> {
-        if cost < self.cost {
-            self.plan = Some(plan_of(alloc, choices)?);
-            self.cost = cost;
-        }
-        Ok(())
-    }
-
-    // The plan that was kept last, of no flights where none was.
-    fn plan(self, alloc: Global) -> Result<Plan, OutOfMemory> {
-        Ok(self.plan.unwrap_or(Plan::empty(alloc)))
     }
 }
 
@@ -401,7 +461,9 @@ fn take_over(
     for number in 0..choices.len() {
         if let Some(trip) = plan.items().get(number) {
             let flight = number as u32;
-            choices[number].extra = extra_of(s, flight, trip.items(), choices[number].least);
+            let Choice { least, .. } = choices[number];
+            let left_out = choices[number].left_out();
+            choices[number].extra = extra_of(s, flight, trip.items(), least, left_out);
             choices[number].trip = Trip::from_stops(alloc, trip.items())?;
             loads.add(s, flight, trip.items());
         }
@@ -433,47 +495,50 @@ fn find_fit(
     };
 }
 
+// Leaves all flights out, as often as it failed before or not.
+fn leave_all_out(alloc: Global, choices: &mut [Choice])
+    ensures { length choices.new ≡ length choices.old }
+{
+    for at in 0..choices.len() {
+        choices[at].failures = 0;
+        choices[at].trip = Trip::empty(alloc);
+        choices[at].extra = choices[at].left_out();
+    }
+}
+
+// Counts a failure for the flight, if it is left out, and tells how much more it costs. Where none
+// is left out, halves the failures of all.
+fn note_failure(choices: &mut [Choice], flight: u32) -> i64
+    ensures { length choices.new ≡ length choices.old }
+{
+    if let Some(choice) = choices.get_mut(flight as usize) {
+        if choice.is_left_out() {
+            choice.failures = choice.failures.saturating_add(1);
+            let before = choice.extra;
+            choice.extra = choice.left_out();
+            return choice.extra.saturating_sub(before);
+        }
+    }
+    if is_complete(choices) {
+        forgive(choices);
+    }
+    0
+}
+
+// Halves the failures of all flights.
+fn forgive(choices: &mut [Choice])
+    ensures { length choices.new ≡ length choices.old }
+{
+    for at in 0..choices.len() {
+        choices[at].failures = choices[at].failures / 2;
+    }
+}
+
 // So many times the weight, if that is a weight.
 fn weighted(weight: u64, factor: u64) -> u64
     ensures { result < 2 ^ 62 }
 {
     weight.saturating_mul(factor).min(MOST_WEIGHT)
-}
-
-// What a period of delay costs on average, 1 at least.
-fn delay_cost(s: &Scenario) -> u64 {
-    let mut sum = 0i64;
-    let mut count = 0i64;
-    for flight in 0..s.flights().len() {
-        if s.flights()[flight].md > 0 {
-            let number = flight as u32;
-            sum = sum.saturating_add(s.total(number, 1).saturating_sub(s.total(number, 0)));
-            count = count.saturating_add(1);
-        }
-    }
-    (sum / count.max(1)).max(1) as u64
-}
-
-// By how much a plan may cost more on average in the first trial, in 1,024ths: as much as a period
-// of delay, and less on a day of many flights.
-fn first_heat(s: &Scenario) -> u64 {
-    let flights = (s.flights().len() as u64).max(HOT_FLIGHTS);
-    delay_cost(s).saturating_mul(1024 * HOT_FLIGHTS) / flights
-}
-
-// The same with so many trials left.
-fn heat(first: u64, left: usize, trials: usize) -> u64 {
-    first.saturating_mul(left as u64) / (trials.max(1) as u64)
-}
-
-// The scheduled departures and the numbers of all flights, in that order.
-fn by_departure(alloc: Global, s: &Scenario) -> Result<Vec<(u16, u32)>, OutOfMemory> {
-    let mut departures = Vec::new(alloc);
-    for flight in 0..s.flights().len() {
-        departures.push((s.flights()[flight].sd, flight as u32))?;
-    }
-    departures.sort_unstable();
-    Ok(departures)
 }
 
 // Whether the plan of the verdict keeps every rule, and costs no more than so much.
@@ -535,35 +600,6 @@ fn cost_of(choices: &[Choice]) -> i64 {
             .saturating_add(choice.extra);
     }
     cost
-}
-
-// Whether no plan can cost less.
-fn is_enough(enough: Bound, cost: i64) -> bool {
-    match enough {
-        Bound::AtLeast(least) => i128::from(cost) <= least,
-        Bound::NoPlan => true,
-    }
-}
-
-// How many trials a search makes: so many for each flight, and fewer where least trips take long.
-fn trials_of(s: &Scenario) -> usize {
-    let flights = s.flights().len();
-    let steps = legs_of(s.flights()).saturating_mul(usize::from(s.day().periods));
-    let most = MOST_STEPS.saturating_mul(flights) / steps.max(1);
-    most.min(
-        TRIALS_A_FLIGHT
-            .saturating_mul(flights)
-            .saturating_add(TRIALS),
-    )
-}
-
-// How many legs the flights have.
-fn legs_of(flights: &[Flight]) -> usize {
-    let mut legs = 0usize;
-    for flight in flights {
-        legs = legs.saturating_add(flight.legs.items().len());
-    }
-    legs
 }
 
 // Takes the flights' trips out of the loads, and tells how much more than their least they cost.

@@ -1,0 +1,6 @@
+use Rattle.flow_types.specs.Scenario.{parts_of}
+use Rattle.plan_improver.specs.Work.{IsFilledFor}
+use Rattle.plan_improver.proofs.improver.Improver.begin_anew.Given as goal
+
+abbrev pub invariant-loop-number : goal.invariant-loop-number
+invariant-loop-number l = IsFilledFor (parts_of l.s) l.self

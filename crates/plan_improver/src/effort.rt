@@ -1,0 +1,94 @@
+//! How long a search goes on, and how much dearer a plan may get in it.
+
+use flow_types::{Flight, Scenario};
+
+// How many trials all searches make together, and how many more for each flight.
+const TRIALS: usize = 18_000;
+
+const TRIALS_A_FLIGHT: usize = 12;
+
+// How many legs, times the periods of the day, the trials may look at, if each takes one flight
+// out.
+const MOST_STEPS: usize = 40_000_000;
+
+// A search that begins anew makes one share of the trials, the last one two.
+const SHARES: usize = 6;
+
+// Up to so many flights a dearer plan is taken as easily, and from then on the seldomer the more
+// there are.
+const HOT_FLIGHTS: u64 = 64;
+
+/// How many trials a search makes, and by how much a plan may cost more in the first of them.
+#[derive(Clone, Copy, Debug, PartialEq, Eq)]
+pub struct Effort {
+    pub trials: usize,
+    // On average, in 1,024ths.
+    first_heat: u64,
+}
+
+impl Effort {
+    /// That of a search that begins anew.
+    pub fn first(s: &Scenario) -> Effort {
+        Effort {
+            trials: trials_of(s) / SHARES,
+            first_heat: first_heat(s),
+        }
+    }
+
+    /// That of a search that goes on from the best plan: twice as long, and half as hot.
+    pub fn last(s: &Scenario) -> Effort {
+        Effort {
+            trials: trials_of(s) / SHARES * 2,
+            first_heat: first_heat(s) / 2,
+        }
+    }
+
+    /// By how much a plan may cost more on average in the trial of this number, in 1,024ths: less
+    /// from trial to trial.
+    pub fn heat(&self, trial: usize) -> u64 {
+        let left = self.trials.saturating_sub(trial) as u64;
+        self.first_heat.saturating_mul(left) / (self.trials.max(1) as u64)
+    }
+}
+
+/// What a period of delay costs on average in the scenario, 1 at least.
+pub fn delay_cost(s: &Scenario) -> u64 {
+    let mut sum = 0i64;
+    let mut count = 0i64;
+    for flight in 0..s.flights().len() {
+        if s.flights()[flight].md > 0 {
+            let number = flight as u32;
+            sum = sum.saturating_add(s.total(number, 1).saturating_sub(s.total(number, 0)));
+            count = count.saturating_add(1);
+        }
+    }
+    (sum / count.max(1)).max(1) as u64
+}
+
+// As much as a period of delay costs, and less on a day of many flights.
+fn first_heat(s: &Scenario) -> u64 {
+    let flights = (s.flights().len() as u64).max(HOT_FLIGHTS);
+    delay_cost(s).saturating_mul(1024 * HOT_FLIGHTS) / flights
+}
+
+// How many trials all searches make: so many for each flight, and fewer where least trips take
+// long.
+fn trials_of(s: &Scenario) -> usize {
+    let flights = s.flights().len();
+    let steps = legs_of(s.flights()).saturating_mul(usize::from(s.day().periods));
+    let most = MOST_STEPS.saturating_mul(flights) / steps.max(1);
+    most.min(
+        TRIALS_A_FLIGHT
+            .saturating_mul(flights)
+            .saturating_add(TRIALS),
+    )
+}
+
+// How many legs the flights have.
+fn legs_of(flights: &[Flight]) -> usize {
+    let mut legs = 0usize;
+    for flight in flights {
+        legs = legs.saturating_add(flight.legs.items().len());
+    }
+    legs
+}
