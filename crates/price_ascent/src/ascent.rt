@@ -11,8 +11,10 @@ ghost use Rattle.flow_types.specs.Bounds.{IsNearBound};
 ghost use Rattle.price_ascent.specs.Slopes.{AreSlopesFor, IsGood};
 ghost use Rattle.price_ascent.specs.Work.{climb_weight, is_positive};
 
+use crate::bids::{Bids, pass};
+use crate::kept::{KeptPrices, put_by, restore};
 use crate::pace::{Pace, weighted_cost};
-use crate::slopes::{Slope, all_slopes, excess_by_slopes, move_prices, paid_by_limits};
+use crate::slopes::{Slope, all_slopes, excess_by_slopes, move_prices, paid_by_limits, take_over};
 use crate::spread::Spread;
 use flight_routes::{Prices, Work};
 use flow_types::{Bound, MOST_NODES, OutOfMemory, Plan, Scenario, Stop, Trip};
@@ -35,6 +37,8 @@ pub struct Ascent {
     slopes: Vec<Slope>,
     // What the least trips under the planned prices cost, weighted, if they pass no limit.
     plan_cost: Option<i128>,
+    // The value of the kept prices in the last climb.
+    value: Option<i128>,
 }
 
 // Written out, so that proofs see one call where a room is let go of.
@@ -45,6 +49,7 @@ impl Drop for Ascent {
             trips: _,
             slopes: _,
             plan_cost: _,
+            value: _,
         } = self;
     }
 }
@@ -106,7 +111,7 @@ impl Model for Ascent {
 impl Ascent {
     ghost use Rattle.std.specs.Prelude.{◌≡◌, ◌↔◌, IfOk, IsTrue};
     ghost use Rattle.flow_types.specs.Scenario.{parts_of};
-    ghost use Rattle.flight_routes.specs.Prices.{AreFree};
+    ghost use Rattle.flight_routes.specs.Prices.{AreFree, ArePricesOf};
     ghost use Rattle.time_windows.specs.Held.{IsMadeFor, box_of};
     ghost use Rattle.priced_plans.specs.Keys.{ArePlaced};
     ghost use Rattle.priced_plans.specs.PricedBound.{IsPricedBound};
@@ -124,16 +129,16 @@ impl Ascent {
             trips: no_trips(alloc, s)?,
             slopes: all_slopes(alloc, s)?,
             plan_cost: None,
+            value: None,
         })
     }
 
     /// Climbs in the box, in so many steps at the most, from the kept prices, which at first are 0,
     /// and keeps the best prices. Answers what they tell (`tell`).
     ///
-    /// The first steps aim at such a part of what is missing to the cost, if one is known of a
-    /// plan, from 1 on. It ends early where a flight has no trip, and where the value reaches the
-    /// cost, or is past all costs where none is known; and with a known cost also where what is
-    /// left to aim at is used up.
+    /// The first steps aim at a value that is greater by such a part, from 1 on. It ends early
+    /// where a flight has no trip, where the bound is the cost or more, if one is known of a plan,
+    /// or is past all costs where none is; and where the least trips pass no limit.
     ///
     /// The room and the box are of the scenario. It takes no memory, and for each step the time of
     /// a least trip for each flight and of a look at each price that may rise.
@@ -154,16 +159,102 @@ impl Ascent {
         ensures placed { ArePlaced (parts_of s.now) self.new.best }
         ensures made { IsAscentRoomFor (parts_of s.now) self.new }
     {
-        self.tables.present.copy_from(&self.tables.best);
-        self.plan_cost = None;
-        forget(&mut self.trips.spreads);
+        self.begin(s);
         let mut pace = Pace::new(cost, part);
-        for _ in 0..steps {
-            if !self.step(s, boxes, &mut pace) {
+        let _goes_on = self.go_on(s, boxes, &mut pace, steps);
+        self.value = pace.best();
+        self.tell(s, boxes)
+    }
+
+    /// Climbs in the same way, and puts the prices by that are the best after a quarter of the
+    /// steps, on top of those that were put by before.
+    pub fn climb_noting(
+        &mut self,
+        s: &Scenario,
+        boxes: &Boxes,
+        cost: Option<i64>,
+        part: u32,
+        steps: u32,
+        early: &mut KeptPrices,
+    ) -> Result<Bound, OutOfMemory>
+        requires made { IsAscentRoomFor (parts_of s.now) self.old }
+        requires boxes { IsMadeFor (parts_of s.now) boxes.now }
+        ensures sound { IfOk result (IsBoundIn (parts_of s.now) (box_of boxes.now)) }
+        ensures made { IsAscentRoomFor (parts_of s.now) self.new }
+    {
+        self.begin(s);
+        let mut pace = Pace::new(cost, part);
+        let goes_on = self.go_on(s, boxes, &mut pace, steps / 4);
+        put_by(&self.slopes, s, &self.tables.best, early)?;
+        if goes_on {
+            let _goes_on = self.go_on(s, boxes, &mut pace, steps - steps / 4);
+        }
+        self.value = pace.best();
+        Ok(self.tell(s, boxes))
+    }
+
+    /// Lets the flights bid in turn, in so many passes at the most, from the kept prices, where a
+    /// period of delay costs so much; and keeps the best prices on the way. Answers what they tell
+    /// (`tell`).
+    ///
+    /// It ends early where a flight has no trip. The room and the box are of the scenario. It takes
+    /// no memory, and for each pass the time of one and a half least trips for each flight, and of
+    /// a look at what each may use.
+    pub fn bid(&mut self, s: &Scenario, boxes: &Boxes, delay_cost: u64, passes: u32) -> Bound
+        requires made { IsAscentRoomFor (parts_of s.now) self.old }
+        requires boxes { IsMadeFor (parts_of s.now) boxes.now }
+        ensures told { IsPricedBound (parts_of s.now) (box_of boxes.now) climb_weight
+            self.new.best result }
+        ensures sound { IsBoundIn (parts_of s.now) (box_of boxes.now) result }
+        ensures near { IsNearBound result }
+        ensures placed { ArePlaced (parts_of s.now) self.new.best }
+        ensures made { IsAscentRoomFor (parts_of s.now) self.new }
+    {
+        self.tables.present.copy_from(&self.tables.best);
+        self.value = self.present_value(s, boxes);
+        let mut bids = Bids::new(s, delay_cost);
+        for _ in 0..passes / 2 {
+            if !self.bid_twice(s, boxes, &mut bids) {
                 break;
             }
         }
         self.tell(s, boxes)
+    }
+
+    /// The value of the kept prices as the last climb or the last bids found it, in parts of a cost
+    /// of 1 (2^20); nothing where a flight had no trip.
+    pub fn value(&self) -> Option<i128> {
+        self.value
+    }
+
+    /// Takes so many times these prices for the kept ones, as far as they may rise.
+    ///
+    /// The room and the prices are of the scenario. It takes no memory, and the time of a look at
+    /// each price that may rise.
+    pub fn take_over(&mut self, s: &Scenario, prices: &Prices, times: u64)
+        requires made { IsAscentRoomFor (parts_of s.now) self.old }
+        requires prices { ArePricesOf (parts_of s.now) prices.now }
+        ensures made { IsAscentRoomFor (parts_of s.now) self.new }
+    {
+        take_over(&self.slopes, s, prices, times, &mut self.tables.best);
+    }
+
+    /// Puts the kept prices by, on top of those that were put by before. It takes 16 bytes for each
+    /// that isn't 0.
+    pub fn put_by(&self, s: &Scenario, kept: &mut KeptPrices) -> Result<(), OutOfMemory>
+        requires made { IsAscentRoomFor (parts_of s.now) self.now }
+    {
+        put_by(&self.slopes, s, &self.tables.best, kept)
+    }
+
+    /// Takes the prices that were put by last for the kept ones; prices of 0 where none were put
+    /// by. The room is of the scenario, and so was that from which they were put by.
+    pub fn restore(&mut self, s: &Scenario, kept: &KeptPrices)
+        requires made { IsAscentRoomFor (parts_of s.now) self.old }
+        ensures made { IsAscentRoomFor (parts_of s.now) self.new }
+    {
+        clear(s, &mut self.tables.best);
+        restore(&self.slopes, s, kept, &mut self.tables.best);
     }
 
     /// What the kept prices tell in the box, at the weight of 2^20: no feasible plan in it costs
@@ -251,21 +342,37 @@ impl Ascent {
         Ok(Some(plan))
     }
 
+    // Begins a climb with the kept prices.
+    fn begin(&mut self, _s: &Scenario)
+        requires made { IsAscentRoomFor (parts_of _s.now) self.old }
+        ensures made { IsAscentRoomFor (parts_of _s.now) self.new }
+    {
+        self.tables.present.copy_from(&self.tables.best);
+        self.plan_cost = None;
+        forget(&mut self.trips.spreads);
+    }
+
+    // So many steps at the most, and whether the climb goes on.
+    fn go_on(&mut self, s: &Scenario, boxes: &Boxes, pace: &mut Pace, steps: u32) -> bool
+        requires made { IsAscentRoomFor (parts_of s.now) self.old }
+        requires boxes { IsMadeFor (parts_of s.now) boxes.now }
+        ensures made { IsAscentRoomFor (parts_of s.now) self.new }
+    {
+        for _ in 0..steps {
+            if !self.step(s, boxes, pace) {
+                return false;
+            }
+        }
+        true
+    }
+
     // One step, and whether the climb goes on.
     fn step(&mut self, s: &Scenario, boxes: &Boxes, pace: &mut Pace) -> bool
         requires made { IsAscentRoomFor (parts_of s.now) self.old }
         requires boxes { IsMadeFor (parts_of s.now) boxes.now }
         ensures made { IsAscentRoomFor (parts_of s.now) self.new }
     {
-        let Some(value) = value_of(
-            &mut self.trips.work,
-            &mut self.trips.loads,
-            &mut self.trips.spreads,
-            &self.slopes,
-            s,
-            boxes,
-            &self.tables.present,
-        ) else {
+        let Some(value) = self.present_value(s, boxes) else {
             return false;
         };
         let is_best = pace.note(value);
@@ -290,6 +397,60 @@ impl Ascent {
         let stride = pace.stride(value, excess.squares);
         move_prices(&self.slopes, s, stride, &mut self.tables.present);
         excess.squares > 0
+    }
+
+    // Two passes of bids, after which the prices are kept where they are the best; and whether each
+    // flight had a trip.
+    fn bid_twice(&mut self, s: &Scenario, boxes: &Boxes, bids: &mut Bids) -> bool
+        requires made { IsAscentRoomFor (parts_of s.now) self.old }
+        requires boxes { IsMadeFor (parts_of s.now) boxes.now }
+        ensures made { IsAscentRoomFor (parts_of s.now) self.new }
+    {
+        if !self.bid_once(s, boxes, bids) || !self.bid_once(s, boxes, bids) {
+            return false;
+        }
+        let value = self.present_value(s, boxes);
+        let is_best = is_below(self.value, value);
+        keep_if(is_best, &mut self.tables.best, &self.tables.present);
+        if is_best {
+            self.value = value;
+        }
+        true
+    }
+
+    // One pass of bids, and whether each flight had a trip.
+    fn bid_once(&mut self, s: &Scenario, boxes: &Boxes, bids: &mut Bids) -> bool
+        requires made { IsAscentRoomFor (parts_of s.now) self.old }
+        requires boxes { IsMadeFor (parts_of s.now) boxes.now }
+        ensures made { IsAscentRoomFor (parts_of s.now) self.new }
+    {
+        let done = pass(
+            &mut self.trips.work,
+            &mut self.slopes,
+            s,
+            boxes,
+            &mut self.tables.present,
+            bids,
+        );
+        bids.turn();
+        done
+    }
+
+    // The value of the prices of the last step or pass, nothing where a flight has no trip.
+    fn present_value(&mut self, s: &Scenario, boxes: &Boxes) -> Option<i128>
+        requires made { IsAscentRoomFor (parts_of s.now) self.old }
+        requires boxes { IsMadeFor (parts_of s.now) boxes.now }
+        ensures made { IsAscentRoomFor (parts_of s.now) self.new }
+    {
+        value_of(
+            &mut self.trips.work,
+            &mut self.trips.loads,
+            &mut self.trips.spreads,
+            &self.slopes,
+            s,
+            boxes,
+            &self.tables.present,
+        )
     }
 }
 
@@ -318,6 +479,15 @@ fn no_trips(alloc: Global, s: &Scenario) -> Result<Trips, OutOfMemory>
         loads: Loads::new(alloc, s)?,
         spreads: no_spreads(alloc, s.flights().len())?,
     })
+}
+
+// Sets all prices to 0.
+#[tactic(auto, using(crate::proofs::SlopeFacts::good_free))]
+fn clear(s: &Scenario, prices: &mut Prices)
+    requires { IsGood (parts_of s.now) prices.old }
+    ensures { IsGood (parts_of s.now) prices.new }
+{
+    prices.clear();
 }
 
 // Keeps the prices, if they are better.

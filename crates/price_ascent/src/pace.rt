@@ -1,19 +1,19 @@
 //! How far a climb moves prices in a step, and when it ends.
 //!
 //! The goal is a value above the best one. Where a step comes near it the lead over the best value
-//! is doubled, and where nothing is gained for ten steps it is halved (a level method without a
-//! bound from above, after Brännlund, "A generalized subgradient method with relaxation step",
-//! 1995). So no cost needs to be known.
+//! is doubled, where it gains less the lead grows by an eighth, and where nothing is gained for ten
+//! steps it is halved (a level method without a bound from above, after Brännlund, "A generalized
+//! subgradient method with relaxation step", 1995). A lead that is used up is begun anew.
 //!
-//! Where none is known there may be no plan, and then the values grow without end: the lead grows
-//! with each gain, it is begun anew where it is used up, and the climb goes on.
+//! So no cost needs to be known, and one that is known tells nothing but where the climb may end:
+//! climbs that aimed at it stayed below those that don't.
 
 use crate::ascent::WEIGHT;
 
 // After how many steps without a gain the lead is halved.
 const MOST_IDLE: u32 = 10;
 
-// The climb ends where the lead is below this part of the first one, and a thousandth of a cost of
+// The lead is used up where it is below this part of the first one, and a thousandth of a cost of
 // 1.
 const LEAST_PART: i128 = 1 << 14;
 
@@ -21,9 +21,6 @@ const LEAST_LEAD: i128 = 1 << 10;
 
 // Where no plan is known, the climb ends above what any costs.
 const MOST_COST: i64 = 10_000_000_000_000;
-
-// The first lead is no shorter than a 64th of a cost of 1.
-const SHORTEST_LEAD: i128 = 1 << 14;
 
 // The lead is doubled no further.
 const MOST_LEAD: i128 = 1 << 62;
@@ -37,7 +34,6 @@ const FIFTHS_KEPT: i64 = 4;
 /// The best value that a climb has found, and the pace that follows from it.
 #[derive(Clone, Copy, Debug, PartialEq, Eq)]
 pub struct Pace {
-    cost: Option<i64>,
     enough: i128,
     part: u32,
     best: Option<i128>,
@@ -50,10 +46,9 @@ pub struct Pace {
 
 impl Pace {
     /// At the begin of a climb that ends where the bound is this cost or more, if one is known, and
-    /// leads at first by such a part of what is missing to it.
+    /// leads at first by such a part of the value.
     pub fn new(cost: Option<i64>, part: u32) -> Pace {
         Pace {
-            cost,
             enough: weighted_cost(cost.unwrap_or(MOST_COST).saturating_sub(1)),
             part,
             best: None,
@@ -63,6 +58,11 @@ impl Pace {
             idle: 0,
             moved: false,
         }
+    }
+
+    /// The best value so far.
+    pub fn best(&self) -> Option<i128> {
+        self.best
     }
 
     /// Notes the value of the present prices, and tells whether it is the best so far.
@@ -83,17 +83,14 @@ impl Pace {
         }
     }
 
-    // By how much the climb leads where the first prices have this value: by a part of what is
-    // missing to the cost; where none is known, by one of the value and a cost of 1.
+    // By how much the climb leads where the best prices have this value: by a part of it, and a
+    // cost of 1.
     fn first_lead(&self, value: i128) -> i128 {
-        let missing = match self.cost {
-            Some(_) => self.enough.saturating_sub(value),
-            None => value
-                .saturating_abs()
-                .saturating_add(weighted_cost(i64::from(self.part))),
-        };
-        let lead = missing.checked_div(i128::from(self.part)).unwrap_or(0);
-        lead.clamp(SHORTEST_LEAD, MOST_LEAD)
+        let lead = value
+            .saturating_abs()
+            .checked_div(i128::from(self.part))
+            .unwrap_or(0);
+        lead.saturating_add(weighted_cost(1)).min(MOST_LEAD)
     }
 
     // A better value.
@@ -102,7 +99,7 @@ impl Pace {
         self.idle = 0;
         if value >= self.goal.saturating_sub(self.lead / 2) {
             self.reach(value, self.lead);
-        } else if self.cost.is_none() {
+        } else {
             self.reach(value, self.lead / 8);
         }
     }
@@ -119,21 +116,16 @@ impl Pace {
         if self.idle >= MOST_IDLE {
             self.idle = 0;
             self.lead = self.lead / 2;
-            if self.is_spent() && self.cost.is_none() {
+            if self.lead < self.least_lead {
                 self.lead = self.first_lead(best);
             }
             self.goal = best.saturating_add(self.lead);
         }
     }
 
-    // Whether the lead is used up.
-    fn is_spent(&self) -> bool {
-        self.lead < self.least_lead
-    }
-
-    /// Whether the climb is at its end: the bound is enough, or the lead is used up.
+    /// Whether the climb is at its end, since the bound is enough.
     pub fn is_over(&self) -> bool {
-        self.best.is_some_and(|best| best > self.enough) || self.is_spent()
+        self.best.is_some_and(|best| best > self.enough)
     }
 
     /// How many fifths of the direction before are kept in the next step: four, but none in the

@@ -1,9 +1,9 @@
 //! Prices that may rise, and the direction in which each one moves: a subgradient, with a share of
 //! the direction before.
-ghost use Rattle.std.specs.Prelude.{◌<◌, ◌^◌, IfOk, OnOk, length};
+ghost use Rattle.std.specs.Prelude.{◌≡◌, ◌<◌, ◌≤◌, ◌^◌, IfOk, OnOk, length};
 ghost use Rattle.flow_types.specs.Scenario.{parts_of};
 ghost use Rattle.plan_rules.specs.Loads.{IsMadeFor};
-ghost use Rattle.flight_routes.specs.Prices.{row_count};
+ghost use Rattle.flight_routes.specs.Prices.{ArePricesOf, row_count};
 ghost use Rattle.priced_plans.specs.Keys.{IsKeyFor};
 ghost use Rattle.price_ascent.specs.Slopes.{AreSlopesFor, IsGood, IsSlopeKey};
 
@@ -22,6 +22,88 @@ pub struct Slope {
     pub direction: i64,
     /// How many flights pass no limit; of a connection none, as trips alone make room there.
     pub limit: u32,
+    /// How many flights of a pass of bids had bid when the price was lowered last.
+    pub settled: u32,
+}
+
+impl Slope {
+    ghost use Rattle.std.specs.Prelude.{◌≡◌};
+
+    /// Lowered when so many flights had bid.
+    pub fn settled_at(self, now: u32) -> Slope
+        ensures { result.key ≡ self.key }
+    {
+        Slope {
+            settled: now,
+            ..self
+        }
+    }
+}
+
+/// Some prices that may rise, one after the other, by their positions.
+#[derive(Clone, Copy, Debug, PartialEq, Eq)]
+pub struct Span {
+    pub first: usize,
+    pub end: usize,
+}
+
+/// Those of a row of this kind from one period on, up to another.
+pub fn span_of(slopes: &[Slope], kind: PriceKind, row: u32, from: u16, until: u16) -> Span
+    ensures { result.end ≤ length slopes.now }
+{
+    let first = PriceKey {
+        kind,
+        row,
+        period: from,
+    };
+    let end = PriceKey {
+        kind,
+        row,
+        period: until,
+    };
+    Span {
+        first: position_of(slopes, first),
+        end: position_of(slopes, end),
+    }
+}
+
+// How many stand before the key: they ascend by kind, row and period.
+fn position_of(slopes: &[Slope], key: PriceKey) -> usize
+    ensures { result ≤ length slopes.now }
+{
+    let mut first = 0;
+    let mut end = slopes.len();
+    while first < end {
+        let middle = first + (end - first) / 2;
+        if is_before(slopes[middle].key, key) {
+            first = middle + 1;
+        } else {
+            end = middle;
+        }
+    }
+    first
+}
+
+// Whether the first key stands before the second one.
+fn is_before(first: PriceKey, second: PriceKey) -> bool {
+    let (one, other) = (kind_number(first.kind), kind_number(second.kind));
+    if one != other {
+        one < other
+    } else if first.row != second.row {
+        first.row < second.row
+    } else {
+        first.period < second.period
+    }
+}
+
+// The place of a kind among the kinds.
+fn kind_number(kind: PriceKind) -> u8 {
+    match kind {
+        PriceKind::Capacity(CapKind::Dep) => 0,
+        PriceKind::Capacity(CapKind::Arr) => 1,
+        PriceKind::Capacity(CapKind::Sector) => 2,
+        PriceKind::Connection => 3,
+    }
 }
 
 // How finely directions are counted.
@@ -94,6 +176,7 @@ fn add(
             key,
             direction: 0,
             limit: limit_of(s, key),
+            settled: 0,
         })?;
     }
     Ok(())
@@ -161,8 +244,11 @@ pub fn paid_by_limits(slopes: &[Slope], s: &Scenario, prices: &Prices) -> i128
 {
     let mut sum = 0i128;
     for slope in slopes {
-        let price = i128::from(prices.get(slope.key));
-        sum = sum.saturating_add(price.saturating_mul(i128::from(slope.limit)));
+        let price = prices.get(slope.key);
+        if price > 0 {
+            let paid = i128::from(price).saturating_mul(i128::from(slope.limit));
+            sum = sum.saturating_add(paid);
+        }
     }
     sum
 }
@@ -195,18 +281,13 @@ pub fn excess_by_slopes(
         exceeds: false,
     };
     for at in 0..slopes.len() {
-        let Slope {
-            key,
-            direction,
-            limit,
-        } = slopes[at];
-        let excess = excess_of(s, loads, key, limit);
+        let slope = slopes[at];
+        let excess = excess_of(s, loads, slope.key, slope.limit);
         slopes[at] = Slope {
-            key,
-            direction: next_direction(direction, fifths, excess),
-            limit,
+            direction: next_direction(slope.direction, fifths, excess),
+            ..slope
         };
-        sum = with_one(sum, excess, prices.get(key));
+        sum = with_one(sum, excess, prices.get(slope.key));
     }
     sum
 }
@@ -258,12 +339,27 @@ pub fn move_prices(slopes: &[Slope], s: &Scenario, stride: i64, prices: &mut Pri
 {
     for slope in slopes {
         let price = prices.get(slope.key);
-        set_price(
-            s,
-            slope.key,
-            price_after(price, slope.direction, stride),
-            prices,
-        );
+        if price > 0 || slope.direction > 0 || stride < 0 {
+            set_price(
+                s,
+                slope.key,
+                price_after(price, slope.direction, stride),
+                prices,
+            );
+        }
+    }
+}
+
+/// Sets each price that may rise to so many times what it is among other prices.
+pub fn take_over(slopes: &[Slope], s: &Scenario, other: &Prices, times: u64, prices: &mut Prices)
+    requires slopes { AreSlopesFor (parts_of s.now) slopes.now }
+    requires other { ArePricesOf (parts_of s.now) other.now }
+    requires prices { IsGood (parts_of s.now) prices.old }
+    ensures { IsGood (parts_of s.now) prices.new }
+{
+    for slope in slopes {
+        let price = other.get(slope.key).saturating_mul(times);
+        set_price(s, slope.key, price.min(1 << 60) as i64, prices);
     }
 }
 
@@ -276,8 +372,8 @@ fn price_after(price: u64, direction: i64, stride: i64) -> i64
     (price as i64).saturating_add(far.clamp(-most, most) as i64)
 }
 
-// Sets a price that may rise; the number is brought into the range of prices.
-fn set_price(s: &Scenario, key: PriceKey, price: i64, prices: &mut Prices)
+/// Sets a price that may rise; the number is brought into the range of prices.
+pub fn set_price(s: &Scenario, key: PriceKey, price: i64, prices: &mut Prices)
     requires key { IsSlopeKey (parts_of s.now) key }
     requires prices { IsGood (parts_of s.now) prices.old }
     ensures { IsGood (parts_of s.now) prices.new }
