@@ -1,7 +1,14 @@
 -- What rounds tell, and that a bound above that of the best one is no less than any round's.
-use Rattle.std.proofs.Common.{◌≡◌, ℕ, sym, subst}
+use Rattle.std.proofs.Common.{◌≡◌, ℕ, Ok, sym, subst}
 use Rattle.flow_types.specs.declared.bound.Bound.{Bound}
+use Rattle.flow_types.specs.declared.bound.Bound.TheVariants.{NoPlan}
 use Rattle.flow_types.specs.declared.parts.Parts.{Parts}
+use Rattle.flight_routes.specs.Prices.{PriceTable}
+use Rattle.branch_tree.specs.declared.leaf.Leaf.{Leaf}
+use Rattle.dual_leaf.specs.Leaf.{IsLeafBound}
+use Rattle.dual_leaf.specs.PriceLeaf.{Closes}
+use Rattle.time_windows.specs.Tight.{IsLive}
+use Rattle.price_ascent.specs.Work.{HasNone}
 use Rattle.time_windows.specs.Boxes.{Box}
 use Rattle.priced_plans.specs.Keys.{ArePlaced}
 use Rattle.priced_plans.specs.PricedBound.{IsPricedBound}
@@ -33,3 +40,11 @@ rounds_told parts box room rooms bound same told placed = record {
       told;
   placed = subst (λ (r : RoundRoom). ArePlaced parts r.best) (sym same) placed;
 }
+
+-- a leaf that closes boxes has the bound that its prices tell
+pub closing_bound : (parts : Parts) (box : Box) (table : PriceTable) (leaf : Leaf) (bound : Bound)
+    → Closes parts table leaf → IsLive box → (bound ≡ NoPlan) × HasNone parts box table
+    → IsLeafBound parts box leaf (Ok bound)
+closing_bound parts box table leaf bound closes live told =
+    subst (λ (b : Bound). IsLeafBound parts box leaf (Ok b)) (sym told.0)
+    (closes box told.1.value live told.1.priced told.1.above)

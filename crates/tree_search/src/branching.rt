@@ -1,5 +1,5 @@
 //! Where a box is split.
-ghost use Rattle.std.specs.Prelude.{◌≡◌, ◌≤◌, ◌<◌, ℕ, IfSome, IsTrue, MatchOption};
+ghost use Rattle.std.specs.Prelude.{◌≡◌, ◌≤◌, ◌<◌, ℕ, All, IfOk, IfSome, IsTrue, MatchOption};
 ghost use Rattle.flow_types.specs.Limits.{most_nodes};
 ghost use Rattle.flow_types.specs.Scenario.{parts_of};
 ghost use Rattle.time_windows.specs.Boxes.{IsProper, options_of};
@@ -9,9 +9,10 @@ ghost use Rattle.tree_search.specs.Seen.{IsBranchOf, IsChoiceIn};
 
 use branch_tree::Branch;
 use bytime_model::Var;
-use flow_types::{MOST_NODES, Scenario};
+use flow_types::{MOST_NODES, OutOfMemory, Scenario};
 use price_ascent::{Ascent, Spread};
 use relaxed_bound::Point;
+use std::alloc::Global;
 use time_windows::{Access, Boxes};
 
 /// A branch of the box: the middle of the window of the first node that has several options. None
@@ -51,22 +52,97 @@ pub fn nearest_half(s: &Scenario, boxes: &Boxes, point: &Point, known: Branch) -
     best
 }
 
-/// The branch of the box at the mean period in which a flight entered a node in the steps of the
-/// last climb, where these differ the most; the known one where none differ, or the mean is no
-/// branch.
-pub fn most_spread(s: &Scenario, boxes: &Boxes, ascent: &Ascent, known: Branch) -> Branch
-    requires { IsBranchOf (parts_of s.now) (box_of boxes.now) known }
-    ensures { IsBranchOf (parts_of s.now) (box_of boxes.now) result }
+/// The branches of the box at which the last climb left most open, so many at the most: each is the
+/// mean period in which a flight entered a node in its steps, where these differ; first that where
+/// they differ the most.
+pub fn most_spread(
+    alloc: Global,
+    s: &Scenario,
+    boxes: &Boxes,
+    ascent: &Ascent,
+    count: usize,
+) -> Result<Vec<Branch>, OutOfMemory>
+    ensures { IfOk result
+        (λ found. All (IsBranchOf (parts_of s.now) (box_of boxes.now)) found.items) }
 {
-    let mut best = known;
+    let mut found = Vec::new(alloc);
+    let mut below = Rank::first();
+    for _ in 0..count {
+        below = add_next(s, boxes, ascent, below, &mut found)?;
+    }
+    Ok(found)
+}
+
+// Adds the next branch of the box after the one of this rank, if there is one, and tells its rank.
+fn add_next(
+    s: &Scenario,
+    boxes: &Boxes,
+    ascent: &Ascent,
+    below: Rank,
+    found: &mut Vec<Branch>,
+) -> Result<Rank, OutOfMemory>
+    requires { All (IsBranchOf (parts_of s.now) (box_of boxes.now)) found.old.items }
+    ensures { IfOk result
+        (λ rank. All (IsBranchOf (parts_of s.now) (box_of boxes.now)) found.new.items) }
+{
+    match next_spread(s, boxes, ascent, below) {
+        None => Ok(below),
+        Some((branch, rank)) => {
+            found.push(branch)?;
+            Ok(rank)
+        }
+    }
+}
+
+// How far the periods are apart in which a flight entered a node, and which node that is: the
+// first one of those that are as far apart comes first.
+#[derive(Clone, Copy, Debug, PartialEq, Eq)]
+struct Rank {
+    width: u64,
+    flight: usize,
+    node: usize,
+}
+
+impl Rank {
+    // Before all others.
+    fn first() -> Rank {
+        Rank {
+            width: u64::MAX,
+            flight: 0,
+            node: 0,
+        }
+    }
+
+    // Whether it comes after the other one.
+    fn is_after(self, other: Rank) -> bool {
+        if self.width != other.width {
+            self.width < other.width
+        } else if self.flight != other.flight {
+            self.flight > other.flight
+        } else {
+            self.node > other.node
+        }
+    }
+}
+
+// The next branch of the box after the one of this rank.
+fn next_spread(s: &Scenario, boxes: &Boxes, ascent: &Ascent, below: Rank) -> Option<(Branch, Rank)>
+    ensures { IfSome result (λ found. IsBranchOf (parts_of s.now) (box_of boxes.now) found.0) }
+{
+    let mut best: Option<(Branch, Rank)> = None;
     let mut widest = 0;
     for flight in 0..s.flights().len() {
         for node in 0..MOST_NODES {
             let spread = ascent.spread(flight as u32, node as u16);
-            if spread.width() > widest {
+            let rank = Rank {
+                width: spread.width(),
+                flight,
+                node,
+            };
+            if rank.width > widest && rank.is_after(below) {
                 if let Some(branch) = branch_in(s, boxes, flight as u32, node as u16, spread) {
-                    best = branch;
-                    widest = spread.width();
+                    best = Some((branch, rank));
+                    widest = rank.width;
                 }
             }
         }

@@ -15,14 +15,16 @@
 //!     }
 //!
 //! Where prices of 0 tell what the greedy plan costs, that is the answer. Else a climb looks for
-//! good prices, and a plan that costs less than the greedy one is looked for by them. Then it goes
-//! depth first, the early side of a split before the late one. For each box the greedy plan is
+//! good prices, and a plan that costs less than the greedy one is looked for by them; where a gap
+//! is left between what both tell, flights bid in turn, and a climb goes on from there. Then it
+//! goes depth first, the early side of a split before the late one. For each box the greedy plan is
 //! made, and kept where it is cheaper than the last; so is the plan that the least trips of a climb
 //! are, where they keep the rules. An empty box is done with, and so is one in which there is no
-//! choice. Else the run of the box's relaxation gives a leaf, and prices
-//! another one, those of rounds or those of the climb: where the bound of one reaches what the best
-//! plan costs, or where there is no room for two nodes more, the box is done with, by the one that
-//! tells more; and else it is split.
+//! choice. Else the run of the box's relaxation gives a leaf, and prices another one, those of
+//! rounds or those of the climb: where the bound of one reaches what the best plan costs, or where
+//! there is no room for two nodes more, the box is done with, by the one that tells more; and else
+//! it is split. Both sides begin with the prices that told more of the box, so that by prices they
+//! tell no less than it.
 //!
 //! The definitions stand in `specs/`: `Records` (what is handed back), `Nodes` (what is known of
 //! each node) and `Budgets` (a number of nodes that is enough); what a reader of its tree needs is
@@ -34,11 +36,13 @@
 //! record with enough nodes is closed (`enough_nodes_close`).
 //!
 //! Memory: one box and the log of what changed on the way, some 110 bytes for each node of the tree
-//! and 24 for each row of a Dual leaf and each price of a Lag leaf, the plans, and what one run
-//! takes, one leaf, rounds of prices, climbs and the search for cheaper plans. Time: for each node
-//! a greedy plan, a run, the rounds, and a climb of as many steps; at the begin a climb of sixteen
-//! times as many, and the search for a cheaper plan. In the first box no more is done once a bound
-//! reaches what the best plan costs.
+//! and 24 for each row of a Dual leaf and each price of a Lag leaf, the plans, 16 for each price of
+//! each box of which a side waits, and what one run takes, one leaf, rounds of prices, climbs, the
+//! search for cheaper plans, and a copy of the box while a branch is chosen. Time: for each node a
+//! greedy plan, a run, the rounds, a climb of as many steps, and where it is split by prices eight
+//! climbs of ten steps; at the begin a climb of sixteen times as many steps as rounds, the search
+//! for a cheaper plan, and bids. In the first box no more is done once a bound reaches what the
+//! best plan costs.
 #![tactic(auto)]
 
 mod branching;
@@ -46,6 +50,7 @@ mod draft;
 mod found;
 mod laws;
 mod pricing;
+mod probing;
 mod rooms;
 mod searching;
 mod seeing;

@@ -1,5 +1,5 @@
 //! What prices tell of a box.
-ghost use Rattle.std.specs.Prelude.{IfOk, IfSome, Ok};
+ghost use Rattle.std.specs.Prelude.{◌≡◌, IfOk, IfSome, Ok};
 ghost use Rattle.time_windows.specs.Tight.{IsLive};
 ghost use Rattle.dual_leaf.specs.Leaf.{IsLeafBound};
 ghost use Rattle.flow_types.specs.declared.bound.Bound.{Bound};
@@ -18,15 +18,22 @@ use branch_tree::Leaf;
 use dual_leaf::{closing_leaf, lag_leaf};
 use flow_types::{Bound, OutOfMemory, Scenario};
 use lagrange_bound::COST_WEIGHT;
+use plan_improver::delay_cost;
 use price_ascent::WEIGHT;
 use std::alloc::Global;
 use time_windows::Boxes;
 
-// How many steps the first climb may take for each round, and at which part of what is missing it
-// aims.
+// How many steps the first climb may take for each round.
 const FIRST_STEPS: u32 = 16;
 
-const FIRST_PART: u32 = 32;
+/// By which part of the value climbs lead.
+pub const LEAD_PART: u32 = 32;
+
+// By which part they lead where flights have bid.
+const PART_AFTER_BIDS: u32 = 256;
+
+// In how many passes flights bid.
+const BID_PASSES: u32 = 300;
 
 // How much the first climb may look at, in all its steps.
 const MOST_LOOKS: u64 = 800_000_000;
@@ -62,21 +69,89 @@ pub fn begin_climb(
     rooms: &mut PriceRooms,
     rounds: u32,
     cutoff: Option<i64>,
-) -> Bound
+) -> Result<Bound, OutOfMemory>
     requires made { IsMadeFor (parts_of s.now) boxes.now }
     requires rooms { ArePriceRoomsFor (parts_of s.now) rooms.old }
     ensures { ArePriceRoomsFor (parts_of s.now) rooms.new }
 {
     let first = rooms.ascent.tell(s, boxes);
     if rounds == 0 || first.is_reached(cutoff) {
-        return first;
+        return Ok(first);
     }
     let steps = first_steps(s, rooms.ascent.rising(), rounds);
-    let climbed = rooms.ascent.climb(s, boxes, cutoff, FIRST_PART, steps);
+    let early = &mut rooms.early;
+    let climbed = rooms
+        .ascent
+        .climb_noting(s, boxes, cutoff, LEAD_PART, steps, early)?;
     if cutoff.is_none() && rooms.ascent.has_none(s, boxes) {
-        Bound::NoPlan
+        Ok(Bound::NoPlan)
     } else {
-        climbed
+        Ok(climbed)
+    }
+}
+
+/// Where the first plans leave a gap to the bound: lets the flights bid in turn from the prices of
+/// the first steps of the first climb, and climbs on from where that leads. Answers what the better
+/// prices tell, those or the kept ones. Where there are few rounds, or no gap, it stays at the
+/// bound.
+pub fn climb_again(
+    s: &Scenario,
+    boxes: &Boxes,
+    rooms: &mut PriceRooms,
+    rounds: u32,
+    cutoff: Option<i64>,
+    bound: Bound,
+) -> Result<Bound, OutOfMemory>
+    requires made { IsMadeFor (parts_of s.now) boxes.now }
+    requires rooms { ArePriceRoomsFor (parts_of s.now) rooms.old }
+    ensures { ArePriceRoomsFor (parts_of s.now) rooms.new }
+{
+    let steps = first_steps(s, rooms.ascent.rising(), rounds);
+    if bound.is_reached(cutoff) || steps < BID_PASSES {
+        return Ok(bound);
+    }
+    let before = rooms.ascent.value().unwrap_or(0);
+    rooms.ascent.put_by(s, &mut rooms.kept)?;
+    rooms.ascent.restore(s, &rooms.early);
+    let _bid = rooms.ascent.bid(s, boxes, delay_cost(s), BID_PASSES);
+    let climbed = rooms
+        .ascent
+        .climb(s, boxes, cutoff, PART_AFTER_BIDS, steps - steps / 4);
+    let is_less = rooms.ascent.value().unwrap_or(0) < before;
+    restore_if(s, rooms, is_less);
+    rooms.kept.forget();
+    rooms.early.forget();
+    Ok(if is_less { bound } else { climbed })
+}
+
+// Takes the prices that were put by last for the kept ones, where they are wanted.
+fn restore_if(s: &Scenario, rooms: &mut PriceRooms, wanted: bool)
+    requires rooms { ArePriceRoomsFor (parts_of s.now) rooms.old }
+    ensures rooms { ArePriceRoomsFor (parts_of s.now) rooms.new }
+{
+    if wanted {
+        rooms.ascent.restore(s, &rooms.kept);
+    }
+}
+
+/// Where the search has gone on, and so many boxes wait where so many waited before: a box that was
+/// split leaves its prices to both its sides. The early one begins with them, and they are put by
+/// for the late one.
+pub fn follow(
+    s: &Scenario,
+    rooms: &mut PriceRooms,
+    before: u64,
+    waiting: u64,
+) -> Result<(), OutOfMemory>
+    requires rooms { ArePriceRoomsFor (parts_of s.now) rooms.old }
+    ensures rooms { ArePriceRoomsFor (parts_of s.now) rooms.new }
+{
+    if before < waiting {
+        rooms.ascent.put_by(s, &mut rooms.kept)
+    } else {
+        rooms.ascent.restore(s, &rooms.kept);
+        rooms.kept.forget();
+        Ok(())
     }
 }
 
@@ -103,8 +178,9 @@ fn looks_of(s: &Scenario) -> u64 {
 
 /// The greatest bound that rounds of prices tell; or, where neither that nor the bound of the run
 /// reaches the cutoff, what the prices tell that the climb before has kept, if that is more; with
-/// no cutoff, also that no plan is in the box. Where a plan in the box is known to cost so much, no
-/// more rounds are played than it takes to reach that.
+/// no cutoff, also that no plan is in the box. Where rounds tell more, climbs go on from their
+/// prices. Where a plan in the box is known to cost so much, no more rounds are played than it
+/// takes to reach that.
 pub fn price(
     s: &Scenario,
     boxes: &Boxes,
@@ -137,6 +213,7 @@ pub fn price(
                 source: Source::Ascent,
             };
         }
+        lead_on(s, rooms, played, climbed);
     }
     Priced {
         bound: played,
@@ -144,7 +221,21 @@ pub fn price(
     }
 }
 
+// Where rounds tell more than the kept prices of the climb, climbs go on from those of the rounds.
+fn lead_on(s: &Scenario, rooms: &mut PriceRooms, played: Bound, climbed: Bound)
+    requires rooms { ArePriceRoomsFor (parts_of s.now) rooms.old }
+    ensures rounds { rooms.new.rounds ≡ rooms.old.rounds }
+    ensures rooms { ArePriceRoomsFor (parts_of s.now) rooms.new }
+{
+    if played.is_above(climbed) {
+        rooms
+            .ascent
+            .take_over(s, rooms.rounds.prices(), WEIGHT / COST_WEIGHT);
+    }
+}
+
 /// The leaf of the prices that the source keeps.
+#[tactic(auto, using(crate::proofs::PriceFacts::closing_bound))]
 pub fn price_leaf(
     alloc: Global,
     s: &Scenario,

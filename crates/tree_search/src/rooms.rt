@@ -8,7 +8,7 @@ use flow_types::{OutOfMemory, Scenario};
 use greedy_plan::PlanWork;
 use lagrange_bound::Rounds;
 use plan_improver::Improver;
-use price_ascent::Ascent;
+use price_ascent::{Ascent, KeptPrices};
 use std::alloc::Global;
 use valid_cuts::Pool;
 
@@ -49,10 +49,13 @@ impl Drop for PlanRooms {
     }
 }
 
-/// For rounds of prices, and for climbs.
+/// For rounds of prices, and for climbs; the prices to which the first steps of the first climb
+/// led; and those with which the boxes that wait begin.
 pub struct PriceRooms {
     pub rounds: Rounds,
     pub ascent: Ascent,
+    pub early: KeptPrices,
+    pub kept: KeptPrices,
 }
 
 // Written out, so that proofs see one call where a room is let go of.
@@ -61,6 +64,8 @@ impl Drop for PriceRooms {
         let PriceRooms {
             rounds: _,
             ascent: _,
+            early: _,
+            kept: _,
         } = self;
     }
 }
@@ -94,5 +99,7 @@ fn price_rooms(alloc: Global, s: &Scenario) -> Result<PriceRooms, OutOfMemory>
     Ok(PriceRooms {
         rounds: Rounds::new(alloc, s)?,
         ascent: Ascent::new(alloc, s)?,
+        early: KeptPrices::new(alloc),
+        kept: KeptPrices::new(alloc),
     })
 }

@@ -21,12 +21,13 @@ ghost use Rattle.branch_tree.specs.Paths.{AreSteps, IsFork, IsNextOr, top_box};
 use crate::branching::first_choice;
 use crate::draft::{RecordDraft, no_draft, note, offer};
 use crate::found::{Budget, Found};
-use crate::pricing::begin_climb;
+use crate::pricing::{LEAD_PART, begin_climb, climb_again, follow};
 use crate::rooms::{Rooms, rooms_for};
 use crate::seeing::{Seen, see};
 use branch_tree::{Branch, Leaf, Tree, TreeNode, Walk};
 use flow_types::{Bound, OutOfMemory, Plan, Scenario};
 use greedy_plan::Greedy;
+use plan_improver::Search;
 use price_ascent::WEIGHT;
 use std::alloc::Global;
 use time_windows::Boxes;
@@ -61,6 +62,7 @@ fn find_cheaper(
     boxes: &Boxes,
     rooms: &mut Rooms,
     bound: Bound,
+    search: Search,
 ) -> Result<Option<Plan>, OutOfMemory>
     requires boxes { IsMadeFor (parts_of s.now) boxes.now }
     requires rooms { AreRoomsFor (parts_of s.now) rooms.old }
@@ -80,6 +82,7 @@ fn find_cheaper(
         rooms.prices.ascent.prices(),
         WEIGHT,
         bound,
+        search,
     )
 }
 
@@ -113,6 +116,7 @@ fn improve(
     rooms: &mut Rooms,
     draft: &mut RecordDraft,
     bound: Bound,
+    search: Search,
 ) -> Result<(), OutOfMemory>
     requires boxes { IsMadeFor (parts_of s.now) walk.now.present }
     requires rooms { AreRoomsFor (parts_of s.now) rooms.old }
@@ -123,7 +127,7 @@ fn improve(
     if bound.is_reached(draft.best) {
         return Ok(());
     }
-    let found = find_cheaper(alloc, s, walk.boxes(), rooms, bound)?;
+    let found = find_cheaper(alloc, s, walk.boxes(), rooms, bound, search)?;
     offer_found(s, walk, draft, found)
 }
 
@@ -218,8 +222,8 @@ fn go_on(
     }
 }
 
-// A plan of the box to which prices lead that are found from those of the box before, if there is
-// one.
+// A plan of the box to which prices lead that are found from those of the box that was split, if
+// there is one.
 fn find_by_prices(
     alloc: Global,
     s: &Scenario,
@@ -237,7 +241,10 @@ fn find_by_prices(
     if rounds == 0 || boxes.is_empty() || first_choice(s, boxes).is_none() {
         return Ok(None);
     }
-    let _climbed = rooms.prices.ascent.climb(s, boxes, cutoff, 1, rounds);
+    let _climbed = rooms
+        .prices
+        .ascent
+        .climb(s, boxes, cutoff, LEAD_PART, rounds);
     match rooms.prices.ascent.plan(alloc, s, boxes, cutoff)? {
         None => Ok(None),
         Some(plan) => Ok(rooms.plans.improver.if_kept(s, boxes, plan)),
@@ -281,9 +288,11 @@ fn step(
         (IsStepped (parts_of s.now) budget walk.old draft.old walk.new draft.new) }
     ensures rooms { AreRoomsFor (parts_of s.now) rooms.new }
 {
+    let before = walk.waiting();
     if !go_on(alloc, s, budget, rooms, walk, draft, first)? {
         return Ok(false);
     }
+    follow(s, &mut rooms.prices, before, walk.waiting())?;
     visit(alloc, s, walk.boxes(), rooms, draft)?;
     Ok(true)
 }
@@ -384,6 +393,15 @@ fn steps_for(rounds: u32, bound: Bound, cutoff: Option<i64>) -> u32 {
     if bound.is_reached(cutoff) { 0 } else { rounds }
 }
 
+// How long the first search for a cheaper plan is: short where one is known, since better prices
+// may be found then.
+fn first_search(known: Option<i64>) -> Search {
+    match known {
+        None => Search::Long,
+        Some(_) => Search::Short,
+    }
+}
+
 // Searches from the tight box on, which is the path's first one, for plans and for prices; and then
 // until no box waits.
 fn search_from(
@@ -405,8 +423,18 @@ fn search_from(
         &mut rooms.prices,
         budget.rounds,
         draft.best,
-    );
-    improve(alloc, s, walk, rooms, draft, bound)?;
+    )?;
+    let search = first_search(draft.best);
+    improve(alloc, s, walk, rooms, draft, bound, search)?;
+    let bound = climb_again(
+        s,
+        walk.boxes(),
+        &mut rooms.prices,
+        budget.rounds,
+        draft.best,
+        bound,
+    )?;
+    improve(alloc, s, walk, rooms, draft, bound, Search::Long)?;
     let steps = steps_for(budget.rounds, bound, draft.best);
     run(alloc, s, budget, rooms, walk, draft, steps)
 }

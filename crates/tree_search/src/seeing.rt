@@ -6,7 +6,7 @@ ghost use Rattle.dual_leaf.specs.declared.fault.LeafFault.{LeafFault};
 ghost use Rattle.dual_leaf.specs.Leaf.{IsCostIn, IsLeafBound, IsNearOf, IsUnitBox};
 ghost use Rattle.dual_leaf.specs.Work.{IsRoomFor};
 ghost use Rattle.lagrange_bound.specs.Best.{HasPlanAt};
-ghost use Rattle.tree_search.specs.Rooms.{AreRoomsFor};
+ghost use Rattle.tree_search.specs.Rooms.{ArePriceRoomsFor, AreRoomsFor};
 ghost use Rattle.flow_types.specs.Scenario.{parts_of};
 ghost use Rattle.flow_types.specs.declared.bound.Bound.{Bound};
 ghost use Rattle.flow_types.specs.declared.parts.Parts.{Parts};
@@ -16,14 +16,14 @@ ghost use Rattle.time_windows.specs.Held.{IsMadeFor, box_of};
 ghost use Rattle.time_windows.specs.Tight.{IsLive, IsTight};
 ghost use Rattle.tree_search.specs.Seen.{IsBranchOf, IsSeen, may_split};
 
-use crate::branching::{first_choice, most_spread, nearest_half};
+use crate::branching::{first_choice, nearest_half};
 use crate::found::Budget;
 use crate::pricing::{price, price_leaf};
-use crate::rooms::Rooms;
+use crate::probing::strongest;
+use crate::rooms::{PriceRooms, Rooms};
 use branch_tree::{Branch, Leaf};
 use dual_leaf::LeafWork;
 use flow_types::{Bound, OutOfMemory, Scenario};
-use price_ascent::Ascent;
 use relaxed_bound::{Point, Relaxed, relax};
 use std::alloc::Global;
 use time_windows::Boxes;
@@ -127,7 +127,7 @@ fn see_open(
         enough,
     );
     if may_split(more, cutoff, run, priced.bound) {
-        let branch = choose(s, boxes, &point, &rooms.prices.ascent, branch);
+        let branch = choose(alloc, s, boxes, &point, &mut rooms.prices, cutoff, branch)?;
         Ok(Seen::Split(branch))
     } else if priced.bound.is_above(run) {
         let leaf = price_leaf(alloc, s, &rooms.prices, priced.source)?;
@@ -164,20 +164,25 @@ fn may_split(more: bool, cutoff: Option<i64>, run: Bound, priced: Bound) -> bool
 }
 
 // Where to split the box, which has this branch: by the run's point, where there is one, and else
-// by the trips of the last climb.
+// by what prices tell of its sides.
 fn choose(
+    alloc: Global,
     s: &Scenario,
     boxes: &Boxes,
     point: &Option<Point>,
-    ascent: &Ascent,
+    rooms: &mut PriceRooms,
+    cutoff: Option<i64>,
     known: Branch,
-) -> Branch
-    requires { IsBranchOf (parts_of s.now) (box_of boxes.now) known }
-    ensures { IsBranchOf (parts_of s.now) (box_of boxes.now) result }
+) -> Result<Branch, OutOfMemory>
+    requires made { IsMadeFor (parts_of s.now) boxes.now }
+    requires known { IsBranchOf (parts_of s.now) (box_of boxes.now) known }
+    requires rooms { ArePriceRoomsFor (parts_of s.now) rooms.old }
+    ensures branch { IfOk result (IsBranchOf (parts_of s.now) (box_of boxes.now)) }
+    ensures rooms { ArePriceRoomsFor (parts_of s.now) rooms.new }
 {
     match point {
-        None => most_spread(s, boxes, ascent, known),
-        Some(point) => nearest_half(s, boxes, point, known),
+        None => strongest(alloc, s, boxes, rooms, cutoff, known),
+        Some(point) => Ok(nearest_half(s, boxes, point, known)),
     }
 }
 

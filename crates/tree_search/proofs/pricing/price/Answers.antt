@@ -1,4 +1,4 @@
-use Rattle.std.proofs.Common.{◌≡◌, ap}
+use Rattle.std.proofs.Common.{◌≡◌, ◌∙◌, ap}
 use Rattle.flow_types.specs.Scenario.{parts_of}
 use Rattle.time_windows.specs.Held.{box_of}
 use Rattle.tree_search.specs.declared.rooms.PriceRooms.{PriceRooms}
@@ -15,8 +15,7 @@ returns-then-is_above-clause-most c =
 pub returns-else-is_above-clause-told : goal.returns-else-is_above-clause-told
 returns-else-is_above-clause-told c =
     rounds_told (parts_of c.args.s.now) (box_of c.args.boxes.now) c.play-played.new.self
-    (record { rounds = c.else-is_none.rooms.rounds; ascent = c.tell-climbed.new.self })
-    c.play-played.result same c.play-played.ensures.told c.play-played.ensures.placed
+    c.lead_on.new.rooms c.play-played.result (c.lead_on.ensures.rounds ∙ same) c.play-played.ensures.told c.play-played.ensures.placed
   where
     same : c.else-is_none.rooms.rounds ≡ c.play-played.new.self
     same = elim c.else-is_none.branch [

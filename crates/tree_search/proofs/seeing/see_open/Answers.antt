@@ -11,14 +11,14 @@ bound_of-run-requires-clause-some c =
     leaf_has (parts_of c.args.s.now) (box_of c.args.boxes.now) c.in_ok-leaf.field-0.leaf
     c.in_ok-leaf.ensures.some c.requires.live
 
-pub returns-then-may_split-clause-seen : goal.returns-then-may_split-clause-seen
-returns-then-may_split-clause-seen c =
+pub returns-in_ok-branch-clause-seen : goal.returns-in_ok-branch-clause-seen
+returns-in_ok-branch-clause-seen c =
     split_seen (parts_of c.args.s.now) c.args.budget c.args.cutoff c.args.more
     (box_of c.args.boxes.now) c.args.branch c.requires.made.inside c.requires.live
     c.requires.branch c.bound_of-run.result c.price-priced.result.bound c.price-priced.ensures.most
     c.in_ok-leaf.field-0.leaf (sym c.may_split.ensures ∙ c.if-may_split.true)
     c.bound_of-run.ensures.bound c.in_ok-leaf.ensures.some c.in_ok-leaf.ensures.licensed
-    c.choose-branch.result c.choose-branch.ensures
+    c.in_ok-branch.branch c.in_ok-branch.ensures.branch
 
 pub returns-in_ok-leaf-2-clause-seen : goal.returns-in_ok-leaf-2-clause-seen
 returns-in_ok-leaf-2-clause-seen c =
