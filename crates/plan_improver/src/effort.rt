@@ -1,4 +1,5 @@
 //! How long a search goes on, and how much dearer a plan may get in it.
+ghost use Rattle.std.specs.Prelude.{◌≤◌};
 
 use flow_types::{Flight, Scenario};
 
@@ -11,12 +12,39 @@ const TRIALS_A_FLIGHT: usize = 12;
 // out.
 const MOST_STEPS: usize = 40_000_000;
 
-// A search that begins anew makes one share of the trials, the last one two.
+// Each search makes one share of the trials, the last one two; of them the others take four.
 const SHARES: usize = 6;
+
+const STARTS: usize = 4;
+
+// With more flights than so many a long search doesn't begin anew, since few trials lead nowhere
+// then: the first one takes the shares of all starts.
+const MANY_FLIGHTS: usize = 300;
 
 // Up to so many flights a dearer plan is taken as easily, and from then on the seldomer the more
 // there are.
 const HOT_FLIGHTS: u64 = 64;
+
+/// How long a search is.
+#[derive(Clone, Copy, Debug, PartialEq, Eq)]
+pub enum Search {
+    /// A sixth of the trials, from one plan.
+    Short,
+    /// All of them, from one plan after the other, and at last from the best; from one plan alone
+    /// on days of more than 300 flights.
+    Long,
+}
+
+/// From how many plans a long search begins.
+pub fn starts_of(s: &Scenario) -> usize
+    ensures { result ≤ 4 }
+{
+    if s.flights().len() > MANY_FLIGHTS {
+        1
+    } else {
+        STARTS
+    }
+}
 
 /// How many trials a search makes, and by how much a plan may cost more in the first of them.
 #[derive(Clone, Copy, Debug, PartialEq, Eq)]
@@ -27,10 +55,14 @@ pub struct Effort {
 }
 
 impl Effort {
-    /// That of a search that begins anew.
-    pub fn first(s: &Scenario) -> Effort {
+    /// That of a search from the first plan.
+    pub fn first(s: &Scenario, search: Search) -> Effort {
+        let shares = match search {
+            Search::Short => 1,
+            Search::Long => STARTS / starts_of(s).max(1),
+        };
         Effort {
-            trials: trials_of(s) / SHARES,
+            trials: (trials_of(s) / SHARES).saturating_mul(shares),
             first_heat: first_heat(s),
         }
     }

@@ -11,7 +11,7 @@ ghost use Rattle.time_windows.specs.Plans.{IsPlanIn};
 use crate::best::{Best, are_enough};
 use crate::choosing::Chosen;
 use crate::draft::{Choice, choices_of, extra_of, is_complete};
-use crate::effort::Effort;
+use crate::effort::{Effort, Search, starts_of};
 use crate::inside::is_in_box;
 use flight_routes::{Prices, Work};
 use flow_types::{Bound, Flight, OutOfMemory, Plan, Scenario, Trip};
@@ -20,31 +20,18 @@ use std::alloc::Global;
 use std::marker::Model;
 use time_windows::Boxes;
 
-// In how many plans the search begins, one after the other; it goes on from the best that it found
-// so.
-const STARTS: usize = 4;
-
 // How much later than it is scheduled a flight may stand in the order of a second start, in half
 // periods.
 const LATER: u16 = 12;
 
 // By which factor costs weigh more beside prices, start by start and trial by trial; 0 where prices
 // are passed over.
-const START_FACTORS: [u64; STARTS] = [1, 2, 1, 0];
+const START_FACTORS: [u64; 4] = [1, 2, 1, 0];
 
 const FACTORS: [u64; 8] = [1, 1, 1, 2, 2, 4, 64, 0];
 
 // The most that costs may weigh.
 const MOST_WEIGHT: u64 = 1 << 61;
-
-/// How long a search is.
-#[derive(Clone, Copy, Debug, PartialEq, Eq)]
-pub enum Search {
-    /// It begins in one plan.
-    Short,
-    /// It begins in one plan after the other, and goes on from the best; six times as long.
-    Long,
-}
 
 // A trip that a flight is given in a trial, and how much more than the least it costs.
 #[derive(Debug, Drop)]
@@ -161,7 +148,7 @@ impl Improver {
         if costs_no_more(known, cost_of(&self.choices)) {
             self.take_over(alloc, s, start)?;
         }
-        let effort = Effort::first(s);
+        let effort = Effort::first(s, search);
         self.search(alloc, s, boxes, prices, weight, enough, &mut best, effort)?;
         if let Search::Long = search {
             self.begin_anew(alloc, s, boxes, prices, weight, enough, &mut best)?;
@@ -221,7 +208,7 @@ impl Improver {
         self.loads.clear();
         leave_all_out(alloc, &mut self.choices);
         let later = if number == 0 { 0 } else { LATER };
-        let factor = START_FACTORS[number % STARTS];
+        let factor = START_FACTORS[number % 4];
         let guide = if factor == 0 { None } else { Some(prices) };
         for (_, flight) in self.chosen.by_departure(alloc, s, later)? {
             self.chosen.choose_one(flight)?;
@@ -261,10 +248,10 @@ impl Improver {
         requires weight { weight < 2 ^ 61 }
         ensures filled { IsFilledFor (parts_of s.now) self.new }
     {
-        for number in 1..STARTS {
+        for number in 1..starts_of(s) {
             if !best.is_enough(enough) {
                 self.begin(alloc, s, boxes, prices, weight, number)?;
-                let effort = Effort::first(s);
+                let effort = Effort::first(s, Search::Short);
                 self.search(alloc, s, boxes, prices, weight, enough, best, effort)?;
             }
         }

@@ -27,9 +27,9 @@
 //! more than its worst delay costs, and the more the more often none was found for it; so where
 //! the greedy plan is stuck the same trials complete it.
 //!
-//! In a long search three more begin with plans whose order is changed a little by lot, and a last
-//! one goes on from the best plan so far. The best plan in which no flight is left out is the one
-//! that counts.
+//! In a long search three more begin with plans whose order is changed a little by lot, on days of
+//! up to 300 flights, and a last one goes on from the best plan so far. The best plan in which no
+//! flight is left out is the one that counts.
 //!
 //! Proved: what is handed on keeps every rule and is in the box; and where the start keeps every
 //! rule too, it costs less (`cheaper`). The search itself is free to do what it likes, since its
@@ -53,5 +53,5 @@ mod hotspots;
 mod improver;
 mod inside;
 
-pub use effort::delay_cost;
-pub use improver::{Improver, Search};
+pub use effort::{Search, delay_cost};
+pub use improver::Improver;
