@@ -37,8 +37,9 @@ pub struct Ascent {
     slopes: Vec<Slope>,
     // What the least trips under the planned prices cost, weighted, if they pass no limit.
     plan_cost: Option<i128>,
-    // The value of the kept prices in the last climb.
+    // The value of the kept prices in the last climb, and how that went.
     value: Option<i128>,
+    pace: Pace,
 }
 
 // Written out, so that proofs see one call where a room is let go of.
@@ -50,6 +51,7 @@ impl Drop for Ascent {
             slopes: _,
             plan_cost: _,
             value: _,
+            pace: _,
         } = self;
     }
 }
@@ -130,6 +132,7 @@ impl Ascent {
             slopes: all_slopes(alloc, s)?,
             plan_cost: None,
             value: None,
+            pace: Pace::new(None, 1),
         })
     }
 
@@ -160,37 +163,26 @@ impl Ascent {
         ensures made { IsAscentRoomFor (parts_of s.now) self.new }
     {
         self.begin(s);
-        let mut pace = Pace::new(cost, part);
-        let _goes_on = self.go_on(s, boxes, &mut pace, steps);
-        self.value = pace.best();
+        self.pace = Pace::new(cost, part);
+        self.go_on(s, boxes, steps);
         self.tell(s, boxes)
     }
 
-    /// Climbs in the same way, and puts the prices by that are the best after a quarter of the
-    /// steps, on top of those that were put by before.
-    pub fn climb_noting(
-        &mut self,
-        s: &Scenario,
-        boxes: &Boxes,
-        cost: Option<i64>,
-        part: u32,
-        steps: u32,
-        early: &mut KeptPrices,
-    ) -> Result<Bound, OutOfMemory>
+    /// Goes on with the last climb in the same box, in so many steps more, where this cost is known
+    /// of a plan; nothing may have been done between them that changes the kept prices.
+    pub fn climb_on(&mut self, s: &Scenario, boxes: &Boxes, cost: Option<i64>, steps: u32) -> Bound
         requires made { IsAscentRoomFor (parts_of s.now) self.old }
         requires boxes { IsMadeFor (parts_of s.now) boxes.now }
-        ensures sound { IfOk result (IsBoundIn (parts_of s.now) (box_of boxes.now)) }
+        ensures told { IsPricedBound (parts_of s.now) (box_of boxes.now) climb_weight
+            self.new.best result }
+        ensures sound { IsBoundIn (parts_of s.now) (box_of boxes.now) result }
+        ensures near { IsNearBound result }
+        ensures placed { ArePlaced (parts_of s.now) self.new.best }
         ensures made { IsAscentRoomFor (parts_of s.now) self.new }
     {
-        self.begin(s);
-        let mut pace = Pace::new(cost, part);
-        let goes_on = self.go_on(s, boxes, &mut pace, steps / 4);
-        put_by(&self.slopes, s, &self.tables.best, early)?;
-        if goes_on {
-            let _goes_on = self.go_on(s, boxes, &mut pace, steps - steps / 4);
-        }
-        self.value = pace.best();
-        Ok(self.tell(s, boxes))
+        self.pace.aim(cost);
+        self.go_on(s, boxes, steps);
+        self.tell(s, boxes)
     }
 
     /// Lets the flights bid in turn, in so many passes at the most, from the kept prices, where a
@@ -352,18 +344,20 @@ impl Ascent {
         forget(&mut self.trips.spreads);
     }
 
-    // So many steps at the most, and whether the climb goes on.
-    fn go_on(&mut self, s: &Scenario, boxes: &Boxes, pace: &mut Pace, steps: u32) -> bool
+    // Climbs so many steps at the most.
+    fn go_on(&mut self, s: &Scenario, boxes: &Boxes, steps: u32)
         requires made { IsAscentRoomFor (parts_of s.now) self.old }
         requires boxes { IsMadeFor (parts_of s.now) boxes.now }
         ensures made { IsAscentRoomFor (parts_of s.now) self.new }
     {
+        let mut pace = self.pace;
         for _ in 0..steps {
-            if !self.step(s, boxes, pace) {
-                return false;
+            if !self.step(s, boxes, &mut pace) {
+                break;
             }
         }
-        true
+        self.pace = pace;
+        self.value = pace.best();
     }
 
     // One step, and whether the climb goes on.

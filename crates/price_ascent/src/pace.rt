@@ -3,10 +3,11 @@
 //! The goal is a value above the best one. Where a step comes near it the lead over the best value
 //! is doubled, where it gains less the lead grows by an eighth, and where nothing is gained for ten
 //! steps it is halved (a level method without a bound from above, after Brännlund, "A generalized
-//! subgradient method with relaxation step", 1995). A lead that is used up is begun anew.
+//! subgradient method with relaxation step", 1995). Where no cost is known, a lead that is used up
+//! is begun anew.
 //!
-//! So no cost needs to be known, and one that is known tells nothing but where the climb may end:
-//! climbs that aimed at it stayed below those that don't.
+//! So no cost needs to be known, and climbs that aimed at one stayed below those that don't. Where
+//! one is known, the climb may end: where it is reached, or the lead is used up for the first time.
 
 use crate::ascent::WEIGHT;
 
@@ -34,7 +35,7 @@ const FIFTHS_KEPT: i64 = 4;
 /// The best value that a climb has found, and the pace that follows from it.
 #[derive(Clone, Copy, Debug, PartialEq, Eq)]
 pub struct Pace {
-    enough: i128,
+    cost: Option<i64>,
     part: u32,
     best: Option<i128>,
     lead: i128,
@@ -42,6 +43,7 @@ pub struct Pace {
     goal: i128,
     idle: u32,
     moved: bool,
+    spent: bool,
 }
 
 impl Pace {
@@ -49,7 +51,7 @@ impl Pace {
     /// leads at first by such a part of the value.
     pub fn new(cost: Option<i64>, part: u32) -> Pace {
         Pace {
-            enough: weighted_cost(cost.unwrap_or(MOST_COST).saturating_sub(1)),
+            cost,
             part,
             best: None,
             lead: LEAST_LEAD,
@@ -57,7 +59,13 @@ impl Pace {
             goal: 0,
             idle: 0,
             moved: false,
+            spent: false,
         }
+    }
+
+    /// Goes on where this cost is known.
+    pub fn aim(&mut self, cost: Option<i64>) {
+        self.cost = cost;
     }
 
     /// The best value so far.
@@ -117,15 +125,17 @@ impl Pace {
             self.idle = 0;
             self.lead = self.lead / 2;
             if self.lead < self.least_lead {
+                self.spent = true;
                 self.lead = self.first_lead(best);
             }
             self.goal = best.saturating_add(self.lead);
         }
     }
 
-    /// Whether the climb is at its end, since the bound is enough.
+    /// Whether the climb is at its end: the bound is enough, or the lead was used up.
     pub fn is_over(&self) -> bool {
-        self.best.is_some_and(|best| best > self.enough)
+        let enough = weighted_cost(self.cost.unwrap_or(MOST_COST).saturating_sub(1));
+        self.best.is_some_and(|best| best > enough) || (self.spent && self.cost.is_some())
     }
 
     /// How many fifths of the direction before are kept in the next step: four, but none in the
