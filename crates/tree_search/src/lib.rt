@@ -14,17 +14,18 @@
 //!         Bound::NoPlan => println!("no plan is in the box"),
 //!     }
 //!
-//! Where prices of 0 tell what the greedy plan costs, that is the answer. Else a climb looks for
-//! good prices, and a plan that costs less than the greedy one is looked for by them; where a gap
-//! is left between what both tell, flights bid in turn, and a climb goes on from there. Then it
-//! goes depth first, the early side of a split before the late one. For each box the greedy plan is
-//! made, and kept where it is cheaper than the last; so is the plan that the least trips of a climb
-//! are, where they keep the rules. An empty box is done with, and so is one in which there is no
-//! choice. Else the run of the box's relaxation gives a leaf, and prices another one, those of
-//! rounds or those of the climb: where the bound of one reaches what the best plan costs, or where
-//! there is no room for two nodes more, the box is done with, by the one that tells more; and else
-//! it is split. Both sides begin with the prices that told more of the box, so that by prices they
-//! tell no less than it.
+//! Where prices of 0 tell what the greedy plan costs, that is the answer. Else a quarter of a climb
+//! looks for good prices, and a short search by them for a plan that costs less than the greedy
+//! one. As long as a gap is left between what both tell, the climb goes on, so do searches for
+//! plans, and flights bid in turn before a climb goes on from there and a long search by its
+//! prices. Then it goes depth first, the early side of a split before the late one. For each box
+//! the greedy plan is made, and kept where it is cheaper than the last; so is the plan that the
+//! least trips of a climb are, where they keep the rules. An empty box is done with, and so is one
+//! in which there is no choice. Else the run of the box's relaxation gives a leaf, and prices
+//! another one, those of rounds or those of the climb: where the bound of one reaches what the best
+//! plan costs, or where there is no room for two nodes more, the box is done with, by the one that
+//! tells more; and else it is split. Both sides begin with the prices that told more of the box, so
+//! that by prices they tell no less than it.
 //!
 //! The definitions stand in `specs/`: `Records` (what is handed back), `Nodes` (what is known of
 //! each node) and `Budgets` (a number of nodes that is enough); what a reader of its tree needs is

@@ -60,9 +60,9 @@ pub struct Priced {
     pub source: Source,
 }
 
-/// Where a search begins: climbs from prices of 0, and answers what the prices tell to which that
-/// leads. Where there are no rounds, or prices of 0 tell a bound that reaches the cutoff, it stays
-/// at these.
+/// Where a search begins: climbs from prices of 0, a quarter of the first climb's steps, and
+/// answers what the prices tell to which that leads. Where there are no rounds, or prices of 0 tell
+/// a bound that reaches the cutoff, it stays at these.
 pub fn begin_climb(
     s: &Scenario,
     boxes: &Boxes,
@@ -79,14 +79,35 @@ pub fn begin_climb(
         return Ok(first);
     }
     let steps = first_steps(s, rooms.ascent.rising(), rounds);
-    let early = &mut rooms.early;
-    let climbed = rooms
-        .ascent
-        .climb_noting(s, boxes, cutoff, LEAD_PART, steps, early)?;
+    let climbed = rooms.ascent.climb(s, boxes, cutoff, LEAD_PART, steps / 4);
+    rooms.ascent.put_by(s, &mut rooms.early)?;
+    Ok(climbed)
+}
+
+/// Goes on with that climb for the rest of its steps, where it has led to a bound that doesn't
+/// reach the cutoff; and answers what the prices tell, with no cutoff also that no plan is in the
+/// box.
+pub fn climb_further(
+    s: &Scenario,
+    boxes: &Boxes,
+    rooms: &mut PriceRooms,
+    rounds: u32,
+    cutoff: Option<i64>,
+    bound: Bound,
+) -> Bound
+    requires made { IsMadeFor (parts_of s.now) boxes.now }
+    requires rooms { ArePriceRoomsFor (parts_of s.now) rooms.old }
+    ensures { ArePriceRoomsFor (parts_of s.now) rooms.new }
+{
+    if rounds == 0 || bound.is_reached(cutoff) {
+        return bound;
+    }
+    let steps = first_steps(s, rooms.ascent.rising(), rounds);
+    let climbed = rooms.ascent.climb_on(s, boxes, cutoff, steps - steps / 4);
     if cutoff.is_none() && rooms.ascent.has_none(s, boxes) {
-        Ok(Bound::NoPlan)
+        Bound::NoPlan
     } else {
-        Ok(climbed)
+        climbed
     }
 }
 

@@ -21,7 +21,7 @@ ghost use Rattle.branch_tree.specs.Paths.{AreSteps, IsFork, IsNextOr, top_box};
 use crate::branching::first_choice;
 use crate::draft::{RecordDraft, no_draft, note, offer};
 use crate::found::{Budget, Found};
-use crate::pricing::{LEAD_PART, begin_climb, climb_again, follow};
+use crate::pricing::{LEAD_PART, begin_climb, climb_again, climb_further, follow};
 use crate::rooms::{Rooms, rooms_for};
 use crate::seeing::{Seen, see};
 use branch_tree::{Branch, Leaf, Tree, TreeNode, Walk};
@@ -393,9 +393,9 @@ fn steps_for(rounds: u32, bound: Bound, cutoff: Option<i64>) -> u32 {
     if bound.is_reached(cutoff) { 0 } else { rounds }
 }
 
-// How long the first search for a cheaper plan is: short where one is known, since better prices
-// may be found then.
-fn first_search(known: Option<i64>) -> Search {
+// How long the search for a cheaper plan is after the first climb: short where one is known, since
+// better prices may still be found then.
+fn next_search(known: Option<i64>) -> Search {
     match known {
         None => Search::Long,
         Some(_) => Search::Short,
@@ -424,7 +424,16 @@ fn search_from(
         budget.rounds,
         draft.best,
     )?;
-    let search = first_search(draft.best);
+    improve(alloc, s, walk, rooms, draft, bound, Search::Short)?;
+    let bound = climb_further(
+        s,
+        walk.boxes(),
+        &mut rooms.prices,
+        budget.rounds,
+        draft.best,
+        bound,
+    );
+    let search = next_search(draft.best);
     improve(alloc, s, walk, rooms, draft, bound, search)?;
     let bound = climb_again(
         s,
