@@ -5,7 +5,7 @@ ghost use Rattle.plan_rules.specs.Loads.{IsMadeFor};
 
 use crate::draft::Choice;
 use crate::generator::Generator;
-use crate::hotspots::{Hotspot, Times, add_hotspots, meets, span_of, times_of};
+use crate::hotspots::{Hotspot, Times, add_hotspots, meets, span_of, times_of, widen};
 use flow_types::{Flight, OutOfMemory, Scenario, Stop};
 use plan_rules::Loads;
 use std::alloc::Global;
@@ -19,6 +19,34 @@ const MOST_OTHERS: usize = 8;
 
 // How many flights it comes to, with those that they have connections with.
 const MOST_CHOSEN: usize = 24;
+
+// How much later than it is scheduled a flight may stand in a mixed order, in half periods.
+const LATER: u16 = 12;
+
+// In how many of eight trials all flights are chosen among that fill one capacity for some periods.
+const ZONES: usize = 2;
+
+// How many periods there are before and after the one in which it is full, at the most.
+const MOST_WIDTH: usize = 4;
+
+// How many flights are chosen then, beside the delayed one and its partners: some, and so many more
+// at the most.
+const LEAST_IN_ZONE: usize = 2;
+
+const MOST_IN_ZONE: usize = 14;
+
+/// In which order the flights take their trips in a plan that a search begins with.
+#[derive(Clone, Copy, Debug, PartialEq, Eq)]
+pub enum StartOrder {
+    /// By scheduled departure.
+    Departure,
+    /// By the latest arrival.
+    LatestArrival,
+    /// By how long the flight may wait.
+    Slack,
+    /// By scheduled departure, some a little later.
+    Mixed,
+}
 
 /// The flights that are taken out together, in the order in which they are put back, with the lists
 /// that serve their choice.
@@ -54,7 +82,7 @@ impl Chosen {
     /// None yet.
     pub fn new(alloc: Global) -> Chosen {
         Chosen {
-            generator: Generator::new(),
+            generator: Generator::new(0),
             delayed: Vec::new(alloc),
             hotspots: Vec::new(alloc),
             others: Vec::new(alloc),
@@ -65,9 +93,9 @@ impl Chosen {
         }
     }
 
-    /// Begins the numbers that choices are drawn by anew.
-    pub fn restart(&mut self) {
-        self.generator = Generator::new();
+    /// Begins the numbers that choices are drawn by anew, with those of this number.
+    pub fn restart(&mut self, number: u32) {
+        self.generator = Generator::new(number);
     }
 
     /// The flights, in the order in which they are put back.
@@ -86,22 +114,31 @@ impl Chosen {
         self.generator.rare(mean)
     }
 
-    /// All flights in the order of their scheduled departures, some up to so many half periods
-    /// later than they stand there.
-    pub fn by_departure(
+    /// All flights in this order, each behind what it is ordered by.
+    pub fn all_in_order(
         &mut self,
         alloc: Global,
         s: &Scenario,
-        later: u16,
+        order: StartOrder,
     ) -> Result<Vec<(u32, u32)>, OutOfMemory> {
-        let mut departures = Vec::new(alloc);
+        let mut flights = Vec::new(alloc);
         for flight in 0..s.flights().len() {
-            let late = self.generator.up_to(later);
-            let departs = u32::from(s.flights()[flight].sd) * 2 + u32::from(late);
-            departures.push((departs, flight as u32))?;
+            let key = self.start_key(&s.flights()[flight], order);
+            flights.push((key, flight as u32))?;
         }
-        departures.sort_unstable();
-        Ok(departures)
+        flights.sort_unstable();
+        Ok(flights)
+    }
+
+    // What a flight is ordered by at a start.
+    fn start_key(&mut self, flight: &Flight, order: StartOrder) -> u32 {
+        let departs = u32::from(flight.sd) * 2;
+        match order {
+            StartOrder::Departure => departs,
+            StartOrder::LatestArrival => u32::from(flight.sa) + u32::from(flight.md),
+            StartOrder::Slack => u32::from(flight.mg.min(flight.md)),
+            StartOrder::Mixed => departs + u32::from(self.generator.up_to(LATER)),
+        }
     }
 
     /// Chooses this flight alone.
@@ -144,7 +181,8 @@ impl Chosen {
         }
         let flight = self.delayed[self.generator.below(self.delayed.len())];
         self.list_hotspots(s, loads, choices, flight)?;
-        self.list_others(s, boxes, loads, choices, flight)?;
+        let most = self.draw_most(s)?;
+        self.list_others(s, boxes, loads, choices, flight, most)?;
         self.choose_one(flight)?;
         add_with_partners(&mut self.flights, boxes, &self.others)?;
         self.put_in_order(s, choices)?;
@@ -186,8 +224,20 @@ impl Chosen {
         let late = late_times(details, choice.trip.items());
         add_hotspots(&mut self.hotspots, s, loads, details, early, late)?;
         self.generator.mix(&mut self.hotspots);
-        self.hotspots.truncate(MOST_HOTSPOTS);
         Ok(())
+    }
+
+    // Draws by which of them flights are chosen, and how many at the most: by some of them; or by
+    // one alone, for some periods before and after it.
+    fn draw_most(&mut self, s: &Scenario) -> Result<usize, OutOfMemory> {
+        if self.generator.below(8) < ZONES {
+            let width = 1 + self.generator.below(MOST_WIDTH);
+            widen(&mut self.hotspots, s, width as u16)?;
+            Ok(LEAST_IN_ZONE + 1 + self.generator.below(MOST_IN_ZONE))
+        } else {
+            self.hotspots.truncate(MOST_HOTSPOTS);
+            Ok(1 + self.generator.below(MOST_OTHERS))
+        }
     }
 
     // Lists some of its partners and of the flights that fill these capacities.
@@ -198,6 +248,7 @@ impl Chosen {
         loads: &Loads,
         choices: &[Choice],
         flight: u32,
+        most: usize,
     ) -> Result<(), OutOfMemory>
         requires loads { IsMadeFor (parts_of s.now) loads.now }
         requires count { length choices.now ≡ length (parts_of s.now).flights }
@@ -213,7 +264,7 @@ impl Chosen {
         )?;
         add_meeting(&mut self.others, s, loads, choices, &self.hotspots, flight)?;
         self.generator.mix(&mut self.others);
-        self.others.truncate(1 + self.generator.below(MOST_OTHERS));
+        self.others.truncate(most);
         Ok(())
     }
 }

@@ -14,6 +14,10 @@ use time_windows::Boxes;
 // How many times its worst delay a flight costs that is left out.
 const TIMES_LEFT_OUT: i64 = 3;
 
+// No penalty is less than such a part of the average: flights that may hardly wait would be left
+// out for others else.
+const LEAST_PART: i64 = 2;
+
 /// What a flight has at present.
 #[derive(Debug, Drop)]
 pub struct Choice {
@@ -25,19 +29,17 @@ pub struct Choice {
     pub trip: Trip,
     /// How much more than the least it costs.
     pub extra: i64,
-    /// How much more than the least any trip of the flight costs, at the most.
-    pub worst: i64,
+    /// What it costs more where it is left out and no trip was found for it so far.
+    pub penalty: i64,
     /// How often no trip was found for it of late.
     pub failures: i64,
 }
 
 impl Choice {
-    /// What it costs more where the flight is left out: more than its worst delay, and the more the
-    /// more often no trip was found for it.
+    /// What it costs more where the flight is left out: its penalty, once more for each time that
+    /// no trip was found for it.
     pub fn left_out(&self) -> i64 {
-        self.worst
-            .saturating_mul(TIMES_LEFT_OUT)
-            .saturating_mul(self.failures.saturating_add(1))
+        self.penalty.saturating_mul(self.failures.saturating_add(1))
     }
 
     /// Whether the flight is left out.
@@ -81,7 +83,23 @@ pub fn choices_of(
         }
         choices.push(left_out(alloc, s, flight, work.trip())?)?;
     }
+    raise_penalties(&mut choices);
     Ok(Some(choices))
+}
+
+// Raises the penalties that are far below the average.
+fn raise_penalties(choices: &mut [Choice])
+    ensures { length choices.new ≡ length choices.old }
+{
+    let mut sum = 0i64;
+    for at in 0..choices.len() {
+        sum = sum.saturating_add(choices[at].penalty);
+    }
+    let least = sum / (choices.len().max(1) as i64) / LEAST_PART;
+    for at in 0..choices.len() {
+        choices[at].penalty = choices[at].penalty.max(least);
+        choices[at].extra = choices[at].left_out();
+    }
 }
 
 // The flight without a trip, with its least one if it were alone.
@@ -89,16 +107,15 @@ fn left_out(alloc: Global, s: &Scenario, flight: u32, alone: &[Stop]) -> Result<
     requires { flight < length (parts_of s.now).flights }
 {
     let least = trip_cost(s, flight, alone);
-    let mut choice = Choice {
+    let worst = worst_of(s, flight).saturating_sub(least).max(1);
+    Ok(Choice {
         alone: Trip::from_stops(alloc, alone)?,
         least,
         trip: Trip::empty(alloc),
         extra: 0,
-        worst: worst_of(s, flight).saturating_sub(least).max(1),
+        penalty: worst.saturating_mul(TIMES_LEFT_OUT),
         failures: 0,
-    };
-    choice.extra = choice.left_out();
-    Ok(choice)
+    })
 }
 
 // No trip of the flight costs more.

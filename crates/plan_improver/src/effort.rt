@@ -12,13 +12,19 @@ const TRIALS_A_FLIGHT: usize = 12;
 // out.
 const MOST_STEPS: usize = 40_000_000;
 
-// Each search makes one share of the trials, the last one two; of them the others take four.
+// Each search makes one share of the trials, the last one two.
 const SHARES: usize = 6;
 
 const STARTS: usize = 4;
 
+// How many shares the first search makes where a long one begins once.
+const SHARES_OF_ONE: usize = 3;
+
+// How many shares a search makes that is made again.
+const SHARES_AGAIN: usize = 2;
+
 // With more flights than so many a long search doesn't begin anew, since few trials lead nowhere
-// then: the first one takes the shares of all starts.
+// then: the first one is longer.
 const MANY_FLIGHTS: usize = 300;
 
 // Up to so many flights a dearer plan is taken as easily, and from then on the seldomer the more
@@ -33,16 +39,39 @@ pub enum Search {
     /// All of them, from one plan after the other, and at last from the best; from one plan alone
     /// on days of more than 300 flights.
     Long,
+    /// A third of them, with other lots for each number: from the start where that is even and the
+    /// start keeps every rule, and else from another plan.
+    Again(u32),
 }
 
-/// From how many plans a long search begins.
-pub fn starts_of(s: &Scenario) -> usize
+impl Search {
+    /// By which number its lots are drawn.
+    pub fn lots(self) -> u32 {
+        match self {
+            Search::Short | Search::Long => 0,
+            Search::Again(number) => number,
+        }
+    }
+
+    /// Whether it may begin with the start that it is given.
+    pub fn takes_start(self) -> bool {
+        self.lots() % 2 == 0
+    }
+}
+
+/// From how many plans a search begins.
+pub fn starts_of(s: &Scenario, search: Search) -> usize
     ensures { result ≤ 4 }
 {
-    if s.flights().len() > MANY_FLIGHTS {
-        1
-    } else {
-        STARTS
+    match search {
+        Search::Short | Search::Again(_) => 1,
+        Search::Long => {
+            if s.flights().len() > MANY_FLIGHTS {
+                1
+            } else {
+                STARTS
+            }
+        }
     }
 }
 
@@ -58,8 +87,9 @@ impl Effort {
     /// That of a search from the first plan.
     pub fn first(s: &Scenario, search: Search) -> Effort {
         let shares = match search {
-            Search::Short => 1,
-            Search::Long => STARTS / starts_of(s).max(1),
+            Search::Long if starts_of(s, search) == 1 => SHARES_OF_ONE,
+            Search::Again(_) => SHARES_AGAIN,
+            _ => 1,
         };
         Effort {
             trials: (trials_of(s) / SHARES).saturating_mul(shares),

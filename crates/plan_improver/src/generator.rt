@@ -10,6 +10,9 @@ const RARE: [u64; 64] = [
     203, 184, 165, 146, 128, 110, 92, 75, 58, 41, 24, 8,
 ];
 
+// How far apart generators begin: 2^64 by the golden ratio.
+const APART: u64 = 11_400_714_819_323_198_485;
+
 /// A linear congruential generator modulo 2^64, with Knuth's factor ("The Art of Computer
 /// Programming", volume 2, 3.3.4).
 #[derive(Clone, Copy, Debug, PartialEq, Eq)]
@@ -18,9 +21,11 @@ pub struct Generator {
 }
 
 impl Generator {
-    /// The generator of every search.
-    pub fn new() -> Generator {
-        Generator { state: 1 }
+    /// The generator of this number, each with numbers of its own.
+    pub fn new(number: u32) -> Generator {
+        Generator {
+            state: u64::from(number).wrapping_mul(APART).wrapping_add(1),
+        }
     }
 
     /// The next number below the count. Only the upper half of the state is used, since the lower

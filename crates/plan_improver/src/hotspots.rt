@@ -98,6 +98,22 @@ fn add_full(
     Ok(())
 }
 
+/// Leaves the first of these alone, and adds its capacity in so many periods before and after,
+/// whether it is full then or not.
+pub fn widen(hotspots: &mut Vec<Hotspot>, s: &Scenario, width: u16) -> Result<(), OutOfMemory> {
+    let Some(hotspot) = hotspots.first().copied() else {
+        return Ok(());
+    };
+    hotspots.clear();
+    let last = hotspot.period.saturating_add(width);
+    for period in hotspot.period.saturating_sub(width)..s.day().periods {
+        if period <= last {
+            hotspots.push(Hotspot { period, ..hotspot })?;
+        }
+    }
+    Ok(())
+}
+
 /// The periods from the first of these to the last; none where there are no capacities.
 pub fn span_of(hotspots: &[Hotspot]) -> Option<Times> {
     let first = hotspots.first()?.period;

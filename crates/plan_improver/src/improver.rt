@@ -9,7 +9,7 @@ ghost use Rattle.plan_improver.specs.Cheaper.{IsCheaper, IsLess};
 ghost use Rattle.time_windows.specs.Plans.{IsPlanIn};
 
 use crate::best::{Best, are_enough};
-use crate::choosing::Chosen;
+use crate::choosing::{Chosen, StartOrder};
 use crate::draft::{Choice, choices_of, extra_of, is_complete};
 use crate::effort::{Effort, Search, starts_of};
 use crate::inside::is_in_box;
@@ -20,13 +20,20 @@ use std::alloc::Global;
 use std::marker::Model;
 use time_windows::Boxes;
 
-// How much later than it is scheduled a flight may stand in the order of a second start, in half
-// periods.
-const LATER: u16 = 12;
+// In which orders a long search begins.
+const START_ORDERS: [StartOrder; 4] = [
+    StartOrder::Departure,
+    StartOrder::LatestArrival,
+    StartOrder::Slack,
+    StartOrder::Mixed,
+];
+
+// The number of the last of them.
+const LAST_START: usize = 3;
 
 // By which factor costs weigh more beside prices, start by start and trial by trial; 0 where prices
 // are passed over.
-const START_FACTORS: [u64; 4] = [1, 2, 1, 0];
+const START_FACTORS: [u64; 4] = [1, 1, 1, 2];
 
 const FACTORS: [u64; 8] = [1, 1, 1, 2, 2, 4, 64, 0];
 
@@ -103,7 +110,7 @@ impl Improver {
     /// A plan in the box that keeps every rule, and costs less than the start if that keeps them
     /// too; nothing where the search finds none. The start may be any list of trips, as of the
     /// first flights alone: the search begins with it only where it keeps every rule and costs no
-    /// more than a plan of its own.
+    /// more than a plan of its own, and one that is made again only at even numbers.
     ///
     /// Flights are put back by prices too, beside which costs weigh so much, less than 2^61: the
     /// better the prices, the better the plan. It ends where a plan costs no more than a bound that
@@ -111,10 +118,10 @@ impl Improver {
     ///
     /// The box and the prices are of the scenario that the room was made for. What it is given
     /// tells the plan, whatever was searched before. It takes memory for the stops of four plans
-    /// while it runs, and for the plan; time for 18,000 trials and twelve more a flight, or a sixth
-    /// of them where it is short, fewer on long days with many legs, each as 24 least trips at the
-    /// most and a look at each flight. The room keeps nothing that a caller sees, so it is as good
-    /// as before also after want of memory.
+    /// while it runs, and for the plan; time for 18,000 trials and twelve more a flight, a sixth of
+    /// them where it is short and a third where it is made again, fewer on long days with many
+    /// legs, each as 24 least trips at the most and a look at each flight. The room keeps nothing
+    /// that a caller sees, so it is as good as before also after want of memory.
     ///
     /// Large neighbourhood search (Shaw, "Using constraint programming and local search methods to
     /// solve vehicle routing problems", 1998), where dearer plans are taken too, the seldomer the
@@ -138,14 +145,14 @@ impl Improver {
             (IsCheaper (parts_of s.now) (box_of boxes.now) start.now)) }
         ensures made { IsSearchRoomFor (parts_of s.now) self.new }
     {
-        self.chosen.restart();
+        self.chosen.restart(search.lots());
         let known = judge(&mut self.loads, s, start);
         if !self.fill(alloc, s, boxes)? {
             return Ok(None);
         }
         let mut best = Best::none();
-        self.begin(alloc, s, boxes, prices, weight, 0)?;
-        if costs_no_more(known, cost_of(&self.choices)) {
+        self.begin_first(alloc, s, boxes, prices, weight, search)?;
+        if search.takes_start() && costs_no_more(known, cost_of(&self.choices)) {
             self.take_over(alloc, s, start)?;
         }
         let effort = Effort::first(s, search);
@@ -187,9 +194,35 @@ impl Improver {
         }
     }
 
+    // Begins the search: as the first start does; where it is the only one and leaves a flight out,
+    // as the second one; and a search that is made again as the last one.
+    fn begin_first(
+        &mut self,
+        alloc: Global,
+        s: &Scenario,
+        boxes: &Boxes,
+        prices: &Prices,
+        weight: u64,
+        search: Search,
+    ) -> Result<(), OutOfMemory>
+        requires filled { IsFilledFor (parts_of s.now) self.old }
+        requires boxes { IsMadeFor (parts_of s.now) boxes.now }
+        requires prices { ArePricesOf (parts_of s.now) prices.now }
+        requires weight { weight < 2 ^ 61 }
+        ensures filled { IsFilledFor (parts_of s.now) self.new }
+    {
+        if let Search::Again(_) = search {
+            return self.begin(alloc, s, boxes, prices, weight, LAST_START);
+        }
+        self.begin(alloc, s, boxes, prices, weight, 0)?;
+        if starts_of(s, search) == 1 && !is_complete(&self.choices) {
+            self.begin(alloc, s, boxes, prices, weight, 1)?;
+        }
+        Ok(())
+    }
+
     // Leaves all flights out. Then gives each its least trip by the prices that fits, if there is
-    // one, in the order of their scheduled departures, from which the second start and those after
-    // it deviate.
+    // one, in the order of the start of this number.
     fn begin(
         &mut self,
         alloc: Global,
@@ -207,13 +240,12 @@ impl Improver {
     {
         self.loads.clear();
         leave_all_out(alloc, &mut self.choices);
-        let later = if number == 0 { 0 } else { LATER };
-        let factor = START_FACTORS[number % 4];
-        let guide = if factor == 0 { None } else { Some(prices) };
-        for (_, flight) in self.chosen.by_departure(alloc, s, later)? {
+        let order = START_ORDERS[number % 4];
+        let weight = weighted(weight, START_FACTORS[number % 4]);
+        for (_, flight) in self.chosen.all_in_order(alloc, s, order)? {
             self.chosen.choose_one(flight)?;
             if self
-                .try_others(alloc, s, boxes, guide, weighted(weight, factor), 0)?
+                .try_others(alloc, s, boxes, Some(prices), weight, 0)?
                 .is_some()
             {
                 accept(&mut self.choices, &mut self.offers);
@@ -248,7 +280,7 @@ impl Improver {
         requires weight { weight < 2 ^ 61 }
         ensures filled { IsFilledFor (parts_of s.now) self.new }
     {
-        for number in 1..starts_of(s) {
+        for number in 1..starts_of(s, Search::Long) {
             if !best.is_enough(enough) {
                 self.begin(alloc, s, boxes, prices, weight, number)?;
                 let effort = Effort::first(s, Search::Short);
@@ -314,7 +346,7 @@ impl Improver {
             let guide = if factor == 0 { None } else { Some(prices) };
             let weight = weighted(weight, factor);
             if let Some(gain) = self.try_others(alloc, s, boxes, guide, weight, more)? {
-                if gain < 0 {
+                if gain < 0 || is_one_left_out(&self.offers) {
                     best.keep(alloc, cost, &self.choices)?;
                 }
                 accept(&mut self.choices, &mut self.offers);
@@ -628,6 +660,11 @@ fn refuse(loads: &mut Loads, s: &Scenario, offers: &[Offer])
             loads.remove(s, offer.flight, offer.trip.items());
         }
     }
+}
+
+// Whether a flight is offered no trip.
+fn is_one_left_out(offers: &[Offer]) -> bool {
+    offers.iter().any(|offer| offer.trip.items().is_empty())
 }
 
 // Gives the flights the trips that were offered.

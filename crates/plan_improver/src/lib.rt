@@ -18,30 +18,36 @@
 //! the start, if that costs no more. Then it goes by trials. A trial takes out one flight that
 //! costs more than it would alone, some of the flights that fill the capacities in its way, and
 //! those that have connections with them, 24 at the most (Shaw, "Using constraint programming
-//! and local search methods to solve vehicle routing problems", 1998). It puts them back in an
-//! order that is drawn by lot, each by the least trip that fits, where costs weigh as much beside
+//! and local search methods to solve vehicle routing problems", 1998); in one of four trials they
+//! are those that fill one of these capacities for some periods. It puts them back in an order
+//! that is drawn by lot, each by the least trip that fits, where costs weigh as much beside
 //! prices, or more; in one of eight trials the prices are passed over. If they cost no more
 //! together than before, they stay so, and else if they cost less more than a number that is
 //! drawn by lot and falls to 0 as the trials go on (simulated annealing: Kirkpatrick, Gelatt and
 //! Vecchi, 1983); or the trips before are restored. A flight for which none fits is left out, at
-//! more than its worst delay costs, and the more the more often none was found for it; so where
-//! the greedy plan is stuck the same trials complete it.
+//! three times what its worst delay costs, half the average of that at the least, and once more
+//! for each time that none was found for it; so where the greedy plan is stuck the same trials
+//! complete it.
 //!
-//! In a long search three more begin with plans whose order is changed a little by lot, on days of
-//! up to 300 flights, and a last one goes on from the best plan so far. The best plan in which no
-//! flight is left out is the one that counts.
+//! In a long search three more begin with other plans, on days of up to 300 flights: the flights
+//! with the earliest latest arrival come first, or those that may wait the least, or their order
+//! is changed a little by lot. A last one goes on from the best plan so far. The best plan in
+//! which no flight is left out is the one that counts. A search may be made again with other
+//! lots, by turns from the start and from another plan.
 //!
 //! Proved: what is handed on keeps every rule and is in the box; and where the start keeps every
 //! rule too, it costs less (`cheaper`). The search itself is free to do what it likes, since its
 //! best plan is judged. That it finds one, and how much less it costs, no clause says. The lots
-//! come from one generator with a fixed seed, so the same day, box, start, prices, weight and bound
-//! give the same plan, and the number of trials is bounded by the flights, their legs and the day.
+//! come from one generator with a fixed seed, so the same day, box, start, prices, weight, bound
+//! and search give the same plan, and the number of trials is bounded by the flights, their legs
+//! and the day.
 //!
 //! Memory: 0.9 MB, and twelve bytes a place and period, once; while a search runs, the stops of
 //! four plans, of which two stay. Time: five least trips for each flight; and 18,000 trials, with
-//! twelve more a flight, or a sixth of them where the search is short, fewer on long days with many
-//! legs, each with a least trip for each flight that it takes out and a look at each flight. It
-//! ends before where the plan costs no more than a bound that is enough.
+//! twelve more a flight, a sixth of them where the search is short and a third where it is made
+//! again, fewer on long days with many legs, each with a least trip for each flight that it takes
+//! out and a look at each flight. It ends before where the plan costs no more than a bound that is
+//! enough.
 #![tactic(auto)]
 
 mod best;
