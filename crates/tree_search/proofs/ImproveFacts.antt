@@ -27,16 +27,15 @@ tried_still parts box old new plan (inl kept) tried = λ unit bound cost.
 tried_still parts box old new plan (inr left) tried =
     subst (IsTried parts box) (sym left.same) tried
 
-pub improved_on : (parts : Parts) (budget : Budget) (path : Path) (old new : RecordDraft)
+-- a plan of the first box
+pub improved_in : (parts : Parts) (budget : Budget) (path : Path) (old new : RecordDraft)
     (plan : List (List Stop)) → IsSearching parts budget path old
-    → IsPlanIn parts (box_of path.present) plan → IsOffered parts plan old new
+    → IsPlanIn parts (top_box path) plan → IsOffered parts plan old new
     → IsSearching parts budget path new
-improved_on parts budget path old new plan searching found offered =
+improved_in parts budget path old new plan searching inside offered =
     let arrived = searching.arrived in
     let tree = offered_tree parts (box_of path.present) old new plan offered in
     let same = ap length tree.2.nodes in
-    let inside : IsPlanIn parts (top_box path) plan =
-    record { feasible = found.feasible; inside = arrived.part plan found.inside } in
     record {
       arrived = record {
         made = arrived.made;
@@ -58,6 +57,15 @@ improved_on parts budget path old new plan searching found offered =
       tried =
           tried_still parts (box_of path.present) old new plan offered searching.tried;
     }
+
+-- a plan of the present box
+pub improved_on : (parts : Parts) (budget : Budget) (path : Path) (old new : RecordDraft)
+    (plan : List (List Stop)) → IsSearching parts budget path old
+    → IsPlanIn parts (box_of path.present) plan → IsOffered parts plan old new
+    → IsSearching parts budget path new
+improved_on parts budget path old new plan searching found =
+    improved_in parts budget path old new plan searching
+    (record { feasible = found.feasible; inside = searching.arrived.part plan found.inside })
 
 -- a cheaper plan is one of the box that keeps every rule
 pub found_in_box : (parts : Parts) (box : Box) (start : List (List Stop))

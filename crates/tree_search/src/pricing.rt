@@ -13,6 +13,7 @@ ghost use Rattle.time_windows.specs.Boxes.{Box};
 ghost use Rattle.time_windows.specs.Held.{IsMadeFor, box_of};
 ghost use Rattle.tree_search.specs.Rooms.{ArePriceRoomsFor, IsToldBy, Tells, prices_from, weight_from};
 
+use crate::gap::is_far;
 use crate::rooms::PriceRooms;
 use branch_tree::Leaf;
 use dual_leaf::{closing_leaf, lag_leaf};
@@ -62,7 +63,8 @@ pub struct Priced {
 
 /// Where a search begins: climbs from prices of 0, a quarter of the first climb's steps, and
 /// answers what the prices tell to which that leads. Where there are no rounds, or prices of 0 tell
-/// a bound that reaches the cutoff, it stays at these.
+/// a bound that reaches the cutoff, it stays at these; and where no trips can pass a limit, so that
+/// the greedy plan costs the least, it looks at no prices.
 pub fn begin_climb(
     s: &Scenario,
     boxes: &Boxes,
@@ -74,6 +76,9 @@ pub fn begin_climb(
     requires rooms { ArePriceRoomsFor (parts_of s.now) rooms.old }
     ensures { ArePriceRoomsFor (parts_of s.now) rooms.new }
 {
+    if let (0, Some(cost)) = (rooms.ascent.rising(), cutoff) {
+        return Ok(Bound::AtLeast(i128::from(cost)));
+    }
     let first = rooms.ascent.tell(s, boxes);
     if rounds == 0 || first.is_reached(cutoff) {
         return Ok(first);
@@ -113,8 +118,8 @@ pub fn climb_further(
 
 /// Where the first plans leave a gap to the bound: lets the flights bid in turn from the prices of
 /// the first steps of the first climb, and climbs on from where that leads. Answers what the better
-/// prices tell, those or the kept ones. Where there are few rounds, or no gap, it stays at the
-/// bound.
+/// prices tell, those or the kept ones. Where there are few rounds, or it doesn't pay, it stays at
+/// the bound.
 pub fn climb_again(
     s: &Scenario,
     boxes: &Boxes,
@@ -128,7 +133,7 @@ pub fn climb_again(
     ensures { ArePriceRoomsFor (parts_of s.now) rooms.new }
 {
     let steps = first_steps(s, rooms.ascent.rising(), rounds);
-    if bound.is_reached(cutoff) || steps < BID_PASSES {
+    if !is_far(s, bound, cutoff) || steps < BID_PASSES {
         return Ok(bound);
     }
     let before = rooms.ascent.value().unwrap_or(0);

@@ -21,6 +21,7 @@ ghost use Rattle.branch_tree.specs.Paths.{AreSteps, IsFork, IsNextOr, top_box};
 use crate::branching::first_choice;
 use crate::draft::{RecordDraft, no_draft, note, offer};
 use crate::found::{Budget, Found};
+use crate::improving::{improve, improve_further, offer_found, seek};
 use crate::pricing::{LEAD_PART, begin_climb, climb_again, climb_further, follow};
 use crate::rooms::{Rooms, rooms_for};
 use crate::seeing::{Seen, see};
@@ -28,7 +29,6 @@ use branch_tree::{Branch, Leaf, Tree, TreeNode, Walk};
 use flow_types::{Bound, OutOfMemory, Plan, Scenario};
 use greedy_plan::Greedy;
 use plan_improver::Search;
-use price_ascent::WEIGHT;
 use std::alloc::Global;
 use time_windows::Boxes;
 use valid_cuts::Pool;
@@ -51,84 +51,6 @@ fn visit(
         Greedy::Plan(plan) => offer(draft, s, plan),
         Greedy::Stuck { .. } => Ok(()),
     }
-}
-
-// A plan in the box that costs less than its greedy plan, if one is found; one that costs the bound
-// is enough.
-#[tactic(auto, using(crate::proofs::ImproveFacts::found_in_box))]
-fn find_cheaper(
-    alloc: Global,
-    s: &Scenario,
-    boxes: &Boxes,
-    rooms: &mut Rooms,
-    bound: Bound,
-    search: Search,
-) -> Result<Option<Plan>, OutOfMemory>
-    requires boxes { IsMadeFor (parts_of s.now) boxes.now }
-    requires rooms { AreRoomsFor (parts_of s.now) rooms.old }
-    ensures found { IfOk result
-        (λ found. IfSome found (IsPlanIn (parts_of s.now) (box_of boxes.now))) }
-    ensures rooms { AreRoomsFor (parts_of s.now) rooms.new }
-{
-    let start = match rooms.plans.greedy.first_plan(alloc, s, boxes)? {
-        Greedy::Plan(plan) => plan,
-        Greedy::Stuck { kept, .. } => kept,
-    };
-    rooms.plans.improver.cheaper_plan(
-        alloc,
-        s,
-        boxes,
-        &start,
-        rooms.prices.ascent.prices(),
-        WEIGHT,
-        bound,
-        search,
-    )
-}
-
-// Offers a plan of the present box, if one is found.
-fn offer_found(
-    s: &Scenario,
-    walk: &Walk,
-    draft: &mut RecordDraft,
-    found: Option<Plan>,
-) -> Result<(), OutOfMemory>
-    requires { IfSome found (IsPlanIn (parts_of s.now) (box_of walk.now.present)) }
-    ensures improved { (budget : Budget) → IsSearching (parts_of s.now) budget walk.now draft.old
-        → OnOk result (IsSearching (parts_of s.now) budget walk.now draft.new) }
-    ensures nodes { OnOk result (draft.new.nodes ≡ draft.old.nodes) }
-{
-    match found {
-        None => Ok(()),
-        Some(plan) => {
-            offer(draft, s, plan)?;
-            Ok(())
-        }
-    }
-}
-
-// Looks for a plan of the present box that costs less than its greedy plan, and offers it; where
-// the bound reaches what the best plan costs there is none.
-fn improve(
-    alloc: Global,
-    s: &Scenario,
-    walk: &Walk,
-    rooms: &mut Rooms,
-    draft: &mut RecordDraft,
-    bound: Bound,
-    search: Search,
-) -> Result<(), OutOfMemory>
-    requires boxes { IsMadeFor (parts_of s.now) walk.now.present }
-    requires rooms { AreRoomsFor (parts_of s.now) rooms.old }
-    ensures improved { (budget : Budget) → IsSearching (parts_of s.now) budget walk.now draft.old
-        → OnOk result (IsSearching (parts_of s.now) budget walk.now draft.new) }
-    ensures rooms { AreRoomsFor (parts_of s.now) rooms.new }
-{
-    if bound.is_reached(draft.best) {
-        return Ok(());
-    }
-    let found = find_cheaper(alloc, s, walk.boxes(), rooms, bound, search)?;
-    offer_found(s, walk, draft, found)
 }
 
 // Whether there is room in the budget for two nodes more, beside those that are there, the present
@@ -320,17 +242,21 @@ fn advance(
     Ok(more)
 }
 
-// Searches from the tight box on, which is the path's first one, until no box waits. The climb in
-// that box has so many steps.
+// Searches from the tight box on, which is the path's first one and `whole`, until no box waits.
+// The climb in that box has so many steps, and this bound is known of it.
 fn run(
     alloc: Global,
     s: &Scenario,
     budget: Budget,
     rooms: &mut Rooms,
+    whole: &Boxes,
     walk: &mut Walk,
     draft: &mut RecordDraft,
     first_steps: u32,
+    bound: Bound,
 ) -> Result<(), OutOfMemory>
+    requires made { IsMadeFor (parts_of s.now) whole.now }
+    requires whole { box_of whole.now ≡ top_box walk.old }
     requires first { walk.old.above ≡ [] }
     requires searching { IsSearching (parts_of s.now) budget walk.old draft.old }
     requires rooms { AreRoomsFor (parts_of s.now) rooms.old }
@@ -338,9 +264,12 @@ fn run(
 {
     let mut steps = first_steps;
     let mut first = true;
+    let mut number = 0u32;
     while advance(alloc, s, budget, rooms, walk, draft, steps, first)? {
         steps = budget.rounds;
         first = false;
+        number = number.saturating_add(1);
+        seek(alloc, s, whole, walk, rooms, draft, bound, number)?;
     }
     Ok(())
 }
@@ -393,25 +322,19 @@ fn steps_for(rounds: u32, bound: Bound, cutoff: Option<i64>) -> u32 {
     if bound.is_reached(cutoff) { 0 } else { rounds }
 }
 
-// How long the search for a cheaper plan is after the first climb: short where one is known, since
-// better prices may still be found then.
-fn next_search(known: Option<i64>) -> Search {
-    match known {
-        None => Search::Long,
-        Some(_) => Search::Short,
-    }
-}
-
-// Searches from the tight box on, which is the path's first one, for plans and for prices; and then
-// until no box waits.
+// Searches from the tight box on, which is the path's first one and `whole`, for plans and for
+// prices; and then until no box waits.
 fn search_from(
     alloc: Global,
     s: &Scenario,
     budget: Budget,
     rooms: &mut Rooms,
+    whole: &Boxes,
     walk: &mut Walk,
     draft: &mut RecordDraft,
 ) -> Result<(), OutOfMemory>
+    requires made { IsMadeFor (parts_of s.now) whole.now }
+    requires whole { box_of whole.now ≡ top_box walk.old }
     requires first { walk.old.above ≡ [] }
     requires searching { IsSearching (parts_of s.now) budget walk.old draft.old }
     requires rooms { AreRoomsFor (parts_of s.now) rooms.old }
@@ -433,8 +356,7 @@ fn search_from(
         draft.best,
         bound,
     );
-    let search = next_search(draft.best);
-    improve(alloc, s, walk, rooms, draft, bound, search)?;
+    improve_further(alloc, s, walk, rooms, draft, bound)?;
     let bound = climb_again(
         s,
         walk.boxes(),
@@ -445,7 +367,7 @@ fn search_from(
     )?;
     improve(alloc, s, walk, rooms, draft, bound, Search::Long)?;
     let steps = steps_for(budget.rounds, bound, draft.best);
-    run(alloc, s, budget, rooms, walk, draft, steps)
+    run(alloc, s, budget, rooms, whole, walk, draft, steps, bound)
 }
 
 // Searches the tight box, of which nothing is written down yet.
@@ -465,8 +387,9 @@ fn search_in(
     ensures { OnOk result (IsSearched (parts_of s.now) budget (box_of boxes) draft.new) }
 {
     visit(alloc, s, &boxes, rooms, draft)?;
+    let whole = boxes.copy(alloc)?;
     let mut walk = Walk::new(alloc, boxes)?;
-    search_from(alloc, s, budget, rooms, &mut walk, draft)
+    search_from(alloc, s, budget, rooms, &whole, &mut walk, draft)
 }
 
 // Searches from the tight box on, and gives all that is written down.
@@ -511,7 +434,7 @@ fn search_tight(
 /// is neither a plan nor a bound, or fewer than two nodes of the budget were left (branch and
 /// bound, after Land and Doig 1960).
 ///
-/// It takes a copy of the box, what `PlanWork`, `LeafWork`, `Rounds`, `Ascent` and `Improver` take,
+/// It takes two copies of the box, what `PlanWork`, `LeafWork`, `Rounds`, `Ascent` and `Improver` take,
 /// for each node some 110 bytes and what its leaf takes, 24 bytes a row, and for one box at a time
 /// what its run takes. The box stays as it was.
 pub fn search(
