@@ -13,6 +13,7 @@ ghost use Rattle.price_ascent.specs.Work.{climb_weight, is_positive};
 
 use crate::bids::{Bids, pass};
 use crate::kept::{KeptPrices, put_by, restore};
+use crate::leaning::lean;
 use crate::pace::{Pace, weighted_cost};
 use crate::slopes::{Slope, all_slopes, excess_by_slopes, move_prices, paid_by_limits, take_over};
 use crate::spread::Spread;
@@ -202,8 +203,7 @@ impl Ascent {
         ensures placed { ArePlaced (parts_of s.now) self.new.best }
         ensures made { IsAscentRoomFor (parts_of s.now) self.new }
     {
-        self.tables.present.copy_from(&self.tables.best);
-        self.value = self.present_value(s, boxes);
+        let _before = self.weigh(s, boxes);
         let mut bids = Bids::new(s, delay_cost);
         for _ in 0..passes / 2 {
             if !self.bid_twice(s, boxes, &mut bids) {
@@ -211,6 +211,46 @@ impl Ascent {
             }
         }
         self.tell(s, boxes)
+    }
+
+    /// Makes the trips of the plan the least ones, as far as dearer capacities that it fills can,
+    /// in so many passes at the most, from the kept prices; and keeps the best prices behind a
+    /// pass, though they may tell less than those before. Answers what they tell (`tell`).
+    ///
+    /// The room and the box are of the scenario, and the plan may be any list of trips. It takes no
+    /// memory, and for each pass the time of up to five least trips for each flight.
+    pub fn lean_on(&mut self, s: &Scenario, boxes: &Boxes, plan: &Plan, passes: u32) -> Bound
+        requires made { IsAscentRoomFor (parts_of s.now) self.old }
+        requires boxes { IsMadeFor (parts_of s.now) boxes.now }
+        ensures told { IsPricedBound (parts_of s.now) (box_of boxes.now) climb_weight
+            self.new.best result }
+        ensures sound { IsBoundIn (parts_of s.now) (box_of boxes.now) result }
+        ensures near { IsNearBound result }
+        ensures placed { ArePlaced (parts_of s.now) self.new.best }
+        ensures made { IsAscentRoomFor (parts_of s.now) self.new }
+    {
+        self.begin(s);
+        self.value = None;
+        for pass in 0..passes {
+            if !self.lean_once(s, boxes, plan, pass % 2 == 1) {
+                break;
+            }
+        }
+        self.tell(s, boxes)
+    }
+
+    /// The value of the kept prices in the box, in parts of a cost of 1 (2^20); nothing where a
+    /// flight has no trip.
+    ///
+    /// The room and the box are of the scenario. It takes no memory, and time as `tell`.
+    pub fn weigh(&mut self, s: &Scenario, boxes: &Boxes) -> Option<i128>
+        requires made { IsAscentRoomFor (parts_of s.now) self.old }
+        requires boxes { IsMadeFor (parts_of s.now) boxes.now }
+        ensures made { IsAscentRoomFor (parts_of s.now) self.new }
+    {
+        self.tables.present.copy_from(&self.tables.best);
+        self.value = self.present_value(s, boxes);
+        self.value
     }
 
     /// The value of the kept prices as the last climb or the last bids found it, in parts of a cost
@@ -410,6 +450,41 @@ impl Ascent {
             self.value = value;
         }
         true
+    }
+
+    // One pass that leans on the plan, after which the prices are kept where they are the best or
+    // the first; and whether a price has moved.
+    fn lean_once(&mut self, s: &Scenario, boxes: &Boxes, plan: &Plan, back: bool) -> bool
+        requires made { IsAscentRoomFor (parts_of s.now) self.old }
+        requires boxes { IsMadeFor (parts_of s.now) boxes.now }
+        ensures made { IsAscentRoomFor (parts_of s.now) self.new }
+    {
+        let moved = self.lean_all(s, boxes, plan, back);
+        let value = self.present_value(s, boxes);
+        let is_best = self.value.is_none() || is_below(self.value, value);
+        keep_if(is_best, &mut self.tables.best, &self.tables.present);
+        if is_best {
+            self.value = value;
+        }
+        moved
+    }
+
+    // One pass that leans on the plan, and whether a price has moved.
+    fn lean_all(&mut self, s: &Scenario, boxes: &Boxes, plan: &Plan, back: bool) -> bool
+        requires made { IsAscentRoomFor (parts_of s.now) self.old }
+        requires boxes { IsMadeFor (parts_of s.now) boxes.now }
+        ensures made { IsAscentRoomFor (parts_of s.now) self.new }
+    {
+        lean(
+            &mut self.trips.work,
+            &mut self.trips.loads,
+            &self.slopes,
+            s,
+            boxes,
+            &mut self.tables.present,
+            plan.items(),
+            back,
+        )
     }
 
     // One pass of bids, and whether each flight had a trip.

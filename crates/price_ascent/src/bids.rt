@@ -176,6 +176,20 @@ fn kind_at(flight: &Flight, node: u16) -> PriceKind {
     PriceKind::Capacity(kind)
 }
 
+/// The prices of capacities that a trip pays from its stop at the position on, before the next one.
+pub fn span_of_stop(slopes: &[Slope], flight: &Flight, stops: &[Stop], at: usize) -> Span
+    requires at { at < length stops.now }
+    ensures { result.end ≤ length slopes.now }
+{
+    let Stop { node, time } = stops[at];
+    let leaves = match stops.get(at + 1) {
+        Some(next) if node > 0 => next.time,
+        _ => time.saturating_add(1),
+    };
+    let kind = kind_at(flight, node);
+    span_of(slopes, kind, place_at(flight, node), time, leaves)
+}
+
 // Raises what the trip of the flight pays by the bid, and lowers what it is paid.
 fn raise_trip(
     slopes: &[Slope],
@@ -194,13 +208,7 @@ fn raise_trip(
 {
     let details = &s.flights()[flight as usize];
     for at in 0..stops.len() {
-        let Stop { node, time } = stops[at];
-        let kind = kind_at(details, node);
-        let leaves = match stops.get(at + 1) {
-            Some(next) if node > 0 => next.time,
-            _ => time.saturating_add(1),
-        };
-        let span = span_of(slopes, kind, place_at(details, node), time, leaves);
+        let span = span_of_stop(slopes, details, stops, at);
         raise(slopes, s, prices, span, bids.bid);
     }
     raise_turns(slopes, s, boxes, prices, bids, flight, stops);

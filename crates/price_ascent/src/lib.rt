@@ -16,9 +16,11 @@
 //! 2^20.
 //!
 //! Where many alike want few slots a climb stalls, since all of them move together. There flights
-//! may bid in turn (`bid`, `bids.rt`), and a climb goes on from where that leads. A search that
-//! goes into a part of a box and comes back for the other one puts the prices by (`put_by`,
-//! `restore`), so that both begin with those of the box.
+//! may bid in turn (`bid`, `bids.rt`), and a climb goes on from where that leads. And where a good
+//! plan is known, prices may lean on it (`lean_on`, `leaning.rt`): they make its trips the least
+//! ones, so that the prices of a whole queue, through which a climb works its way slot by slot, are
+//! there at once. A search that goes into a part of a box and comes back for the other one puts the
+//! prices by (`put_by`, `restore`), so that both begin with those of the box.
 //!
 //! Proved: the bound is exactly what the kept prices tell (`told`), no plan in the box that keeps
 //! every rule costs less (`sound`), and a price stands only where there is such a capacity
@@ -29,12 +31,14 @@
 //! Memory: `Work`, `Loads`, three times `Prices`, 24 bytes for each price that may rise, or up to
 //! twice that, and 24 for each of 32 nodes a flight; 16 for each price that is put by. A climb
 //! takes none. Time: for each step a least trip for each flight, and a look at each price that may
-//! rise: there must be more flights for a capacity than it takes.
+//! rise: there must be more flights for a capacity than it takes; and for each pass over a plan up
+//! to five least trips for each.
 #![tactic(auto)]
 
 mod ascent;
 mod bids;
 mod kept;
+mod leaning;
 mod pace;
 mod slopes;
 mod spread;

@@ -315,8 +315,8 @@ fn next_direction(direction: i64, fifths: i64, excess: i64) -> i64 {
         .saturating_add((direction / 5).saturating_mul(fifths))
 }
 
-// By how much the loads exceed the limit, which for a capacity is known.
-fn excess_of(s: &Scenario, loads: &Loads, key: PriceKey, limit: u32) -> i64
+/// By how much the loads exceed the limit, which for a capacity is known.
+pub fn excess_of(s: &Scenario, loads: &Loads, key: PriceKey, limit: u32) -> i64
     requires key { IsSlopeKey (parts_of s.now) key }
     requires loads { IsMadeFor (parts_of s.now) loads.now }
 {

@@ -1,4 +1,3 @@
-use Rattle.std.proofs.Common.{◌≡◌, length}
 use Rattle.flow_types.specs.Scenario.{parts_of}
 use Rattle.price_ascent.specs.Slopes.{AreSlopesFor, IsGood}
 use Rattle.price_ascent.proofs.bids.settle_flight.Given as goal

@@ -1,0 +1,348 @@
+//! Prices that lean on a plan: they make its trips the least ones, as far as prices of the
+//! capacities that it fills can.
+//!
+//! One flight after the other looks for its least trip under the prices so far. Where that is less
+//! than its trip of the plan, what others fill on it gets dearer by the difference, and no more: as
+//! in a queue, where each slot costs so much that whoever has the next one doesn't want it. With a
+//! plan of the least cost and one scarce capacity that ends, as the search for shortest ways by
+//! repeated relaxation does, with prices that prove it (the dual of an assignment problem). With
+//! other plans some prices would rise for ever, so passes are few, and the best prices count.
+ghost use Rattle.std.specs.Prelude.{◌≡◌, ◌<◌, ◌≤◌, length};
+ghost use Rattle.flow_types.specs.Scenario.{parts_of};
+ghost use Rattle.flight_routes.specs.Work.{IsWorkFor};
+ghost use Rattle.plan_rules.specs.Loads.{IsMadeFor as AreLoadsFor};
+ghost use Rattle.time_windows.specs.Held.{IsMadeFor};
+ghost use Rattle.price_ascent.specs.Slopes.{AreSlopesFor, IsGood, IsSlopeKey};
+
+use crate::ascent::WEIGHT;
+use crate::bids::span_of_stop;
+use crate::slopes::{Slope, Span, excess_of, set_price, span_of};
+use flight_routes::{Prices, Work};
+use flow_types::{PriceKind, Scenario, Stop, Trip};
+use plan_rules::{Loads, trip_cost};
+use time_windows::{Boxes, End};
+
+// How often prices are raised for a flight in a pass.
+const MOST_RAISES: u32 = 4;
+
+/// One pass over the flights, forward or back. Where a flight's least trip is less than that of the
+/// plan, the capacities on it get dearer that the others fill in the plan. Whether one did.
+pub fn lean(
+    work: &mut Work,
+    loads: &mut Loads,
+    slopes: &[Slope],
+    s: &Scenario,
+    boxes: &Boxes,
+    prices: &mut Prices,
+    plan: &[Trip],
+    back: bool,
+) -> bool
+    requires work { IsWorkFor (parts_of s.now) work.old }
+    requires loads { AreLoadsFor (parts_of s.now) loads.old }
+    requires slopes { AreSlopesFor (parts_of s.now) slopes.now }
+    requires boxes { IsMadeFor (parts_of s.now) boxes.now }
+    requires prices { IsGood (parts_of s.now) prices.old }
+    ensures work { IsWorkFor (parts_of s.now) work.new }
+    ensures loads { AreLoadsFor (parts_of s.now) loads.new }
+    ensures prices { IsGood (parts_of s.now) prices.new }
+{
+    count_all(loads, s, plan);
+    let count = s.flights().len();
+    let mut moved = false;
+    for turn in 0..count {
+        let number = if back { count - 1 - turn } else { turn };
+        moved = lean_for(work, loads, slopes, s, boxes, prices, plan, number as u32) || moved;
+    }
+    moved
+}
+
+// Counts the trips of the plan, and no others.
+fn count_all(loads: &mut Loads, s: &Scenario, plan: &[Trip])
+    requires loads { AreLoadsFor (parts_of s.now) loads.old }
+    ensures loads { AreLoadsFor (parts_of s.now) loads.new }
+{
+    loads.clear();
+    for number in 0..s.flights().len() {
+        count_one(loads, s, plan, number as u32);
+    }
+}
+
+// Counts the flight's trip of the plan.
+fn count_one(loads: &mut Loads, s: &Scenario, plan: &[Trip], flight: u32)
+    requires loads { AreLoadsFor (parts_of s.now) loads.old }
+    requires flight { flight < length (parts_of s.now).flights }
+    ensures loads { AreLoadsFor (parts_of s.now) loads.new }
+{
+    if let Some(trip) = plan.get(flight as usize) {
+        loads.add(s, flight, trip.items());
+    }
+}
+
+// Raises prices for one flight, whose trip of the plan isn't counted meanwhile: what is full then
+// is filled by others. Whether one rose.
+fn lean_for(
+    work: &mut Work,
+    loads: &mut Loads,
+    slopes: &[Slope],
+    s: &Scenario,
+    boxes: &Boxes,
+    prices: &mut Prices,
+    plan: &[Trip],
+    flight: u32,
+) -> bool
+    requires work { IsWorkFor (parts_of s.now) work.old }
+    requires loads { AreLoadsFor (parts_of s.now) loads.old }
+    requires slopes { AreSlopesFor (parts_of s.now) slopes.now }
+    requires boxes { IsMadeFor (parts_of s.now) boxes.now }
+    requires prices { IsGood (parts_of s.now) prices.old }
+    requires flight { flight < length (parts_of s.now).flights }
+    ensures work { IsWorkFor (parts_of s.now) work.new }
+    ensures loads { AreLoadsFor (parts_of s.now) loads.new }
+    ensures prices { IsGood (parts_of s.now) prices.new }
+{
+    match plan.get(flight as usize) {
+        None => false,
+        Some(trip) => {
+            let stops = trip.items();
+            loads.remove(s, flight, stops);
+            let moved = raise_others(work, loads, slopes, s, boxes, prices, flight, stops);
+            loads.add(s, flight, stops);
+            moved
+        }
+    }
+}
+
+// Raises them until no trip is less than these stops, or nothing can be raised; some times at the
+// most. Whether a price rose.
+fn raise_others(
+    work: &mut Work,
+    loads: &Loads,
+    slopes: &[Slope],
+    s: &Scenario,
+    boxes: &Boxes,
+    prices: &mut Prices,
+    flight: u32,
+    stops: &[Stop],
+) -> bool
+    requires work { IsWorkFor (parts_of s.now) work.old }
+    requires loads { AreLoadsFor (parts_of s.now) loads.now }
+    requires slopes { AreSlopesFor (parts_of s.now) slopes.now }
+    requires boxes { IsMadeFor (parts_of s.now) boxes.now }
+    requires prices { IsGood (parts_of s.now) prices.old }
+    requires flight { flight < length (parts_of s.now).flights }
+    ensures work { IsWorkFor (parts_of s.now) work.new }
+    ensures prices { IsGood (parts_of s.now) prices.new }
+{
+    let mut moved = false;
+    for _ in 0..MOST_RAISES {
+        if !raise_least(work, loads, slopes, s, boxes, prices, flight, stops) {
+            return moved;
+        }
+        moved = true;
+    }
+    moved
+}
+
+// Where the least trip of the flight is less than these stops, raises the prices of what is full on
+// it, by the same amount each, so that it isn't any more. Whether there are such.
+fn raise_least(
+    work: &mut Work,
+    loads: &Loads,
+    slopes: &[Slope],
+    s: &Scenario,
+    boxes: &Boxes,
+    prices: &mut Prices,
+    flight: u32,
+    stops: &[Stop],
+) -> bool
+    requires work { IsWorkFor (parts_of s.now) work.old }
+    requires loads { AreLoadsFor (parts_of s.now) loads.now }
+    requires slopes { AreSlopesFor (parts_of s.now) slopes.now }
+    requires boxes { IsMadeFor (parts_of s.now) boxes.now }
+    requires prices { IsGood (parts_of s.now) prices.old }
+    requires flight { flight < length (parts_of s.now).flights }
+    ensures work { IsWorkFor (parts_of s.now) work.new }
+    ensures prices { IsGood (parts_of s.now) prices.new }
+{
+    let Some(least) = work.least_trip(s, boxes, flight, WEIGHT, prices) else {
+        return false;
+    };
+    let more = priced(slopes, s, boxes, prices, flight, stops).saturating_sub(least);
+    let full = full_on(slopes, s, loads, flight, work.trip());
+    if more <= 0 || full == 0 {
+        return false;
+    }
+    let by = more
+        .checked_div(i128::from(full))
+        .unwrap_or(0)
+        .saturating_add(1);
+    let by = by.clamp(0, 1 << 60) as u64;
+    raise_full(slopes, s, loads, prices, flight, work.trip(), by);
+    true
+}
+
+// What the stops cost the flight, weighted, and pay.
+fn priced(
+    slopes: &[Slope],
+    s: &Scenario,
+    boxes: &Boxes,
+    prices: &Prices,
+    flight: u32,
+    stops: &[Stop],
+) -> i128
+    requires slopes { AreSlopesFor (parts_of s.now) slopes.now }
+    requires boxes { IsMadeFor (parts_of s.now) boxes.now }
+    requires prices { IsGood (parts_of s.now) prices.now }
+    requires flight { flight < length (parts_of s.now).flights }
+{
+    let details = &s.flights()[flight as usize];
+    let cost = i128::from(trip_cost(s, flight, stops)).saturating_mul(i128::from(WEIGHT));
+    let mut sum = cost.saturating_add(paid_for_turns(slopes, s, boxes, prices, flight, stops));
+    for at in 0..stops.len() {
+        let span = span_of_stop(slopes, details, stops, at);
+        sum = sum.saturating_add(paid_in(slopes, s, prices, span));
+    }
+    sum
+}
+
+// What they pay for connections from their departure on, less what they are paid from their arrival
+// on.
+fn paid_for_turns(
+    slopes: &[Slope],
+    s: &Scenario,
+    boxes: &Boxes,
+    prices: &Prices,
+    flight: u32,
+    stops: &[Stop],
+) -> i128
+    requires slopes { AreSlopesFor (parts_of s.now) slopes.now }
+    requires boxes { IsMadeFor (parts_of s.now) boxes.now }
+    requires prices { IsGood (parts_of s.now) prices.now }
+    requires flight { flight < length (parts_of s.now).flights }
+{
+    let end = s.day().periods;
+    let kind = PriceKind::Connection;
+    let turns = boxes.turns();
+    let mut sum = 0i128;
+    if let Some(first) = stops.first() {
+        for turn in turns.of_flight(flight, End::Departure) {
+            let span = span_of(slopes, kind, turn.connection, first.time, end);
+            sum = sum.saturating_add(paid_in(slopes, s, prices, span));
+        }
+    }
+    if let Some(last) = stops.last() {
+        for turn in turns.of_flight(flight, End::Arrival) {
+            let ready = last.time.saturating_add(turn.turnaround);
+            let span = span_of(slopes, kind, turn.connection, ready, end);
+            sum = sum.saturating_sub(paid_in(slopes, s, prices, span));
+        }
+    }
+    sum
+}
+
+// The prices of the span together.
+fn paid_in(slopes: &[Slope], s: &Scenario, prices: &Prices, span: Span) -> i128
+    requires slopes { AreSlopesFor (parts_of s.now) slopes.now }
+    requires prices { IsGood (parts_of s.now) prices.now }
+    requires span { span.end ≤ length slopes.now }
+{
+    let mut sum = 0i128;
+    for at in span.first..span.end {
+        sum = sum.saturating_add(i128::from(prices.get(slopes[at].key)));
+    }
+    sum
+}
+
+// How many prices the stops pay for what is full.
+fn full_on(slopes: &[Slope], s: &Scenario, loads: &Loads, flight: u32, stops: &[Stop]) -> u32
+    requires slopes { AreSlopesFor (parts_of s.now) slopes.now }
+    requires loads { AreLoadsFor (parts_of s.now) loads.now }
+    requires flight { flight < length (parts_of s.now).flights }
+{
+    let details = &s.flights()[flight as usize];
+    let mut count = 0u32;
+    for at in 0..stops.len() {
+        let span = span_of_stop(slopes, details, stops, at);
+        count = count.saturating_add(full_in(slopes, s, loads, span));
+    }
+    count
+}
+
+// How many of the span are.
+fn full_in(slopes: &[Slope], s: &Scenario, loads: &Loads, span: Span) -> u32
+    requires slopes { AreSlopesFor (parts_of s.now) slopes.now }
+    requires loads { AreLoadsFor (parts_of s.now) loads.now }
+    requires span { span.end ≤ length slopes.now }
+{
+    let mut count = 0u32;
+    for at in span.first..span.end {
+        if is_full(s, loads, slopes[at]) {
+            count = count.saturating_add(1);
+        }
+    }
+    count
+}
+
+// Whether the loads leave no room for one more.
+fn is_full(s: &Scenario, loads: &Loads, slope: Slope) -> bool
+    requires slope { IsSlopeKey (parts_of s.now) slope.key }
+    requires loads { AreLoadsFor (parts_of s.now) loads.now }
+{
+    excess_of(s, loads, slope.key, slope.limit) >= 0
+}
+
+// Raises the prices that the stops pay for what is full.
+fn raise_full(
+    slopes: &[Slope],
+    s: &Scenario,
+    loads: &Loads,
+    prices: &mut Prices,
+    flight: u32,
+    stops: &[Stop],
+    by: u64,
+)
+    requires slopes { AreSlopesFor (parts_of s.now) slopes.now }
+    requires loads { AreLoadsFor (parts_of s.now) loads.now }
+    requires prices { IsGood (parts_of s.now) prices.old }
+    requires flight { flight < length (parts_of s.now).flights }
+    ensures prices { IsGood (parts_of s.now) prices.new }
+{
+    let details = &s.flights()[flight as usize];
+    for at in 0..stops.len() {
+        let span = span_of_stop(slopes, details, stops, at);
+        raise_full_in(slopes, s, loads, prices, span, by);
+    }
+}
+
+// Raises those of the span that are full.
+fn raise_full_in(
+    slopes: &[Slope],
+    s: &Scenario,
+    loads: &Loads,
+    prices: &mut Prices,
+    span: Span,
+    by: u64,
+)
+    requires slopes { AreSlopesFor (parts_of s.now) slopes.now }
+    requires loads { AreLoadsFor (parts_of s.now) loads.now }
+    requires prices { IsGood (parts_of s.now) prices.old }
+    requires span { span.end ≤ length slopes.now }
+    ensures prices { IsGood (parts_of s.now) prices.new }
+{
+    for at in span.first..span.end {
+        raise_if_full(s, loads, slopes[at], prices, by);
+    }
+}
+
+// Raises one price, if it is full.
+fn raise_if_full(s: &Scenario, loads: &Loads, slope: Slope, prices: &mut Prices, by: u64)
+    requires slope { IsSlopeKey (parts_of s.now) slope.key }
+    requires loads { AreLoadsFor (parts_of s.now) loads.now }
+    requires prices { IsGood (parts_of s.now) prices.old }
+    ensures prices { IsGood (parts_of s.now) prices.new }
+{
+    if is_full(s, loads, slope) {
+        let price = prices.get(slope.key).saturating_add(by).min(1 << 60);
+        set_price(s, slope.key, price as i64, prices);
+    }
+}
