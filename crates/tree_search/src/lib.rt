@@ -36,15 +36,15 @@
 //! (`search_records_are_bounds`) and that of a lawful tree (`search_trees_have_the_bound`), and a
 //! record with enough nodes is closed (`enough_nodes_close`).
 //!
-//! Memory: two boxes and the log of what changed on the way, some 110 bytes for each node of the tree
-//! and 24 for each row of a Dual leaf and each price of a Lag leaf, the plans, 16 for each price of
-//! each box of which a side waits, and what one run takes, one leaf, rounds of prices, climbs, the
-//! search for cheaper plans, and a copy of the box while a branch is chosen. Time: for each node a
-//! greedy plan, a run, the rounds, a climb of as many steps, and where it is split by prices eight
-//! climbs of ten steps; at the begin a climb of sixteen times as many steps as rounds, the search
-//! for a cheaper plan, and bids; and after every sixteen boxes, up to 1,024, a third of that search
-//! once more.
-//! In the first box no more is done once a bound reaches what the best plan costs.
+//! Memory: two boxes and the log of what changed on the way, some 110 bytes for each node of the
+//! tree and 24 for each row of a Dual leaf and each price of a Lag leaf, the plans, 16 for each
+//! price of each box of which a side waits, and what one run takes, one leaf, rounds of prices,
+//! climbs, the search for cheaper plans, and a copy of the box while a branch is chosen. Time: for
+//! each node a greedy plan, a run, the rounds, a climb of as many steps, and where it is split by
+//! prices eight climbs of ten steps; at the begin a climb of sixteen times as many steps as rounds,
+//! the search for a cheaper plan, bids, and up to six climbs of half as many steps that lean on the
+//! best plan; and after every sixteen boxes, up to 1,024, a third of the search for a plan once
+//! more. In the first box no more is done once a bound reaches what the best plan costs.
 #![tactic(auto)]
 
 mod branching;

@@ -17,7 +17,7 @@ use crate::gap::is_far;
 use crate::rooms::PriceRooms;
 use branch_tree::Leaf;
 use dual_leaf::{closing_leaf, lag_leaf};
-use flow_types::{Bound, OutOfMemory, Scenario};
+use flow_types::{Bound, OutOfMemory, Plan, Scenario};
 use lagrange_bound::COST_WEIGHT;
 use plan_improver::delay_cost;
 use price_ascent::WEIGHT;
@@ -35,6 +35,12 @@ const PART_AFTER_BIDS: u32 = 256;
 
 // In how many passes flights bid.
 const BID_PASSES: u32 = 300;
+
+// In how many passes prices lean on a plan, and how often they do at the most, once of these from
+// prices of 0.
+const LEAN_PASSES: u32 = 8;
+
+const MOST_LEANS: u32 = 6;
 
 // How much the first climb may look at, in all its steps.
 const MOST_LOOKS: u64 = 800_000_000;
@@ -148,6 +154,97 @@ pub fn climb_again(
     rooms.kept.forget();
     rooms.early.forget();
     Ok(if is_less { bound } else { climbed })
+}
+
+/// Where the best plan leaves a gap to the bound: leans on that plan and climbs on from where that
+/// leads, from the kept prices, once from prices of 0, and then as long as that tells more. Answers
+/// what the better prices tell. Where there are few rounds, or it doesn't pay, it stays at the
+/// bound.
+pub fn climb_by_plan(
+    s: &Scenario,
+    boxes: &Boxes,
+    rooms: &mut PriceRooms,
+    rounds: u32,
+    best: Option<&Plan>,
+    cutoff: Option<i64>,
+    bound: Bound,
+) -> Result<Bound, OutOfMemory>
+    requires made { IsMadeFor (parts_of s.now) boxes.now }
+    requires rooms { ArePriceRoomsFor (parts_of s.now) rooms.old }
+    ensures { ArePriceRoomsFor (parts_of s.now) rooms.new }
+{
+    let Some(plan) = best else {
+        return Ok(bound);
+    };
+    let steps = first_steps(s, rooms.ascent.rising(), rounds);
+    if steps < BID_PASSES || !is_far(s, bound, cutoff) {
+        return Ok(bound);
+    }
+    lean_often(s, boxes, rooms, steps / 2, plan, cutoff, bound)
+}
+
+// Leans and climbs on so, with so many steps for each climb.
+fn lean_often(
+    s: &Scenario,
+    boxes: &Boxes,
+    rooms: &mut PriceRooms,
+    steps: u32,
+    plan: &Plan,
+    cutoff: Option<i64>,
+    bound: Bound,
+) -> Result<Bound, OutOfMemory>
+    requires made { IsMadeFor (parts_of s.now) boxes.now }
+    requires rooms { ArePriceRoomsFor (parts_of s.now) rooms.old }
+    ensures { ArePriceRoomsFor (parts_of s.now) rooms.new }
+{
+    let mut told = bound;
+    for number in 0..MOST_LEANS {
+        let before = told;
+        told = lean_once(s, boxes, rooms, steps, plan, cutoff, told, number == 1)?;
+        if told.is_reached(cutoff) || (number > 1 && !told.is_above(before)) {
+            return Ok(told);
+        }
+    }
+    Ok(told)
+}
+
+// Leans on the plan once, from the kept prices or from prices of 0, and climbs on. Takes the prices
+// before again where they told more.
+fn lean_once(
+    s: &Scenario,
+    boxes: &Boxes,
+    rooms: &mut PriceRooms,
+    steps: u32,
+    plan: &Plan,
+    cutoff: Option<i64>,
+    bound: Bound,
+    from_none: bool,
+) -> Result<Bound, OutOfMemory>
+    requires made { IsMadeFor (parts_of s.now) boxes.now }
+    requires rooms { ArePriceRoomsFor (parts_of s.now) rooms.old }
+    ensures { ArePriceRoomsFor (parts_of s.now) rooms.new }
+{
+    let before = rooms.ascent.weigh(s, boxes).unwrap_or(0);
+    rooms.ascent.put_by(s, &mut rooms.kept)?;
+    clear_if(s, rooms, from_none);
+    let _leaned = rooms.ascent.lean_on(s, boxes, plan, LEAN_PASSES);
+    let climbed = rooms.ascent.climb(s, boxes, cutoff, PART_AFTER_BIDS, steps);
+    let is_less = rooms.ascent.value().unwrap_or(0) < before;
+    restore_if(s, rooms, is_less);
+    rooms.kept.forget();
+    Ok(if is_less { bound } else { climbed })
+}
+
+// Takes prices of 0 for the kept ones, where they are wanted: none are put by from the first climb
+// any more.
+fn clear_if(s: &Scenario, rooms: &mut PriceRooms, wanted: bool)
+    requires rooms { ArePriceRoomsFor (parts_of s.now) rooms.old }
+    ensures rooms { ArePriceRoomsFor (parts_of s.now) rooms.new }
+{
+    if wanted {
+        rooms.early.forget();
+        rooms.ascent.restore(s, &rooms.early);
+    }
 }
 
 // Takes the prices that were put by last for the kept ones, where they are wanted.

@@ -22,7 +22,7 @@ use crate::branching::first_choice;
 use crate::draft::{RecordDraft, no_draft, note, offer};
 use crate::found::{Budget, Found};
 use crate::improving::{improve, improve_further, offer_found, seek};
-use crate::pricing::{LEAD_PART, begin_climb, climb_again, climb_further, follow};
+use crate::pricing::{LEAD_PART, begin_climb, climb_again, climb_by_plan, climb_further, follow};
 use crate::rooms::{Rooms, rooms_for};
 use crate::seeing::{Seen, see};
 use branch_tree::{Branch, Leaf, Tree, TreeNode, Walk};
@@ -366,6 +366,15 @@ fn search_from(
         bound,
     )?;
     improve(alloc, s, walk, rooms, draft, bound, Search::Long)?;
+    let bound = climb_by_plan(
+        s,
+        walk.boxes(),
+        &mut rooms.prices,
+        budget.rounds,
+        draft.plans.items().last(),
+        draft.best,
+        bound,
+    )?;
     let steps = steps_for(budget.rounds, bound, draft.best);
     run(alloc, s, budget, rooms, whole, walk, draft, steps, bound)
 }
@@ -434,9 +443,9 @@ fn search_tight(
 /// is neither a plan nor a bound, or fewer than two nodes of the budget were left (branch and
 /// bound, after Land and Doig 1960).
 ///
-/// It takes two copies of the box, what `PlanWork`, `LeafWork`, `Rounds`, `Ascent` and `Improver` take,
-/// for each node some 110 bytes and what its leaf takes, 24 bytes a row, and for one box at a time
-/// what its run takes. The box stays as it was.
+/// It takes two copies of the box, what `PlanWork`, `LeafWork`, `Rounds`, `Ascent` and `Improver`
+/// take, for each node some 110 bytes and what its leaf takes, 24 bytes a row, and for one box at a
+/// time what its run takes. The box stays as it was.
 pub fn search(
     alloc: Global,
     s: &Scenario,
