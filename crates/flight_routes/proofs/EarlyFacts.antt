@@ -228,8 +228,8 @@ no_more_by : (bound : Option ℤ) (pair whole : ℤ) → IsNoMore bound pair →
 no_more_by None pair whole more under = absurd more
 no_more_by (Some b) pair whole more under = omega (arith, ints, more, under)
 
-module _ (flight : Flight) (row : ℕ → Access) (periods : ℕ) (rates : Rates)
-    (ready : IsReady flight row periods rates) (ahead : ℕ → ℕ)
+module _ (flight : Flight) (row : ℕ → Access) (span : Window) (rates : Rates)
+    (ready : IsReady flight row span rates) (ahead : ℕ → ℕ)
     (are : AreAhead flight ahead) where
   -- a step takes its time
   step_later : (stop next : Stop) → IsPassage flight row rates stop next
@@ -250,7 +250,7 @@ module _ (flight : Flight) (row : ℕ → Access) (periods : ℕ) (rates : Rates
       omega (arith, (step_later stop next way.0).1, ends_later next rest way.1)
 
   module _ (last : ℕ) (end : last + 1 ≡ length flight.nodes)
-      (rising : AreRising flight periods rates) where
+      (rising : AreRising flight span rates) where
     record EndsAt (stop : Stop) (rest : List Stop) : Type 0 where
       window : IsInWindow (row last).window (arrival_from stop rest)
       some : IsSome (rates.arrives (arrival_from stop rest))
@@ -270,9 +270,10 @@ module _ (flight : Flight) (row : ℕ → Access) (periods : ℕ) (rates : Rates
     ends_at stop (next ∷ rest) window inside way =
         let up = step_up flight row rates ready.network stop next way.0.step in
         let on = ends_at next rest way.0.window up.1 way.1 in
-        let day = ready.windows.within next.node next.time way.0.window in
-        let more = rising stop.node stop.time next.time (omega (arith, up.0, up.1))
-        (step_later stop next way.0).0 day in
+        let from = ready.windows.within stop.node stop.time window in
+        let to = ready.windows.within next.node next.time way.0.window in
+        let more = rising stop.node stop.time next.time (omega (arith, up.0, up.1)) from.0
+        (step_later stop next way.0).0 to.1 in
         record { window = on.window; some = on.some; below = omega (arith, ints, on.below, more) }
 
     way_ends : (stop : Stop) (rest : List Stop) → IsWay flight row rates (stop ∷ rest)
@@ -312,11 +313,11 @@ module _ (flight : Flight) (row : ℕ → Access) (periods : ℕ) (rates : Rates
         }))
         (omega (arith, ints, at.below))
 
-    -- a way ends within the day, and there is none where the last node is closed
+    -- a way ends within the span, and there is none where the last node is closed
     pub ends_within : (stop : Stop) (rest : List Stop) → IsWay flight row rates (stop ∷ rest)
-        → arrival_from stop rest < periods
+        → arrival_from stop rest ≤ span.hi
     ends_within stop rest way =
-        ready.windows.within last (arrival_from stop rest) (way_ends stop rest way).window
+        (ready.windows.within last (arrival_from stop rest) (way_ends stop rest way).window).1
 
     pub closed_last : (row last).window ≡ None → (stop : Stop) (rest : List Stop)
         → IsWay flight row rates (stop ∷ rest) → ⊥
@@ -326,9 +327,10 @@ module _ (flight : Flight) (row : ℕ → Access) (periods : ℕ) (rates : Rates
 
   -- ways through a row that is cut
   module _ (cap : ℕ) where
-    cut_ready : IsReady flight (cut_row cap ahead row) periods rates
+    cut_ready : IsReady flight (cut_row cap ahead row) span rates
     cut_ready = record {
       day = ready.day;
+      clear = ready.clear;
       windows = record {
         proper = λ n. cut_proper cap (ahead n) (row n).window (ready.windows.proper n);
         within = λ n t window.
@@ -407,9 +409,9 @@ module _ (flight : Flight) (row : ℕ → Access) (periods : ℕ) (rates : Rates
       same_row : cut ≡ cut_row cap ahead row
       same_row = fun_ext each
 
-      pub cut_is_ready : IsReady flight cut periods rates
+      pub cut_is_ready : IsReady flight cut span rates
       cut_is_ready =
-          subst (λ (r : ℕ → Access). IsReady flight r periods rates) (sym same_row) cut_ready
+          subst (λ (r : ℕ → Access). IsReady flight r span rates) (sym same_row) cut_ready
 
       into : (way : List Stop) → IsWay flight cut rates way → IsWay flight row rates way
       into = subst (λ (r : ℕ → Access). (way : List Stop) → IsWay flight r rates way

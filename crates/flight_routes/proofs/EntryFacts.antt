@@ -30,7 +30,7 @@ some_within None within = record { low = omega (arith, ints); high = omega (arit
 some_within (Some v) within = within
 
 module _ (clear : ℕ → ℕ) (paid : ℕ → ℤ) (cell : ℕ → Option ℤ) (next : Window)
-    (kept : IsClear (next.hi + 1) clear) where
+    (low : ℕ) (kept : IsClear low next.hi clear) where
   -- nothing is entered after the window
   pub no_entry : (time : ℕ) → next.hi < time → IsLeast (IsEntry clear cell next time)
       (entry_cost paid cell) None
@@ -42,19 +42,19 @@ module _ (clear : ℕ → ℕ) (paid : ℕ → ℤ) (cell : ℕ → Option ℤ) 
   IsNow : ℕ → ℕ → Type 0
   IsNow time u = IsEntry clear cell next time u × (u ≡ time)
 
-  clear_after : (time : ℕ) → (clear time ≡ time → ⊥) → time + 1 < next.hi + 1
+  clear_after : (time : ℕ) → (clear time ≡ time → ⊥)
       → (clear time ≡ time)
       ⊎ ((time < clear time) × (clear time ≡ clear (time + 1)))
       → (time < clear time) × (clear time ≡ clear (time + 1))
-  clear_after time free within (inl shut) = absurd (free shut)
-  clear_after time free within (inr is) = is
+  clear_after time free (inl shut) = absurd (free shut)
+  clear_after time free (inr is) = is
 
-  to_later : (time u : ℕ) → (clear time ≡ time → ⊥)
+  to_later : (time u : ℕ) → low ≤ time → (clear time ≡ time → ⊥)
       → IsEntry clear cell next (time + 1) u → IsLater time u
   unfolding IsLater
-  to_later time u free entry =
-      let within : time + 1 < next.hi + 1 = omega (arith, entry.late, entry.hi) in
-      let is = clear_after time free within (kept time within) in (
+  to_later time u after free entry =
+      let is = clear_after time free
+      (kept time after (omega (arith, entry.late, entry.hi))) in (
         record {
           late = omega (arith, entry.late);
           stay = omega (arith, entry.stay, is.0, is.1);
@@ -65,12 +65,12 @@ module _ (clear : ℕ → ℕ) (paid : ℕ → ℤ) (cell : ℕ → Option ℤ) 
         omega (arith, entry.late),
       )
 
-  from_later : (time u : ℕ) → (clear time ≡ time → ⊥) → IsLater time u
+  from_later : (time u : ℕ) → low ≤ time → (clear time ≡ time → ⊥) → IsLater time u
       → IsEntry clear cell next (time + 1) u
   unfolding IsLater
-  from_later time u free later =
-      let within : time + 1 < next.hi + 1 = omega (arith, later.1, later.0.hi) in
-      let is = clear_after time free within (kept time within) in
+  from_later time u after free later =
+      let is = clear_after time free
+      (kept time after (omega (arith, later.1, later.0.hi))) in
       record {
         late = omega (arith, later.1);
         stay = omega (arith, later.0.stay, is.0, is.1);
@@ -83,20 +83,20 @@ module _ (clear : ℕ → ℕ) (paid : ℕ → ℤ) (cell : ℕ → Option ℤ) 
   unfolding IsLater
   none_later time u shut later = omega (arith, later.0.stay, later.1)
 
-  kept_by : (time : ℕ) (wait : Option ℤ)
+  kept_by : (time : ℕ) (wait : Option ℤ) → low ≤ time
       → IsLeast (IsEntry clear cell next (time + 1)) (entry_cost paid cell) wait
       → (clear time ≡ time) ⊎ (clear time ≡ time → ⊥)
       → IsLeast (IsLater time) (entry_cost paid cell) (kept_of clear time wait)
-  kept_by time wait least (inl shut) =
+  kept_by time wait after least (inl shut) =
       let e : kept_of clear time wait ≡ None = rw (eq-eqb _ _ shut) refl in
       subst (IsLeast (IsLater time) (entry_cost paid cell)) (sym e)
       (least_none (IsLater time) (entry_cost paid cell) (λ u. none_later time u shut))
-  kept_by time wait least (inr free) =
+  kept_by time wait after least (inr free) =
       let e : kept_of clear time wait ≡ wait = rw (ne_eqb _ _ free) refl in
       subst (IsLeast (IsLater time) (entry_cost paid cell)) (sym e)
       (least_same (IsEntry clear cell next (time + 1)) (IsLater time)
       (entry_cost paid cell)
-      (λ u. to_later time u free) (λ u. from_later time u free) wait least)
+      (λ u. to_later time u after free) (λ u. from_later time u after free) wait least)
 
   none_now : (time u : ℕ) → cell time ≡ None → IsNow time u → ⊥
   unfolding IsNow
@@ -154,42 +154,42 @@ module _ (clear : ℕ → ℕ) (paid : ℕ → ℤ) (cell : ℕ → Option ℤ) 
   entry_cases time u entry (inr now) = inr (entry, omega (arith, entry.late))
 
   -- one period earlier
-  pub wait_next : (time : ℕ) (wait : Option ℤ) → time ≤ next.hi
+  pub wait_next : (time : ℕ) (wait : Option ℤ) → low ≤ time → time ≤ next.hi
       → IsLeast (IsEntry clear cell next (time + 1)) (entry_cost paid cell) wait
       → IsLeast (IsEntry clear cell next time) (entry_cost paid cell)
       (lesser (kept_of clear time wait) (entered_of paid cell next time))
   unfolding IsLater IsNow
-  wait_next time wait to least =
+  wait_next time wait after to least =
       least_either (IsLater time) (IsNow time) (IsEntry clear cell next time)
       (entry_cost paid cell) (λ u h. h.0) (λ u h. h.0)
       (λ u entry. entry_cases time u entry (cases_lt time u))
       (kept_of clear time wait) (entered_of paid cell next time)
-      (kept_by time wait least (cases_eq (clear time) time))
+      (kept_by time wait after least (cases_eq (clear time) time))
       (entered_by time to (cases_lt time next.lo))
 
   -- as long as it is clear from a period on, it is so from each one until then
-  clear_on : (from k : ℕ) → from + k ≤ clear from → from + k < next.hi + 1
+  clear_on : (from k : ℕ) → low ≤ from → from + k ≤ clear from → from + k ≤ next.hi
       → clear (from + k) ≡ clear from
-  clear_on from zero stay within = ap clear (omega arith)
-  clear_on from (suc k) stay within =
-      let before = clear_on from k (omega arith) (omega arith) in
-      let is = clear_after (from + k) (λ shut. omega (arith, shut, before)) (omega arith)
-      (kept (from + k) (omega arith)) in
+  clear_on from zero after stay within = ap clear (omega arith)
+  clear_on from (suc k) after stay within =
+      let before = clear_on from k after (omega arith) (omega arith) in
+      let is = clear_after (from + k) (λ shut. omega (arith, shut, before))
+      (kept (from + k) (omega arith) (omega arith)) in
       let same : from + k + 1 ≡ from + suc k = omega arith in
       sym (ap clear same) ∙ sym is.1 ∙ before
 
-  clear_until : (from time : ℕ) → from ≤ time → time ≤ clear from → time < next.hi + 1
+  clear_until : (from time : ℕ) → low ≤ from → from ≤ time → time ≤ clear from → time ≤ next.hi
       → clear time ≡ clear from
-  clear_until from time after stay within =
+  clear_until from time above after stay within =
       let same : from + (time - from) ≡ time = omega arith in
       sym (ap clear same)
-      ∙ clear_on from (time - from) (omega arith) (omega arith)
+      ∙ clear_on from (time - from) above (omega arith) (omega arith)
 
-  module _ (least from : ℕ) where
-    move_to : (time u : ℕ) → time ≡ from + least → time ≤ clear from → time < next.hi + 1
+  module _ (least from : ℕ) (after : low ≤ from) where
+    move_to : (time u : ℕ) → time ≡ from + least → time ≤ clear from → time ≤ next.hi
         → IsEntry clear cell next time u → IsMove clear cell next least from u
     move_to time u turn stay within entry =
-        let same = clear_until from time (omega arith) stay within in
+        let same = clear_until from time after (omega arith) stay within in
         record {
           late = omega (arith, entry.late);
           stay = omega (arith, entry.stay, same);
@@ -198,10 +198,10 @@ module _ (clear : ℕ → ℕ) (paid : ℕ → ℤ) (cell : ℕ → Option ℤ) 
           reaches = entry.reaches;
         }
 
-    move_back : (time u : ℕ) → time ≡ from + least → time ≤ clear from → time < next.hi + 1
+    move_back : (time u : ℕ) → time ≡ from + least → time ≤ clear from → time ≤ next.hi
         → IsMove clear cell next least from u → IsEntry clear cell next time u
     move_back time u turn stay within move =
-        let same = clear_until from time (omega arith) stay within in
+        let same = clear_until from time after (omega arith) stay within in
         record {
           late = omega (arith, move.late);
           stay = omega (arith, move.stay, same);

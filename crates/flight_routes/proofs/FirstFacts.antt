@@ -348,12 +348,12 @@ module _ (legs : List Leg) (row : ℕ → Access) (rates : Rates) (cells : List 
       (λ next at. keep leg k next at.keeps
       (passage_apart row rates legs stop next leg k inside is at.passage))
 
-module _ (flight : Flight) (row : ℕ → Access) (rates : Rates) (periods : ℕ)
-    (ready : IsReady flight row periods rates) (cells : List (Option ℤ))
+module _ (flight : Flight) (row : ℕ → Access) (rates : Rates) (span : Window)
+    (ready : IsReady flight row span rates) (cells : List (Option ℤ))
     (are : AreCells flight row rates 0 cells) where
   -- a stop's window is within the day
   short_at : (n t : ℕ) → IsInWindow (row n).window t → t < most_periods
-  short_at n t within = omega (arith, ready.windows.within n t within, ready.day.few)
+  short_at n t within = omega (arith, (ready.windows.within n t within).1, ready.day.few)
 
   -- the cell of a stop that a passage leads to
   cell_to : (stop next : Stop) → IsPassage flight row rates stop next

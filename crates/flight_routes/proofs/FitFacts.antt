@@ -1,10 +1,10 @@
 -- At the rates of the loads, a trip is allowed exactly where it fits, at its own cost.
-use Rattle.std.proofs.Common.{◌≡◌, ◌≢◌, ◌⊎◌, ℕ, ◌+◌, ◌-◌, ◌<◌, ◌≤◌, ◌==◌, ◌&&◌, Bool, true, false, not, nat_le, nat_lt, List, [], ◌∷◌, length, get_or, set, slice_get, Option, Some, None, IsTrue, IsSome, ℤ, pos, ◌-ℤ◌, refl, sym, ap, ◌∙◌, subst, inl, inr, arith}
+use Rattle.std.proofs.Common.{◌≡◌, ◌≢◌, ◌⊎◌, ℕ, ◌+◌, ◌-◌, ◌<◌, ◌≤◌, ◌==◌, ◌&&◌, Bool, true, false, not, nat_le, nat_lt, List, [], ◌∷◌, length, get_or, set, slice_get, Option, Some, None, All, IsTrue, IsSome, ℤ, pos, ◌-ℤ◌, refl, sym, ap, ◌∙◌, subst, inl, inr, arith}
 use Rattle.std.specs.Option.{option_and_then}
 use Rattle.std.proofs.lemmas.Bool.{cases_lt}
 use Rattle.std.proofs.lemmas.Bool.Decides.{nat_tests}
 use Rattle.std.proofs.lemmas.Int.{ints}
-use Rattle.std.proofs.lemmas.List.Elements.{All-head}
+use Rattle.std.proofs.lemmas.List.Elements.{All-head, All-tail}
 use Rattle.std.proofs.lemmas.Option.{slice_get-get_or}
 use Rattle.exact_sums.proofs.ItemFacts.{All-item, slice_get-set_other, slice_get-set_same}
 use Rattle.flow_types.specs.declared.flight.Connection.{Connection}
@@ -21,10 +21,12 @@ use Rattle.flow_types.specs.Trips.{IsOnward, IsTrip, arrival_from, departure_of,
 use Rattle.flow_types.specs.Valid.{IsConnection, IsFlight, IsScenario, destination_of, origin_of}
 use Rattle.plan_rules.proofs.CountFacts.{arrives_at-le, departs_at-le, stays_at-once}
 use Rattle.time_windows.specs.declared.access.Access.{Access}
+use Rattle.time_windows.specs.declared.access.Window.{Window}
 use Rattle.time_windows.specs.Boxes.{IsInWindow, IsTripInBox}
 use Rattle.flight_routes.specs.FitRates.{AreFitRates, IsGiven, LeavesTimeFor, MayArrive, MayLeave, MayStay, WaitsFor}
 use Rattle.flight_routes.specs.Fits.{FitsAs, KeepsOwnTurn}
 use Rattle.flight_routes.specs.Rates.{Rates, value_or_zero, whole_cost}
+use Rattle.flight_routes.specs.Ready.{IsInSpan}
 use Rattle.flight_routes.proofs.TripFacts.{ClearOn, EndsIn, IsAllowed, ends_in, in_day, stays_cost, step_up, whole_cost_is}
 
 -- what is given is there
@@ -164,8 +166,9 @@ neither false sector airport = cc
 
 module _ (parts : Parts) (valid : IsScenario parts) (trips : List (List Stop)) (number : ℕ)
     (flight : Flight) (here : slice_get parts.flights number ≡ Some flight)
-    (row : ℕ → Access) (rates : Rates)
-    (are : AreFitRates parts trips number flight row rates) where
+    (row : ℕ → Access) (span : Window)
+    (within : (n t : ℕ) → IsInWindow (row n).window t → IsInSpan span t) (rates : Rates)
+    (are : AreFitRates parts trips number flight row span rates) where
   fine_too : IsFlight parts.day.periods parts.places parts.tables flight
   fine_too = All-item (IsFlight parts.day.periods parts.places parts.tables) parts.flights number
       flight valid.flights.each here
@@ -175,14 +178,31 @@ module _ (parts : Parts) (valid : IsScenario parts) (trips : List (List Stop)) (
   RoomOn stop rest = (k t : ℕ) → IsTrue (is_sector (slice_get parts.places k))
       → 0 < stays_from k t flight stop rest → MayStay parts trips k t
 
+  -- two stops one after the other are in the span, and the rest is in its windows
+  both_in_span : (stop next : Stop) (rest : List Stop)
+      → All (λ (s : Stop). IsInWindow (row s.node).window s.time) (stop ∷ next ∷ rest)
+      → IsInSpan span stop.time × IsInSpan span next.time
+      × All (λ (s : Stop). IsInWindow (row s.node).window s.time) (next ∷ rest)
+  both_in_span stop next rest windows =
+      let later = All-tail (λ (s : Stop). IsInWindow (row s.node).window s.time) stop (next ∷ rest)
+      windows in (
+        within stop.node stop.time
+            (All-head (λ (s : Stop). IsInWindow (row s.node).window s.time) stop (next ∷ rest)
+            windows),
+        within next.node next.time
+            (All-head (λ (s : Stop). IsInWindow (row s.node).window s.time) next rest later),
+        later,
+      )
+
   clear_step : (stop next : Stop) (rest : List Stop)
       → (stop.node < next.node) × (next.node < length flight.nodes)
       → next.time < parts.day.periods → stop.time ≤ next.time
+      → IsInSpan span stop.time → IsInSpan span next.time
       → ((k t : ℕ) → IsTrue (is_sector (slice_get parts.places k))
       → 0 < stays_from k t flight stop (next ∷ rest) → MayStay parts trips k t)
       → (0 < stop.node) ⊎ (stop.node ≤ 0) → next.time ≤ rates.clear stop.node stop.time
-  clear_step stop next rest up day later room (inl above) =
-      are.clear stop.node stop.time next.time above (omega (arith, up.0, up.1)) later day
+  clear_step stop next rest up day later from to room (inl above) =
+      are.clear stop.node stop.time next.time above (omega (arith, up.0, up.1)) from.0 later to.1
       (λ p low high. room (place_at flight stop.node) p
       (fine_too.route.sectors stop.node above (omega (arith, up.0, up.1)))
       (omega (
@@ -190,36 +210,41 @@ module _ (parts : Parts) (valid : IsScenario parts) (trips : List (List Stop)) (
         stay_some (place_at flight stop.node) (place_at flight stop.node) stop.time p
             next.time refl low high,
       )))
-  clear_step stop next rest up day later room (inr at_first) =
+  clear_step stop next rest up day later from to room (inr at_first) =
       let is : 0 ≡ stop.node = omega arith in
       subst (λ n. next.time ≤ rates.clear n stop.time) is (are.first stop.time next.time later day)
 
   pub room_clear : (stop : Stop) (rest : List Stop)
       → IsOnward parts.day.periods flight stop rest
+      → All (λ (s : Stop). IsInWindow (row s.node).window s.time) (stop ∷ rest)
       → ((k t : ℕ) → IsTrue (is_sector (slice_get parts.places k))
       → 0 < stays_from k t flight stop rest → MayStay parts trips k t)
       → ClearOn rates stop rest
-  room_clear stop [] onward room = tt
-  room_clear stop (next ∷ rest) onward room =
-      let up = step_up flight fine_too.route.each_leg stop next onward.0 in (
+  room_clear stop [] onward windows room = tt
+  room_clear stop (next ∷ rest) onward windows room =
+      let up = step_up flight fine_too.route.each_leg stop next onward.0 in
+      let spans = both_in_span stop next rest windows in (
         clear_step stop next rest up
             (in_day parts.day.periods flight next valid.day.periods_from onward.1)
-            (omega (arith, onward.0.4.least)) room (cases_lt 0 stop.node),
-        room_clear next rest onward.2 (λ k t sector some. room k t sector (omega (arith, some))),
+            (omega (arith, onward.0.4.least)) spans.0 spans.1 room (cases_lt 0 stop.node),
+        room_clear next rest onward.2 spans.2
+            (λ k t sector some. room k t sector (omega (arith, some))),
       )
 
   room_step : (stop next : Stop) (k t : ℕ)
       → (stop.node < next.node) × (next.node < length flight.nodes)
       → next.time < parts.day.periods → stop.time ≤ next.time
+      → IsInSpan span stop.time → IsInSpan span next.time
       → next.time ≤ rates.clear stop.node stop.time
       → IsTrue (is_sector (slice_get parts.places k))
       → (place_at flight stop.node ≡ k) × (stop.time ≤ t) × (t < next.time)
       → (0 < stop.node) ⊎ (stop.node ≤ 0) → MayStay parts trips k t
-  room_step stop next k t up day later clear sector at (inl above) =
+  room_step stop next k t up day later from to clear sector at (inl above) =
       subst (λ place. MayStay parts trips place t) at.0
-      (are.stays stop.node stop.time next.time above (omega (arith, up.0, up.1)) later day clear t
+      (are.stays stop.node stop.time next.time above (omega (arith, up.0, up.1)) from.0 later to.1
+      clear t
       at.1 at.2)
-  room_step stop next k t up day later clear sector at (inr at_first) =
+  room_step stop next k t up day later from to clear sector at (inr at_first) =
       let is : stop.node ≡ 0 = omega arith in
       let origin : flight.from ≡ k =
       sym fine_too.route.first ∙ ap (place_at flight) (sym is) ∙ at.0 in
@@ -231,20 +256,23 @@ module _ (parts : Parts) (valid : IsScenario parts) (trips : List (List Stop)) (
       no_airport (Some place) sector airport = neither (is_airport_kind place.kind) sector airport
 
   pub clear_room : (stop : Stop) (rest : List Stop)
-      → IsOnward parts.day.periods flight stop rest → ClearOn rates stop rest
-      → (k t : ℕ) → IsTrue (is_sector (slice_get parts.places k))
+      → IsOnward parts.day.periods flight stop rest
+      → All (λ (s : Stop). IsInWindow (row s.node).window s.time) (stop ∷ rest)
+      → ClearOn rates stop rest → (k t : ℕ) → IsTrue (is_sector (slice_get parts.places k))
       → 0 < stays_from k t flight stop rest → MayStay parts trips k t
-  clear_room stop [] onward clear k t sector some = absurd (omega (arith, some))
-  clear_room stop (next ∷ rest) onward clear k t sector some =
+  clear_room stop [] onward windows clear k t sector some = absurd (omega (arith, some))
+  clear_room stop (next ∷ rest) onward windows clear k t sector some =
       let up = step_up flight fine_too.route.each_leg stop next onward.0 in
+      let spans = both_in_span stop next rest windows in
       elim (cases_lt 0 (one_if ((place_at flight stop.node == k) && nat_le stop.time t
       && nat_lt t next.time))) as (λ w. MayStay parts trips k t) [
         | inl now ↦ room_step stop next k t up
             (in_day parts.day.periods flight next valid.day.periods_from onward.1)
-            (omega (arith, onward.0.4.least)) clear.0 sector
+            (omega (arith, onward.0.4.least)) spans.0 spans.1 clear.0 sector
             (stay_where (place_at flight stop.node) k stop.time t next.time now)
             (cases_lt 0 stop.node)
-        | inr none ↦ clear_room next rest onward.2 clear.1 k t sector (omega (arith, some, none))
+        | inr none ↦ clear_room next rest onward.2 spans.2 clear.1 k t sector
+            (omega (arith, some, none))
       ]
 
   -- nothing is paid for staying
@@ -261,8 +289,9 @@ module _ (parts : Parts) (valid : IsScenario parts) (trips : List (List Stop)) (
 
 module _ (parts : Parts) (valid : IsScenario parts) (trips : List (List Stop)) (number : ℕ)
     (flight : Flight) (here : slice_get parts.flights number ≡ Some flight)
-    (long : number < length trips) (row : ℕ → Access) (rates : Rates)
-    (are : AreFitRates parts trips number flight row rates)
+    (long : number < length trips) (row : ℕ → Access) (span : Window)
+    (within : (n t : ℕ) → IsInWindow (row n).window t → IsInSpan span t) (rates : Rates)
+    (are : AreFitRates parts trips number flight row span rates)
     (stop : Stop) (rest : List Stop) (trip : IsTrip parts.day.periods flight (stop ∷ rest))
     (inside : IsTripInBox row (stop ∷ rest)) where
   first_in : IsInWindow (row 0).window stop.time
@@ -337,7 +366,8 @@ module _ (parts : Parts) (valid : IsScenario parts) (trips : List (List Stop)) (
         (total_of parts.tables flight.cost (arrival_from stop rest - flight.sa))
         (are.arrives last_in.node (arrival_from stop rest) last_in.last last_in.window)
         (may_arrive fits)).0,
-    room_clear parts valid trips number flight here row rates are stop rest trip.2
+    room_clear parts valid trips number flight here row span within rates are stop rest trip.2
+        inside.windows
         (λ k t sector some.
         let room = fits.sectors k t sector some in
         omega (arith, room, some)),
@@ -378,8 +408,8 @@ module _ (parts : Parts) (valid : IsScenario parts) (trips : List (List Stop)) (
             arrives_with k t (sym ends_at ∙ at.0) at.1 arrive.room;
         sectors = λ k t has some.
             let once = stays_at-once parts.day.periods k t flight (stop ∷ rest) trip in
-            let room = clear_room parts valid trips number flight here row rates are stop rest
-            trip.2 allowed.2 k t has some in
+            let room = clear_room parts valid trips number flight here row span within rates are
+            stop rest trip.2 inside.windows allowed.2 k t has some in
             omega (arith, once, room, some);
         turns = λ k d within.
             let is = connection_at k d within in
@@ -424,5 +454,5 @@ module _ (parts : Parts) (valid : IsScenario parts) (trips : List (List Stop)) (
         whole_cost_is rates stop rest,
         (leave_given allowed).1,
         (arrive_given allowed).1,
-        stays_free parts valid trips number flight here row rates are stop rest,
+        stays_free parts valid trips number flight here row span within rates are stop rest,
       )

@@ -37,11 +37,12 @@ summed_join price from mid to low high =
     summed_by price (mid - from) from mid to (omega arith) high
 
 -- and one more at the end
-pub summed_more : (price : ℕ → ℕ) (n : ℕ) → summed price 0 (n + 1) ≡ summed price 0 n + price n
-summed_more price n =
+pub summed_more : (price : ℕ → ℕ) (from n : ℕ) → from ≤ n
+    → summed price from (n + 1) ≡ summed price from n + price n
+summed_more price from n low =
     omega (
       arith,
-      summed_join price 0 n (n + 1) (omega arith) (omega arith),
+      summed_join price from n (n + 1) low (omega arith),
       summed_step price n (n + 1) (omega arith),
       summed_none price (n + 1) (n + 1) (omega arith),
     )

@@ -18,6 +18,7 @@ use Rattle.plan_rules.specs.Tally.{Tally}
 use Rattle.plan_rules.specs.Loads.{AreLoads, arrival_at, departure_at}
 use Rattle.exact_sums.proofs.ItemFacts.{All-item}
 use Rattle.time_windows.specs.declared.access.Access.{Access}
+use Rattle.time_windows.specs.declared.access.Window.{Window}
 use Rattle.time_windows.specs.Boxes.{IsInWindow}
 use Rattle.time_windows.specs.declared.ends.End.TheVariants.{Arrival, Departure}
 use Rattle.flight_routes.specs.FitRates.{AreFitRates, IsGiven, LeavesTimeFor, MayArrive, MayLeave, MayStay, WaitsFor}
@@ -25,6 +26,7 @@ use Rattle.flight_routes.specs.FitTimes.{HasSpace, IsFirstFull, IsFreeAt}
 use Rattle.flight_routes.specs.Filling.{IsFitTable}
 use Rattle.flight_routes.specs.PriceRates.{airport_of}
 use Rattle.flight_routes.specs.RateLists.{RateLists, place_of, rates_of}
+use Rattle.flight_routes.specs.Ready.{IsInSpan}
 use Rattle.flight_routes.specs.TimeCosts.{credit_then, total_then}
 use Rattle.time_windows.specs.Turns.{turns_in}
 use Rattle.flight_routes.specs.TurnTimes.{IsAfter, IsInTime}
@@ -195,17 +197,18 @@ module _ (parts : Parts) (valid : IsScenario parts) (trips : List (List Stop)) (
       (sector_within parts.places (place_at flight n) (a_fine.route.sectors n above below)) day in
       omega (arith, may, count)
 
-  clear_upto : (n t u f : ℕ) → 0 < n → n + 1 < length flight.nodes → u < parts.day.periods
-      → IsFirstFull parts loads (place_at flight n) t f
+  clear_upto : (n t u f end : ℕ) → 0 < n → n + 1 < length flight.nodes → end < parts.day.periods
+      → u ≤ end → IsFirstFull parts loads (place_at flight n) end t f
       → ((p : ℕ) → t ≤ p → p < u → MayStay parts trips (place_at flight n) p)
       → (f < u) ⊎ (u ≤ f) → u ≤ f
-  clear_upto n t u f above below day full may (inl less) =
-      absurd (full.full (omega (arith, less, day))
-      (may_space n f above below (omega (arith, less, day)) (may f full.late less)))
-  clear_upto n t u f above below day full may (inr enough) = enough
+  clear_upto n t u f end above below day to full may (inl less) =
+      absurd (full.full (omega (arith, less, to))
+      (may_space n f above below (omega (arith, less, day, to)) (may f full.late less)))
+  clear_upto n t u f end above below day to full may (inr enough) = enough
 
   pub fit_rates : (row : ℕ → Access) (lists : RateLists) → last + 1 ≡ length flight.nodes
-      → ((n t : ℕ) → IsInWindow (row n).window t → t < parts.day.periods)
+      → (span : Window) → span.hi < parts.day.periods
+      → ((n t : ℕ) → IsInWindow (row n).window t → IsInSpan span t)
       → ((time : ℕ) → (first ≤ time)
       ↔ All (IsAfter loads time) (turns_in Departure number 0 parts.connections))
       → ((time : ℕ) → time < 2 ^ 16 → (time < limit)
@@ -216,20 +219,20 @@ module _ (parts : Parts) (valid : IsScenario parts) (trips : List (List Stop)) (
       → ((t : ℕ) → IsInWindow (row last).window t
       → IsGiven ((rates_of lists).arrives t) (IsFreeAt Arrival parts loads there limit t)
       (total_then parts.tables there t))
-      → ((n t : ℕ) → 0 < n → n < last → t < parts.day.periods
-      → IsFirstFull parts loads (place_at flight n) t ((rates_of lists).clear n t))
+      → ((n t : ℕ) → 0 < n → n < last → IsInSpan span t
+      → IsFirstFull parts loads (place_at flight n) span.hi t ((rates_of lists).clear n t))
       → IsFitTable lists
-      → AreFitRates parts trips number flight row (rates_of lists)
-  fit_rates row lists end windows firsts limits leaves arrives full table = record {
+      → AreFitRates parts trips number flight row span (rates_of lists)
+  fit_rates row lists end span in_day windows firsts limits leaves arrives full table = record {
     leaves = λ t window.
-        let day = windows 0 t window in
+        let day : t < parts.day.periods = omega (arith, (windows 0 t window).1, in_day) in
         given_same ((rates_of lists).leaves t) (IsFreeAt Departure parts loads there first t)
         (MayLeave parts trips number flight t) (pos 0 -ℤ credit_then parts.tables there t)
         (pos 0 -ℤ credit_of parts.tables flight.cost (t - flight.sd)) (leaves t window)
         (leave_may firsts t day) (may_leave_free firsts t day)
         (ap (λ f. pos 0 -ℤ credit_then parts.tables f t) is);
     arrives = λ n t ends window.
-        let day = windows n t window in
+        let day : t < parts.day.periods = omega (arith, (windows n t window).1, in_day) in
         let same : n ≡ last = omega (arith, ends, end) in
         given_same ((rates_of lists).arrives t) (IsFreeAt Arrival parts loads there limit t)
         (MayArrive parts trips number flight t) (total_then parts.tables there t)
@@ -243,13 +246,13 @@ module _ (parts : Parts) (valid : IsScenario parts) (trips : List (List Stop)) (
     first = λ t u low high.
         let is_open = table.first t (omega (arith, low, high, valid.day.periods_to)) in
         omega (arith, is_open, high, valid.day.periods_to);
-    stays = λ n t u above below low high upto p from to.
-        space_may n p above below (omega (arith, to, high))
-        ((full n t above (omega (arith, below, end)) (omega (arith, low, high))).free p from
+    stays = λ n t u above below begin low high upto p from to.
+        space_may n p above below (omega (arith, to, high, in_day))
+        ((full n t above (omega (arith, below, end)) (begin, omega (arith, low, high))).free p from
         (omega (arith, to, upto)) (omega (arith, to, high)));
-    clear = λ n t u above below low high may.
-        clear_upto n t u ((rates_of lists).clear n t) above below high
-        (full n t above (omega (arith, below, end)) (omega (arith, low, high))) may
+    clear = λ n t u above below begin low high may.
+        clear_upto n t u ((rates_of lists).clear n t) span.hi above below in_day high
+        (full n t above (omega (arith, below, end)) (begin, omega (arith, low, high))) may
         (cases_lt ((rates_of lists).clear n t) u);
   }
     where

@@ -10,19 +10,20 @@ use Rattle.time_windows.specs.Boxes.{IsInWindow, IsProper}
 use Rattle.exact_sums.proofs.LeastFacts.{least_said}
 use Rattle.flight_routes.specs.Entries.{IsMove, IsMoveBy, Offers, cell_at, entry_cost}
 use Rattle.flight_routes.specs.RateLists.{part_of, place_of}
-use Rattle.flight_routes.specs.Rates.{AreClear, IsClear, PassesNoMust, Rates}
+use Rattle.flight_routes.specs.Rates.{IsClear, PassesNoMust, Rates}
 use Rattle.flight_routes.specs.Ready.{AreWindows}
 
--- a window is in order and ends within the day
-pub window_last : (periods : ℕ) (row : ℕ → Access) (n : ℕ) (window : Window)
-    → AreWindows periods row → (row n).window ≡ Some window
-    → (window.lo ≤ window.hi) × (window.hi < periods)
-window_last periods row n window windows is =
-    let proper : window.lo ≤ window.hi = subst IsProper is (windows.proper n) in (
-      proper,
-      windows.within n window.hi
-          (subst (λ (w : Option Window). IsInWindow w window.hi) (sym is) (proper, omega arith)),
-    )
+-- a window is in order, and begins and ends within the span
+pub window_last : (span : Window) (row : ℕ → Access) (n : ℕ) (window : Window)
+    → AreWindows span row → (row n).window ≡ Some window
+    → (window.lo ≤ window.hi) × (window.hi ≤ span.hi) × (span.lo ≤ window.lo)
+window_last span row n window windows is =
+    let proper : window.lo ≤ window.hi = subst IsProper is (windows.proper n) in
+    let last = windows.within n window.hi
+    (subst (λ (w : Option Window). IsInWindow w window.hi) (sym is) (proper, omega arith)) in
+    let first = windows.within n window.lo
+    (subst (λ (w : Option Window). IsInWindow w window.lo) (sym is) (omega arith, proper)) in
+    (proper, last.1, first.0)
 
 -- what a part of a list holds for a period
 module _ {A : Type 0} (items : List A) (node : ℕ) (d : A) where
@@ -44,16 +45,17 @@ part_all P part d long none each t = by (cases_lt t most_periods)
     by (inr past) = subst P (sym (get_or_past part t d (omega (arith, long, past)))) none
 
 -- the part of a node is clear as the node is
-pub part_clear : (periods : ℕ) (rates : Rates) (node to : ℕ) (clear : ℕ → ℕ)
-    → AreClear periods rates → to < periods → periods ≤ most_periods
-    → ((t : ℕ) → t < most_periods → clear t ≡ rates.clear node t) → IsClear (to + 1) clear
-part_clear periods rates node to clear are within few same t before =
+pub part_clear : (span : Window) (rates : Rates) (node from to : ℕ) (clear : ℕ → ℕ)
+    → IsClear span.lo span.hi (rates.clear node) → span.lo ≤ from → to ≤ span.hi
+    → span.hi < most_periods
+    → ((t : ℕ) → t < most_periods → clear t ≡ rates.clear node t) → IsClear from to clear
+part_clear span rates node from to clear are low within few same t after before =
     let here = same t (omega (arith, before, within, few)) in
     let next = same (t + 1) (omega (arith, before, within, few)) in
     subst (λ a. (a ≡ t) ⊎ ((t < a) × (a ≡ clear (t + 1)))) (sym here)
     (subst (λ b. (rates.clear node t ≡ t)
     ⊎ ((t < rates.clear node t) × (rates.clear node t ≡ b))) (sym next)
-    (are node t (omega (arith, before, within))))
+    (are t (omega (arith, low, after)) (omega (arith, before, within))))
 
 module _ (row : ℕ → Access) (rates : Rates) (cells : List (Option ℤ)) (leg : Leg) (node t : ℕ)
     (clear : ℕ → ℕ) (paid : ℕ → ℤ) (cell : ℕ → Option ℤ)

@@ -8,8 +8,10 @@ use Rattle.flow_types.specs.declared.flight.Flight.{Flight}
 use Rattle.flow_types.specs.Limits.{most_nodes, most_periods}
 use Rattle.flow_types.specs.Trips.{place_at}
 use Rattle.time_windows.specs.declared.access.Access.{Access}
+use Rattle.time_windows.specs.declared.access.Window.{Window}
 use Rattle.time_windows.specs.Boxes.{IsInWindow}
 use Rattle.flight_routes.specs.RateLists.{RateLists, place_of, rates_of}
+use Rattle.flight_routes.specs.Ready.{IsInSpan}
 use Rattle.flight_routes.specs.TripRates.{AreTripRates, arriving_cost, leaving_cost}
 use Rattle.flight_routes.proofs.LaterFacts.{summed_join}
 use Rattle.flow_types.specs.declared.parts.Parts.{Parts}
@@ -103,17 +105,17 @@ clear_by cells t place (inr past) few =
 pub price_rates : (weight : ℕ) (table : PriceTable) (parts : Parts) (number last : ℕ)
     (flight : Flight) (there : Option Flight) (row : ℕ → Access) (lists : RateLists)
     → there ≡ Some flight → last + 1 ≡ length flight.nodes
-    → parts.day.periods ≤ most_periods
+    → (span : Window) → span.hi < parts.day.periods → parts.day.periods ≤ most_periods
     → ((t : ℕ) → IsInWindow (row 0).window t → (rates_of lists).leaves t
     ≡ Some (leaving_of weight table parts number there t))
     → ((t : ℕ) → IsInWindow (row last).window t → (rates_of lists).arrives t
     ≡ Some (arriving_of weight table parts number there t))
-    → ((n t : ℕ) → 0 < n → n < last → t < parts.day.periods → (rates_of lists).paid n t
-    ≡ pos (summed (price_in table.inside (place_at flight n)) 0 t))
+    → ((n t : ℕ) → 0 < n → n < last → IsInSpan span t → (rates_of lists).paid n t
+    ≡ pos (summed (price_in table.inside (place_at flight n)) span.lo t))
     → ((t : ℕ) → t < most_periods → (rates_of lists).paid 0 t ≡ pos 0)
     → lists.clear ≡ replicate (most_nodes * most_periods) most_periods
-    → AreTripRates weight table parts number flight row (rates_of lists)
-price_rates weight table parts number last flight there row lists is end few
+    → AreTripRates weight table parts number flight row span (rates_of lists)
+price_rates weight table parts number last flight there row lists is end span day few
     leaves arrives paid first clear = record {
       leaves = λ t window. leaves t window
           ∙ ap Some (leaving_same weight table parts number flight there t is);
@@ -123,11 +125,11 @@ price_rates weight table parts number last flight there row lists is end few
           ∙ ap Some (arriving_same weight table parts number flight there t is);
       unpaid = λ t u low high. first u (omega (arith, high, few))
           ∙ sym (first t (omega (arith, low, high, few)));
-      paid = λ n t u above below low high.
+      paid = λ n t u above below from low high.
           let price = price_in table.inside (place_at flight n) in
-          let at = paid n t above (omega (arith, below, end)) (omega (arith, low, high)) in
-          let to = paid n u above (omega (arith, below, end)) high in
-          omega (arith, ints, at, to, summed_join price 0 t u (omega arith) low);
+          let at = paid n t above (omega (arith, below, end)) (from, omega (arith, low, high)) in
+          let to = paid n u above (omega (arith, below, end)) (omega (arith, from, low), high) in
+          omega (arith, ints, at, to, summed_join price span.lo t u from low);
       clear = λ n t u high.
           subst (λ cells. u ≤ get_or cells (place_of n t) most_periods) (sym clear)
           (clear_by (most_nodes * most_periods) u (place_of n t)

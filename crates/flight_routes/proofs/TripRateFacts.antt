@@ -3,7 +3,7 @@ use Rattle.std.proofs.Common.{◌≡◌, ◌⊎◌, ℕ, ◌+◌, ◌-◌, ◌<�
 use Rattle.std.proofs.lemmas.Bool.{cases_lt}
 use Rattle.std.proofs.lemmas.Bool.Decides.{nat_tests}
 use Rattle.std.proofs.lemmas.Int.{ints}
-use Rattle.std.proofs.lemmas.List.Elements.{All-head}
+use Rattle.std.proofs.lemmas.List.Elements.{All-head, All-tail}
 use Rattle.exact_sums.proofs.ProductFacts.{times-minus}
 use Rattle.flow_types.specs.declared.flight.Flight.{Flight}
 use Rattle.flow_types.specs.declared.parts.Parts.{Parts}
@@ -12,16 +12,19 @@ use Rattle.flow_types.specs.Costs.{credit_of, total_of, trip_cost}
 use Rattle.flow_types.specs.Routes.{IsLeg}
 use Rattle.flow_types.specs.Trips.{IsOnward, IsTrip, arrival_from, place_at}
 use Rattle.time_windows.specs.declared.access.Access.{Access}
+use Rattle.time_windows.specs.declared.access.Window.{Window}
 use Rattle.time_windows.specs.Boxes.{IsInWindow, IsTripInBox}
 use Rattle.flight_routes.specs.Prices.{PriceTable, price_in, stay_price, stays_price, summed, trip_price}
 use Rattle.flight_routes.specs.Rates.{Rates, value_or_zero, whole_cost}
+use Rattle.flight_routes.specs.Ready.{IsInSpan}
 use Rattle.flight_routes.specs.TripRates.{AreTripRates, arriving_cost, leaving_cost}
 use Rattle.flight_routes.proofs.TripFacts.{ClearOn, IsAllowed, ends_in, in_day, stays_cost, step_up, whole_cost_is}
 
 module _ (weight : ℕ) (table : PriceTable) (parts : Parts) (number : ℕ) (flight : Flight)
     (legs : All (IsLeg (length flight.nodes)) flight.legs) (some : 1 ≤ parts.day.periods)
-    (row : ℕ → Access) (rates : Rates)
-    (are : AreTripRates weight table parts number flight row rates) where
+    (row : ℕ → Access) (span : Window)
+    (within : (n t : ℕ) → IsInWindow (row n).window t → IsInSpan span t) (rates : Rates)
+    (are : AreTripRates weight table parts number flight row span rates) where
   all_clear : (stop : Stop) (rest : List Stop) → IsOnward parts.day.periods flight stop rest
       → ClearOn rates stop rest
   all_clear stop [] onward = tt
@@ -33,19 +36,20 @@ module _ (weight : ℕ) (table : PriceTable) (parts : Parts) (number : ℕ) (fli
 
   -- what a stay costs
   stay_is : (stop : Stop) (leaves : ℕ) → stop.node + 1 < length flight.nodes → stop.time ≤ leaves
-      → leaves < parts.day.periods → (0 < stop.node) ⊎ (stop.node ≤ 0)
+      → leaves < parts.day.periods → IsInSpan span stop.time → IsInSpan span leaves
+      → (0 < stop.node) ⊎ (stop.node ≤ 0)
       → rates.paid stop.node leaves -ℤ rates.paid stop.node stop.time
       ≡ pos (stay_price table flight stop leaves)
-  stay_is stop leaves within later day (inl above) =
+  stay_is stop leaves inside later day from to (inl above) =
       let is : stay_price table flight stop leaves
       ≡ summed (price_in table.inside (place_at flight stop.node)) stop.time leaves =
       charged stop leaves (grind (arith, nat_tests)) in
-      omega (arith, ints, are.paid stop.node stop.time leaves above within later day, is)
+      omega (arith, ints, are.paid stop.node stop.time leaves above inside from.0 later to.1, is)
     where
       charged : (s : Stop) (u : ℕ) → (s.node == 0) ≡ false → stay_price table flight s u
           ≡ summed (price_in table.inside (place_at flight s.node)) s.time u
       charged s u e = rw e refl
-  stay_is stop leaves within later day (inr at_first) =
+  stay_is stop leaves inside later day from to (inr at_first) =
       let is : stay_price table flight stop leaves ≡ 0 =
       free stop leaves (grind (arith, nat_tests)) in
       let zero_is : stop.node ≡ 0 = omega arith in
@@ -58,16 +62,23 @@ module _ (weight : ℕ) (table : PriceTable) (parts : Parts) (number : ℕ) (fli
       free s u e = rw e refl
 
   stays_are : (stop : Stop) (rest : List Stop) → IsOnward parts.day.periods flight stop rest
+      → All (λ (s : Stop). IsInWindow (row s.node).window s.time) (stop ∷ rest)
       → stays_cost rates stop rest ≡ pos (stays_price table flight stop rest)
-  stays_are stop [] onward = refl
-  stays_are stop (next ∷ rest) onward =
+  stays_are stop [] onward windows = refl
+  stays_are stop (next ∷ rest) onward windows =
       let up = step_up flight legs stop next onward.0 in
+      let here = All-head (λ (s : Stop). IsInWindow (row s.node).window s.time) stop (next ∷ rest)
+      windows in
+      let later = All-tail (λ (s : Stop). IsInWindow (row s.node).window s.time) stop (next ∷ rest)
+      windows in
+      let there = All-head (λ (s : Stop). IsInWindow (row s.node).window s.time) next rest later in
       omega (
         arith,
         ints,
-        stays_are next rest onward.2,
+        stays_are next rest onward.2 later,
         stay_is stop next.time (omega (arith, up.0, up.1))
             (omega (arith, onward.0.4.least)) (in_day parts.day.periods flight next some onward.1)
+            (within stop.node stop.time here) (within next.node next.time there)
             (cases_lt 0 stop.node),
       )
 
@@ -100,7 +111,7 @@ module _ (weight : ℕ) (table : PriceTable) (parts : Parts) (number : ℕ) (fli
     priced_is =
         let first = ap value_or_zero leaves_is in
         let last = ap value_or_zero arrives_is in
-        let stays = stays_are stop rest trip.2 in
+        let stays = stays_are stop rest trip.2 inside.windows in
         let both = times-minus weight
         (total_of parts.tables flight.cost (arrival_from stop rest - flight.sa))
         (credit_of parts.tables flight.cost (stop.time - flight.sd)) in

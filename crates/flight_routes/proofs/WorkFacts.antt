@@ -15,8 +15,9 @@ use Rattle.flow_types.specs.Limits.{most_nodes, most_periods}
 use Rattle.flow_types.specs.Trips.{IsTrip}
 use Rattle.flow_types.specs.Valid.{IsFlight, IsScenario}
 use Rattle.time_windows.specs.declared.access.Access.{Access}
+use Rattle.time_windows.specs.declared.access.Window.{Window}
 use Rattle.time_windows.specs.declared.ends.End.TheVariants.{Arrival, Departure}
-use Rattle.time_windows.specs.Boxes.{Box, IsBoxOf, IsInWindow, IsProper, IsTripInBox, IsWindowWithin, root_access, root_box, root_row}
+use Rattle.time_windows.specs.Boxes.{Box, IsBoxOf, IsInWindow, IsTripInBox, IsWindowWithin, root_access, root_box, root_row}
 use Rattle.time_windows.proofs.BoxFacts.{trip_in_same}
 use Rattle.flight_routes.specs.Filling.{AreSmallAt, IsFitTable, IsPriceTable, OnlyEnd}
 use Rattle.flight_routes.specs.FitRates.{AreFitRates}
@@ -27,7 +28,7 @@ use Rattle.flight_routes.specs.Prices.{PriceTable, priced_cost, priced_cost_of}
 use Rattle.flight_routes.specs.RateLists.{IsBlank, RateLists, place_of, rates_of}
 use Rattle.flight_routes.specs.Rates.{AreClear, IsWay, Rates, whole_cost}
 use Rattle.exact_sums.specs.Near.{IsNear}
-use Rattle.flight_routes.specs.Ready.{AreRising, AreSmall, AreWindows, IsReady, IsUpward, row_of}
+use Rattle.flight_routes.specs.Ready.{AreRising, AreSmall, AreWindows, IsInSpan, IsReady, IsUpward, row_of}
 use Rattle.flight_routes.specs.TripOrder.{IsNoLater}
 use Rattle.flight_routes.specs.TripRates.{AreTripRates}
 use Rattle.flight_routes.proofs.FitFacts.{allowed_cost, allowed_fits, fits_allowed}
@@ -77,8 +78,9 @@ module _ (parts : Parts) (valid : IsScenario parts) (box : Box) (of : IsBoxOf pa
   }
 
   -- at the rates of prices
-  module _ (weight : ℕ) (table : PriceTable) (rates : Rates)
-      (are : AreTripRates weight table parts number flight row rates) where
+  module _ (weight : ℕ) (table : PriceTable) (span : Window)
+      (within : (n t : ℕ) → IsInWindow (row n).window t → IsInSpan span t) (rates : Rates)
+      (are : AreTripRates weight table parts number flight row span rates) where
     priced_to : (stops : List Stop) → IsWay flight row rates stops
         → IsTripIn parts box number stops
         × (priced_cost weight table parts number stops ≡ whole_cost rates stops)
@@ -89,7 +91,7 @@ module _ (parts : Parts) (valid : IsScenario parts) (box : Box) (of : IsBoxOf pa
           row_inside (stop ∷ rest) trip.0 trip.1,
           ap (λ f. priced_cost_of weight table parts number f (stop ∷ rest)) here
               ∙ sym (priced_is weight table parts number flight the_flight.route.each_leg
-              valid.day.periods_from row rates are stop rest trip.0 trip.1),
+              valid.day.periods_from row span within rates are stop rest trip.0 trip.1),
         )
 
     priced_back : (stops : List Stop) → IsTripIn parts box number stops
@@ -100,7 +102,7 @@ module _ (parts : Parts) (valid : IsScenario parts) (box : Box) (of : IsBoxOf pa
         trip_way parts.day.periods flight row the_flight.route.each_leg row_of_box rates
         (stop ∷ rest) trip.0 trip.1
         (all_allowed weight table parts number flight the_flight.route.each_leg
-        valid.day.periods_from row rates are stop rest trip.0 trip.1)
+        valid.day.periods_from row span within rates are stop rest trip.0 trip.1)
 
     pub priced_least : (least : Option ℤ)
         → IsLeast (IsWay flight row rates) (whole_cost rates) least
@@ -116,8 +118,9 @@ module _ (parts : Parts) (valid : IsScenario parts) (box : Box) (of : IsBoxOf pa
         (whole_cost rates) (priced_cost weight table parts number) priced_to priced_back IsNoLater
 
   -- beside the loads
-  module _ (trips : List (List Stop)) (long : number < length trips) (rates : Rates)
-      (are : AreFitRates parts trips number flight row rates) where
+  module _ (trips : List (List Stop)) (long : number < length trips) (span : Window)
+      (within : (n t : ℕ) → IsInWindow (row n).window t → IsInSpan span t) (rates : Rates)
+      (are : AreFitRates parts trips number flight row span rates) where
     fit_to : (stops : List Stop) → IsWay flight row rates stops
         → IsTripThatFits parts box trips number stops
         × (trip_cost_at parts.tables (slice_get parts.flights number) stops
@@ -131,13 +134,12 @@ module _ (parts : Parts) (valid : IsScenario parts) (box : Box) (of : IsBoxOf pa
             fits = λ f there.
                 let e : flight ≡ f = cc in
                 subst (λ (g : Flight). FitsAs parts trips number g (stop ∷ rest)) e
-                (allowed_fits parts valid trips number flight here long row rates are stop rest
-                trip.0
-                trip.1 trip.2);
+                (allowed_fits parts valid trips number flight here long row span within rates are
+                stop rest trip.0 trip.1 trip.2);
           },
           ap (λ f. trip_cost_at parts.tables f (stop ∷ rest)) here
-              ∙ sym (allowed_cost parts valid trips number flight here long row rates are stop rest
-              trip.0 trip.1 trip.2),
+              ∙ sym (allowed_cost parts valid trips number flight here long row span within rates
+              are stop rest trip.0 trip.1 trip.2),
         )
 
     fit_back : (stops : List Stop)
@@ -148,8 +150,8 @@ module _ (parts : Parts) (valid : IsScenario parts) (box : Box) (of : IsBoxOf pa
         let trip = inside_row (stop ∷ rest) is.inside in
         trip_way parts.day.periods flight row the_flight.route.each_leg row_of_box rates
         (stop ∷ rest) trip.0 trip.1
-        (fits_allowed parts valid trips number flight here long row rates are stop rest trip.0
-        trip.1 (is.fits flight here))
+        (fits_allowed parts valid trips number flight here long row span within rates are stop rest
+        trip.0 trip.1 (is.fits flight here))
 
     pub fit_least : (least : Option ℤ)
         → IsLeast (IsWay flight row rates) (whole_cost rates) least
@@ -171,18 +173,19 @@ module _ (parts : Parts) (valid : IsScenario parts) (box : Box) (of : IsBoxOf pa
 
   -- under prices, beside the loads
   module _ (weight : ℕ) (table : PriceTable) (trips : List (List Stop))
-      (long : number < length trips) (fit price rates : Rates)
-      (fit_are : AreFitRates parts trips number flight row fit)
-      (price_are : AreTripRates weight table parts number flight row price)
+      (long : number < length trips) (span : Window)
+      (within : (n t : ℕ) → IsInWindow (row n).window t → IsInSpan span t)
+      (fit price rates : Rates) (fit_are : AreFitRates parts trips number flight row span fit)
+      (price_are : AreTripRates weight table parts number flight row span price)
       (priced_fit_are : ArePricedFitRates flight row fit price rates) where
     priced_fit_to : (stops : List Stop) → IsWay flight row rates stops
         → IsTripThatFits parts box trips number stops
         × (priced_cost weight table parts number stops ≡ whole_cost rates stops)
     priced_fit_to stops way =
-        let fits = (fit_to trips long fit fit_are stops
+        let fits = (fit_to trips long span within fit fit_are stops
         (priced_fit_fits flight row fit price rates priced_fit_are stops way)).0 in
-        let cost = (priced_to weight table price price_are stops
-        (priced_back weight table price price_are stops fits.inside)).1 in
+        let cost = (priced_to weight table span within price price_are stops
+        (priced_back weight table span within price price_are stops fits.inside)).1 in
         (fits, cost ∙ sym (priced_fit_cost flight row fit price rates priced_fit_are stops way))
 
     priced_fit_back : (stops : List Stop) → IsTripThatFits parts box trips number stops
@@ -191,7 +194,7 @@ module _ (parts : Parts) (valid : IsScenario parts) (box : Box) (of : IsBoxOf pa
         fits_guide flight row fit price rates priced_fit_are
         (λ t window. there_if (price.leaves t) _ (price_are.leaves t window))
         (λ n t last window. there_if (price.arrives t) _ (price_are.arrives n t last window))
-        stops (fit_back trips long fit fit_are stops is)
+        stops (fit_back trips long span within fit fit_are stops is)
 
     pub priced_fit_least : (least : Option ℤ)
         → IsLeast (IsWay flight row rates) (whole_cost rates) least
@@ -214,34 +217,16 @@ read_replicate n k x (inr past) =
     let long = length-replicate n x in
     get_or_past (replicate n x) k x (omega (arith, long, past))
 
-read_past : (n : ℕ) (cells : List ℕ) (k : ℕ) → length cells ≡ n → n ≤ k
-    → get_or cells k most_periods ≡ most_periods
-read_past n cells k long past = get_or_past cells k most_periods (omega (arith, long, past))
-
 -- the tables are of rates that least ways may be found at
-price_clear : (lists : RateLists) (periods : ℕ) → periods ≤ most_periods → IsPriceTable lists
-    → AreClear periods (rates_of lists)
-price_clear lists periods few table n t day =
+price_clear : (flight : Flight) (lists : RateLists) (span : Window) → span.hi < most_periods
+    → IsPriceTable lists → AreClear flight span (rates_of lists)
+price_clear flight lists span few table n inside t after day =
     let cells = most_nodes * most_periods in
     let at = λ (k : ℕ). ap (λ c. get_or c k most_periods) table.clear
     ∙ read_replicate cells k most_periods (cases_lt k cells) in
     let one : get_or lists.clear (place_of n t) most_periods ≡ most_periods = at (place_of n t) in
     let two : get_or lists.clear (place_of n (t + 1)) most_periods ≡ most_periods =
     at (place_of n (t + 1)) in
-    inr (omega (arith, one, few, day), one ∙ sym two)
-
-fit_clear_by : (lists : RateLists) (n : ℕ) → lists.periods ≤ most_periods → IsFitTable lists
-    → (n < most_nodes) ⊎ (most_nodes ≤ n) → (t : ℕ) → t + 1 < lists.periods
-    → ((rates_of lists).clear n t ≡ t)
-    ⊎ ((t < (rates_of lists).clear n t)
-    × ((rates_of lists).clear n t ≡ (rates_of lists).clear n (t + 1)))
-fit_clear_by lists n few table (inl within) t day = table.clear n within t day
-fit_clear_by lists n few table (inr past) t day =
-    let one : get_or lists.clear (place_of n t) most_periods ≡ most_periods =
-    read_past (most_nodes * most_periods) lists.clear (place_of n t) table.cells (omega arith) in
-    let two : get_or lists.clear (place_of n (t + 1)) most_periods ≡ most_periods =
-    read_past (most_nodes * most_periods) lists.clear (place_of n (t + 1)) table.cells
-    (omega arith) in
     inr (omega (arith, one, few, day), one ∙ sym two)
 
 free_is : (lists : RateLists) → IsFitTable lists → (n t : ℕ) → (rates_of lists).paid n t ≡ pos 0
@@ -257,40 +242,30 @@ free_small lists table n t =
     (record { low = omega (arith, ints); high = omega (arith, ints) })
 
 -- what is paid at a node never falls
-pub fit_rising : (flight : Flight) (periods : ℕ) (lists : RateLists) → IsFitTable lists
-    → AreRising flight periods (rates_of lists)
-fit_rising flight periods lists table n t u inside later day =
+pub fit_rising : (flight : Flight) (span : Window) (lists : RateLists) → IsFitTable lists
+    → AreRising flight span (rates_of lists)
+fit_rising flight span lists table n t u inside from later to =
     omega (arith, ints, free_is lists table n t, free_is lists table n u)
 
-rising_by : (weight : ℕ) (table : PriceTable) (parts : Parts) (number : ℕ) (flight : Flight)
-    (row : ℕ → Access) (rates : Rates)
-    → AreTripRates weight table parts number flight row rates
-    → AreRising flight parts.day.periods rates
-rising_by weight table parts number flight row rates are zero t u inside later day =
-    omega (arith, ints, are.unpaid t u later day)
-rising_by weight table parts number flight row rates are (suc n) t u inside later day =
-    omega (arith, ints, are.paid (suc n) t u (omega arith) inside later day)
-
 pub price_rising : (weight : ℕ) (table : PriceTable) (parts : Parts) (number : ℕ)
-    (flight : Flight) (row : ℕ → Access) (rates : Rates) (periods : ℕ)
-    → periods ≡ parts.day.periods → AreTripRates weight table parts number flight row rates
-    → AreRising flight periods rates
-price_rising weight table parts number flight row rates periods same are =
-    subst (λ p. AreRising flight p rates) (sym same)
-    (rising_by weight table parts number flight row rates are)
+    (flight : Flight) (row : ℕ → Access) (span : Window) (rates : Rates)
+    → span.hi < parts.day.periods → AreTripRates weight table parts number flight row span rates
+    → AreRising flight span rates
+price_rising weight table parts number flight row span rates day are zero t u inside from later to =
+    omega (arith, ints, are.unpaid t u later (omega (arith, to, day)))
+price_rising weight table parts number flight row span rates day are (suc n) t u inside from later
+    to =
+    omega (arith, ints, are.paid (suc n) t u (omega arith) inside from later to)
 
 module _ (parts : Parts) (valid : IsScenario parts) (box : Box) (of : IsBoxOf parts box)
     (number : ℕ) (flight : Flight) (here : slice_get parts.flights number ≡ Some flight)
-    (row : ℕ → Access) (same : (n : ℕ) → row n ≡ box number n)
-    (proper : (n : ℕ) → IsProper (row n).window) where
-  pub day_windows : AreWindows parts.day.periods row
-  day_windows = record {
-    proper = proper;
-    within = λ n t window.
-        in_day parts.day.periods flight (record { node = n; time = t }) valid.day.periods_from
-        (in_hours parts.day.periods flight (record { node = n; time = t }) (row n).window
-        ((row_of_box parts valid box of number flight here row same).windows n) window);
-  }
+    (row : ℕ → Access) (same : (n : ℕ) → row n ≡ box number n) where
+  -- windows within the day
+  pub day_windows : (n t : ℕ) → IsInWindow (row n).window t → t < parts.day.periods
+  day_windows n t window =
+      in_day parts.day.periods flight (record { node = n; time = t }) valid.day.periods_from
+      (in_hours parts.day.periods flight (record { node = n; time = t }) (row n).window
+      ((row_of_box parts valid box of number flight here row same).windows n) window)
 
   network : IsUpward flight
   network =
@@ -301,56 +276,34 @@ module _ (parts : Parts) (valid : IsScenario parts) (box : Box) (of : IsBoxOf pa
         legs = route.each_leg;
       }
 
-  pub price_ready : (lists : RateLists) → lists.periods ≡ parts.day.periods → IsPriceTable lists
-      → IsReady flight row lists.periods (rates_of lists)
-  price_ready lists is table = record {
-    day = record {
-      few = omega (arith, is, valid.day.periods_to);
-      clear = price_clear lists lists.periods (omega (arith, is, valid.day.periods_to)) table;
-      small = record { leaves = table.leaves; arrives = table.arrives; paid = table.paid };
-    };
-    windows = subst (λ p. AreWindows p row) (sym is) day_windows;
-    network = network;
-  }
+  -- what a table is ready for, told of the span that it was filled for
+  pub ready : (lists : RateLists) (span : Window) → lists.span ≡ span → AreWindows span row
+      → span.hi < most_periods → AreClear flight span (rates_of lists)
+      → AreSmall (rates_of lists) → IsReady flight row lists.span (rates_of lists)
+  ready lists span is windows few clear small =
+      subst (λ s. IsReady flight row s (rates_of lists)) (sym is) (record {
+        day = record { few = few; small = small };
+        clear = clear;
+        windows = windows;
+        network = network;
+      })
 
-  pub most_windows : AreWindows most_periods row
-  most_windows = record {
-    proper = proper;
-    within = λ n t window.
-        let day = day_windows.within n t window in
-        let few = valid.day.periods_to in
-        omega (arith, day, few);
-  }
+  pub price_ready : (lists : RateLists) (span : Window) → lists.span ≡ span → AreWindows span row
+      → span.hi < most_periods → IsPriceTable lists
+      → IsReady flight row lists.span (rates_of lists)
+  price_ready lists span is windows few table =
+      ready lists span is windows few (price_clear flight lists span few table)
+      (record { leaves = table.leaves; arrives = table.arrives; paid = table.paid })
 
-  pub priced_fit_ready : (lists : RateLists) → lists.periods ≡ parts.day.periods
-      → AreClear lists.periods (rates_of lists) → AreSmall (rates_of lists)
-      → IsReady flight row lists.periods (rates_of lists)
-  priced_fit_ready lists is clear small = record {
-    day = record {
-      few = omega (arith, is, valid.day.periods_to);
-      clear = clear;
-      small = small;
-    };
-    windows = subst (λ p. AreWindows p row) (sym is) day_windows;
-    network = network;
-  }
-
-  pub fit_ready : (lists : RateLists) → lists.periods ≡ parts.day.periods → IsFitTable lists
-      → IsReady flight row lists.periods (rates_of lists)
-  fit_ready lists is table = record {
-    day = record {
-      few = omega (arith, is, valid.day.periods_to);
-      clear = λ n t day'. fit_clear_by lists n (omega (arith, is, valid.day.periods_to)) table
-          (cases_lt n most_nodes) t day';
-      small = record {
+  pub fit_ready : (lists : RateLists) (span : Window) → lists.span ≡ span → AreWindows span row
+      → span.hi < most_periods → AreClear flight span (rates_of lists) → IsFitTable lists
+      → IsReady flight row lists.span (rates_of lists)
+  fit_ready lists span is windows few clear table =
+      ready lists span is windows few clear (record {
         leaves = table.leaves;
         arrives = table.arrives;
         paid = free_small lists table;
-      };
-    };
-    windows = subst (λ p. AreWindows p row) (sym is) day_windows;
-    network = network;
-  }
+      })
 
 -- The rates of prices where trips fit: the departures, then the arrivals are closed, and then what
 -- is clear is taken from the table beside the loads.
@@ -385,11 +338,11 @@ module _ (flight : Flight) (row : ℕ → Access) (last : ℕ) (end_is : last + 
         ap (λ (xs : List ℕ). get_or xs (place_of n t) most_periods) exchanged.clear;
   }
 
-  pub priced_fit_rising : (periods : ℕ) → AreRising flight periods (rates_of first)
-      → AreRising flight periods (rates_of guide)
-  priced_fit_rising periods rising =
-      subst (λ (paid : List ℤ). (n t u : ℕ) → n + 1 < length flight.nodes → t ≤ u → u < periods
-      → get_or paid (place_of n t) (pos 0) ≤ℤ get_or paid (place_of n u) (pos 0))
+  pub priced_fit_rising : (span : Window) → AreRising flight span (rates_of first)
+      → AreRising flight span (rates_of guide)
+  priced_fit_rising span rising =
+      subst (λ (paid : List ℤ). (n t u : ℕ) → n + 1 < length flight.nodes → span.lo ≤ t → t ≤ u
+      → u ≤ span.hi → get_or paid (place_of n t) (pos 0) ≤ℤ get_or paid (place_of n u) (pos 0))
       (sym paid_same) rising
 
   pub priced_fit_small : IsPriceTable first → (AreSmallAt Departure first → AreSmallAt Departure closed_one)
@@ -409,17 +362,51 @@ module _ (flight : Flight) (row : ℕ → Access) (last : ℕ) (end_is : last + 
         (sym paid_same) table.paid;
   }
 
-  pub priced_fit_clear : (periods : ℕ) → fits.periods ≡ periods → periods ≤ most_periods
-      → IsFitTable fits → AreClear periods (rates_of guide)
-  priced_fit_clear periods same few table =
-      subst (λ (xs : List ℕ). (n t : ℕ) → t + 1 < periods
-      → (get_or xs (place_of n t) most_periods ≡ t)
+  -- both tables, when what is clear is given back
+  module _ (final rest : RateLists) (again : AreExchanged guide other final rest) where
+    pub price_table_back : IsPriceTable first
+        → (AreSmallAt Departure first → AreSmallAt Departure closed_one)
+        → (AreSmallAt Arrival closed_one → AreSmallAt Arrival closed_both) → IsPriceTable final
+    price_table_back table within within_too =
+        let small = priced_fit_small table within within_too in
+        let paid = again.paid ∙ paid_same in
+        record {
+          free = subst (λ (xs : List ℤ). (t : ℕ) → t < most_periods
+              → get_or xs (place_of 0 t) (pos 0) ≡ pos 0) (sym paid) table.free;
+          clear = again.clear ∙ exchanged.back ∙ two.clear ∙ one.clear ∙ table.clear;
+          leaves = subst (λ (xs : List (Option ℤ)). (t : ℕ)
+              → IfSome (get_or xs t None) (IsNear (2 ^ 110))) (sym again.leaves) small.leaves;
+          arrives = subst (λ (xs : List (Option ℤ)). (t : ℕ)
+              → IfSome (get_or xs t None) (IsNear (2 ^ 110))) (sym again.arrives) small.arrives;
+          paid = subst (λ (xs : List ℤ). (n t : ℕ)
+              → IsNear (2 ^ 100) (get_or xs (place_of n t) (pos 0))) (sym paid) table.paid;
+        }
+
+    pub fit_table_back : IsFitTable fits → IsFitTable rest
+    fit_table_back table =
+        let clear = again.back ∙ exchanged.clear in
+        record {
+          cells = ap length clear ∙ table.cells;
+          free = again.other_paid ∙ exchanged.other_paid ∙ table.free;
+          first = subst (λ (xs : List ℕ). (t : ℕ) → t < most_periods
+              → get_or xs (place_of 0 t) most_periods ≡ most_periods) (sym clear) table.first;
+          leaves = subst (λ (xs : List (Option ℤ)). (t : ℕ)
+              → IfSome (get_or xs t None) (IsNear (2 ^ 110)))
+              (sym (again.other_leaves ∙ exchanged.other_leaves)) table.leaves;
+          arrives = subst (λ (xs : List (Option ℤ)). (t : ℕ)
+              → IfSome (get_or xs t None) (IsNear (2 ^ 110)))
+              (sym (again.other_arrives ∙ exchanged.other_arrives)) table.arrives;
+        }
+
+  pub priced_fit_clear : (span : Window) → AreClear flight span (rates_of fits)
+      → AreClear flight span (rates_of guide)
+  priced_fit_clear span clear =
+      subst (λ (xs : List ℕ). (n : ℕ) → n + 1 < length flight.nodes → (t : ℕ) → span.lo ≤ t
+      → t < span.hi → (get_or xs (place_of n t) most_periods ≡ t)
       ⊎ ((t < get_or xs (place_of n t) most_periods)
       × (get_or xs (place_of n t) most_periods
       ≡ get_or xs (place_of n (t + 1)) most_periods)))
-      (sym exchanged.clear)
-      (subst (λ (p : ℕ). AreClear p (rates_of fits)) same
-      (λ n. fit_clear_by fits n (omega (arith, same, few)) table (cases_lt n most_nodes)))
+      (sym exchanged.clear) clear
 
 -- a whole vector that was written through a slice
 pub written : {X : Type 0} (len : ℕ) (news items read : List X)
@@ -432,10 +419,11 @@ pub row_written : (read news : List Access) (row : ℕ → Access) → read ≡ 
     → ((n : ℕ) → row_of news n ≡ row n) → (n : ℕ) → row_of read n ≡ row n
 row_written read news row is same n = ap (λ xs. row_of xs n) is ∙ same n
 
-pub proper_written : (read news : List Access) → read ≡ news
-    → ((n : ℕ) → IsProper (row_of news n).window) → (n : ℕ) → IsProper (row_of read n).window
-proper_written read news is each n =
-    subst (λ xs. IsProper (row_of xs n).window) (sym is) (each n)
+pub windows_written : (read news : List Access) (at span : Window) → read ≡ news → at ≡ span
+    → AreWindows span (row_of news) → AreWindows at (row_of read)
+windows_written read news at span is same windows =
+    subst (λ (s : Window). AreWindows s (row_of read)) (sym same)
+    (subst (λ xs. AreWindows span (row_of xs)) (sym is) windows)
 
 -- what a search for the least answers, with the first of those that reach it
 pub match_first : {A : Type 0} (P Q : A → Type 0) (cost price : A → ℤ)
@@ -476,8 +464,8 @@ nothing_small value is =
     subst (IsNear (2 ^ 100)) (sym is)
     (record { low = omega (arith, ints); high = omega (arith, ints) })
 
-pub blank_price : (periods : ℕ) (lists : RateLists) → IsBlank periods lists → IsPriceTable lists
-blank_price periods lists blank = record {
+pub blank_price : (lists : RateLists) → IsBlank lists → IsPriceTable lists
+blank_price lists blank = record {
   free = λ t day. blank_paid lists.paid blank.paid (place_of 0 t);
   clear = blank.clear;
   leaves = blank_small lists.leaves blank.leaves;
@@ -486,18 +474,11 @@ blank_price periods lists blank = record {
       (blank_paid lists.paid blank.paid (place_of n t));
 }
 
-pub blank_fit : (periods : ℕ) (lists : RateLists) → periods ≤ most_periods
-    → IsBlank periods lists → IsFitTable lists
-blank_fit periods lists few blank = record {
+pub blank_fit : (lists : RateLists) → IsBlank lists → IsFitTable lists
+blank_fit lists blank = record {
   cells = ap length blank.clear ∙ length-replicate (most_nodes * most_periods) most_periods;
   free = blank.paid;
   first = λ t day. blank_clear lists.clear blank.clear (place_of 0 t);
-  clear = λ n within t day.
-      let one : get_or lists.clear (place_of n t) most_periods ≡ most_periods =
-      blank_clear lists.clear blank.clear (place_of n t) in
-      let two : get_or lists.clear (place_of n (t + 1)) most_periods ≡ most_periods =
-      blank_clear lists.clear blank.clear (place_of n (t + 1)) in
-      inr (omega (arith, one, few, day, blank.periods), one ∙ sym two);
   leaves = blank_small lists.leaves blank.leaves;
   arrives = blank_small lists.arrives blank.arrives;
 }

@@ -3,21 +3,20 @@ use Rattle.std.specs.Prelude.{◌≡◌, ◌≢◌, ◌<◌, ℕ, ◌*◌, ◌^�
 use Rattle.flow_types.specs.Limits.{most_nodes, most_periods}
 use Rattle.time_windows.specs.declared.ends.End.{End}
 use Rattle.time_windows.specs.declared.ends.End.TheVariants.{Arrival, Departure}
-use Rattle.flight_routes.specs.FitTimes.{IsClearAt}
 use Rattle.flight_routes.specs.RateLists.{RateLists, rates_of}
 use Rattle.flight_routes.specs.Rates.{rate_at}
 use Rattle.exact_sums.specs.Near.{IsNear}
 
 -- what leaving costs, and nothing else
 pub record OnlyLeaves (old new : RateLists) : Type 0 where
-  pub periods : new.periods ≡ old.periods
+  pub span : new.span ≡ old.span
   pub arrives : new.arrives ≡ old.arrives
   pub paid : new.paid ≡ old.paid
   pub clear : new.clear ≡ old.clear
 
 -- what arriving costs, and nothing else
 pub record OnlyArrives (old new : RateLists) : Type 0 where
-  pub periods : new.periods ≡ old.periods
+  pub span : new.span ≡ old.span
   pub leaves : new.leaves ≡ old.leaves
   pub paid : new.paid ≡ old.paid
   pub clear : new.clear ≡ old.clear
@@ -28,7 +27,7 @@ OnlyEnd Arrival old new = OnlyArrives old new
 
 -- what being at one node has cost, and nothing else
 pub record OnlyPaid (node : ℕ) (old new : RateLists) : Type 0 where
-  pub periods : new.periods ≡ old.periods
+  pub span : new.span ≡ old.span
   pub leaves : new.leaves ≡ old.leaves
   pub arrives : new.arrives ≡ old.arrives
   pub clear : new.clear ≡ old.clear
@@ -37,7 +36,7 @@ pub record OnlyPaid (node : ℕ) (old new : RateLists) : Type 0 where
 
 -- what being at nodes has cost, and nothing else
 pub record OnlyStays (old new : RateLists) : Type 0 where
-  pub periods : new.periods ≡ old.periods
+  pub span : new.span ≡ old.span
   pub leaves : new.leaves ≡ old.leaves
   pub arrives : new.arrives ≡ old.arrives
   pub clear : new.clear ≡ old.clear
@@ -45,7 +44,7 @@ pub record OnlyStays (old new : RateLists) : Type 0 where
 -- how long one node is clear, and nothing else
 pub record OnlyClear (node : ℕ) (old new : RateLists) : Type 0 where
   pub cells : length new.clear ≡ length old.clear
-  pub periods : new.periods ≡ old.periods
+  pub span : new.span ≡ old.span
   pub leaves : new.leaves ≡ old.leaves
   pub arrives : new.arrives ≡ old.arrives
   pub paid : new.paid ≡ old.paid
@@ -81,6 +80,5 @@ pub record IsFitTable (lists : RateLists) : Type 0 where
   pub cells : length lists.clear ≡ most_nodes * most_periods
   pub free : lists.paid ≡ replicate (most_nodes * most_periods) (pos 0)
   pub first : (t : ℕ) → t < most_periods → (rates_of lists).clear 0 t ≡ most_periods
-  pub clear : (n : ℕ) → n < most_nodes → IsClearAt lists.periods n (rates_of lists)
   pub leaves : AreLeavesSmall lists
   pub arrives : AreArrivesSmall lists

@@ -11,6 +11,7 @@ use Rattle.flow_types.specs.Costs.{credit_of, total_of}
 use Rattle.flow_types.specs.Counts.{arrivals_at, departures_at, occupancy_at}
 use Rattle.flow_types.specs.Trips.{arrival_of, departure_of, place_at}
 use Rattle.time_windows.specs.declared.access.Access.{Access}
+use Rattle.time_windows.specs.declared.access.Window.{Window}
 use Rattle.time_windows.specs.Boxes.{IsInWindow}
 use Rattle.flight_routes.specs.Rates.{Rates}
 
@@ -54,7 +55,7 @@ IsGiven None May value = May → ⊥
 IsGiven (Some given) May value = May × (given ≡ value)
 
 pub record AreFitRates (parts : Parts) (trips : List (List Stop)) (number : ℕ) (flight : Flight)
-    (row : ℕ → Access) (rates : Rates) : Type 0 where
+    (row : ℕ → Access) (span : Window) (rates : Rates) : Type 0 where
   pub leaves : (t : ℕ) → IsInWindow (row 0).window t
       → IsGiven (rates.leaves t) (MayLeave parts trips number flight t)
       (pos 0 -ℤ credit_of parts.tables flight.cost (t - flight.sd))
@@ -63,9 +64,9 @@ pub record AreFitRates (parts : Parts) (trips : List (List Stop)) (number : ℕ)
       (total_of parts.tables flight.cost (t - flight.sa))
   pub paid : (n t : ℕ) → rates.paid n t ≡ pos 0
   pub first : (t u : ℕ) → t ≤ u → u < parts.day.periods → u ≤ rates.clear 0 t
-  pub stays : (n t u : ℕ) → 0 < n → n + 1 < length flight.nodes → t ≤ u → u < parts.day.periods
-      → u ≤ rates.clear n t
+  pub stays : (n t u : ℕ) → 0 < n → n + 1 < length flight.nodes → span.lo ≤ t → t ≤ u
+      → u ≤ span.hi → u ≤ rates.clear n t
       → (p : ℕ) → t ≤ p → p < u → MayStay parts trips (place_at flight n) p
-  pub clear : (n t u : ℕ) → 0 < n → n + 1 < length flight.nodes → t ≤ u → u < parts.day.periods
-      → ((p : ℕ) → t ≤ p → p < u → MayStay parts trips (place_at flight n) p)
+  pub clear : (n t u : ℕ) → 0 < n → n + 1 < length flight.nodes → span.lo ≤ t → t ≤ u
+      → u ≤ span.hi → ((p : ℕ) → t ≤ p → p < u → MayStay parts trips (place_at flight n) p)
       → u ≤ rates.clear n t

@@ -8,6 +8,7 @@ use Rattle.flow_types.specs.declared.place.CapKind.TheVariants as kind
 use Rattle.flow_types.specs.Capacities.{capacity_of}
 use Rattle.plan_rules.specs.Tally.{Tally}
 use Rattle.plan_rules.specs.Loads.{load_at}
+use Rattle.time_windows.specs.declared.access.Window.{Window}
 use Rattle.time_windows.specs.declared.ends.End.{End}
 use Rattle.time_windows.specs.declared.ends.End.TheVariants.{Arrival, Departure}
 use Rattle.flight_routes.specs.Ends.{kind_at}
@@ -36,13 +37,14 @@ abbrev pub fit_value : End → List CostTable → Option Flight → ℕ → ℤ
 fit_value Departure tables flight time = pos 0 -ℤ credit_then tables flight time
 fit_value Arrival tables flight time = total_then tables flight time
 
--- the first period from one on without room in the sector, or a number past the day
-pub record IsFirstFull (parts : Parts) (loads : Tally) (place time first : ℕ) : Type 0 where
+-- the first period from one on without room in the sector, or a number past the last one
+pub record IsFirstFull (parts : Parts) (loads : Tally) (place last time first : ℕ)
+    : Type 0 where
   pub late : time ≤ first
-  pub free : (p : ℕ) → time ≤ p → p < first → p < parts.day.periods
+  pub free : (p : ℕ) → time ≤ p → p < first → p ≤ last
       → HasSpace parts loads kind.Sector place p
-  pub full : first < parts.day.periods → HasSpace parts loads kind.Sector place first → ⊥
+  pub full : first ≤ last → HasSpace parts loads kind.Sector place first → ⊥
 
 -- of one node: the first full period is the period, or that of the next one
-abbrev pub IsClearAt : ℕ → ℕ → Rates → Type 0
-IsClearAt periods node rates = IsClear periods (rates.clear node)
+abbrev pub IsClearAt : Window → ℕ → Rates → Type 0
+IsClearAt span node rates = IsClear span.lo span.hi (rates.clear node)

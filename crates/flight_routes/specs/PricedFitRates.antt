@@ -15,11 +15,11 @@ if_both (Some fit) value = value
 pub record AreExchanged (old other new now : RateLists) : Type 0 where
   pub clear : new.clear ≡ other.clear
   pub back : now.clear ≡ old.clear
-  pub periods : new.periods ≡ old.periods
+  pub span : new.span ≡ old.span
   pub leaves : new.leaves ≡ old.leaves
   pub arrives : new.arrives ≡ old.arrives
   pub paid : new.paid ≡ old.paid
-  pub other_periods : now.periods ≡ other.periods
+  pub other_span : now.span ≡ other.span
   pub other_leaves : now.leaves ≡ other.leaves
   pub other_arrives : now.arrives ≡ other.arrives
   pub other_paid : now.paid ≡ other.paid

@@ -1,12 +1,13 @@
 -- What a table of rates holds, and the rates that it is read as.
-use Rattle.std.specs.Prelude.{◌≡◌, ℕ, ◌+◌, ◌*◌, ◌≤◌, List, drop, length, replicate, take, Option, None, slice_index_or, ℤ, pos}
+use Rattle.std.specs.Prelude.{◌≡◌, ℕ, ◌+◌, ◌*◌, ◌<◌, List, drop, length, replicate, take, Option, None, slice_index_or, ℤ, pos}
 use Rattle.flow_types.specs.Limits.{most_nodes, most_periods}
+use Rattle.time_windows.specs.declared.access.Window.{Window}
 use Rattle.flight_routes.specs.Rates.{Rates}
 
--- of a day of so many periods: by period what leaving and arriving cost, and by node and period
--- what being there has cost and how long it is clear
+-- for a span of periods: by period what leaving and arriving cost, and by node and period what
+-- being there has cost and how long it is clear
 pub record RateLists : Type 0 where
-  pub periods : ℕ
+  pub span : Window
   pub leaves : List (Option ℤ)
   pub arrives : List (Option ℤ)
   pub paid : List ℤ
@@ -35,17 +36,16 @@ rates_of lists = record {
   clear = λ node time. slice_index_or lists.clear (place_of node time) most_periods;
 }
 
--- room for every node and period, and no more periods than a day may have
+-- room for every node and period, and a span of those that a day may have
 pub record HasRoom (lists : RateLists) : Type 0 where
-  pub periods : lists.periods ≤ most_periods
+  pub span : lists.span.hi < most_periods
   pub leaves : length lists.leaves ≡ most_periods
   pub arrives : length lists.arrives ≡ most_periods
   pub paid : length lists.paid ≡ most_nodes * most_periods
   pub clear : length lists.clear ≡ most_nodes * most_periods
 
 -- no period to leave or to arrive in, nothing paid, and every node clear
-pub record IsBlank (of : ℕ) (lists : RateLists) : Type 0 where
-  pub periods : lists.periods ≡ of
+pub record IsBlank (lists : RateLists) : Type 0 where
   pub leaves : lists.leaves ≡ replicate most_periods None
   pub arrives : lists.arrives ≡ replicate most_periods None
   pub paid : lists.paid ≡ replicate (most_nodes * most_periods) (pos 0)

@@ -4,6 +4,7 @@ use Rattle.flow_types.specs.declared.flight.Flight.{Flight}
 use Rattle.flow_types.specs.declared.plan.Stop.{Stop}
 use Rattle.flow_types.specs.Trips.{IsStep}
 use Rattle.time_windows.specs.declared.access.Access.{Access}
+use Rattle.time_windows.specs.declared.access.Window.{Window}
 use Rattle.time_windows.specs.Boxes.{IsInWindow}
 use Rattle.time_windows.specs.declared.ends.End.{End}
 use Rattle.time_windows.specs.declared.ends.End.TheVariants.{Arrival, Departure}
@@ -63,11 +64,13 @@ abbrev pub whole_cost : Rates → List Stop → ℤ
 whole_cost rates [] = pos 0
 whole_cost rates (stop ∷ rest) = value_or_zero (rates.leaves stop.time) +ℤ way_cost rates stop rest
 
--- of one node: the first period in which the flight may not be there is the period, or that of the
--- next one
-abbrev pub IsClear : ℕ → (ℕ → ℕ) → Type 0
-IsClear periods clear = (t : ℕ) → t + 1 < periods
+-- of one node, from one period to another: the first period in which the flight may not be there is
+-- the period, or that of the next one
+abbrev pub IsClear : ℕ → ℕ → (ℕ → ℕ) → Type 0
+IsClear from to clear = (t : ℕ) → from ≤ t → t < to
     → (clear t ≡ t) ⊎ ((t < clear t) × (clear t ≡ clear (t + 1)))
 
-abbrev pub AreClear : ℕ → Rates → Type 0
-AreClear periods rates = (n : ℕ) → IsClear periods (rates.clear n)
+-- of each node that a flight may stay at
+abbrev pub AreClear : Flight → Window → Rates → Type 0
+AreClear flight span rates = (n : ℕ) → n + 1 < length flight.nodes
+    → IsClear span.lo span.hi (rates.clear n)

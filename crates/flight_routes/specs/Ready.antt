@@ -4,6 +4,7 @@ use Rattle.flow_types.specs.declared.flight.Flight.{Flight}
 use Rattle.flow_types.specs.Limits.{most_nodes, most_periods}
 use Rattle.flow_types.specs.Routes.{IsLeg}
 use Rattle.time_windows.specs.declared.access.Access.{Access}
+use Rattle.time_windows.specs.declared.access.Window.{Window}
 use Rattle.time_windows.specs.Boxes.{IsInWindow, IsProper, closed}
 use Rattle.flight_routes.specs.Rates.{AreClear, Rates}
 use Rattle.exact_sums.specs.Near.{IsNear}
@@ -18,16 +19,19 @@ pub record AreSmall (rates : Rates) : Type 0 where
 abbrev pub row_of : List Access → ℕ → Access
 row_of accesses node = slice_index_or accesses node closed
 
--- rates of a day, which are small
-pub record AreRates (periods : ℕ) (rates : Rates) : Type 0 where
-  pub few : periods ≤ most_periods
-  pub clear : AreClear periods rates
+-- a period of a span of them
+abbrev pub IsInSpan : Window → ℕ → Type 0
+IsInSpan span time = (span.lo ≤ time) × (time ≤ span.hi)
+
+-- rates of a span of periods that a day may have, which are small
+pub record AreRates (span : Window) (rates : Rates) : Type 0 where
+  pub few : span.hi < most_periods
   pub small : AreSmall rates
 
--- windows within the day
-pub record AreWindows (periods : ℕ) (row : ℕ → Access) : Type 0 where
+-- windows within a span of periods
+pub record AreWindows (span : Window) (row : ℕ → Access) : Type 0 where
   pub proper : (n : ℕ) → IsProper (row n).window
-  pub within : (n t : ℕ) → IsInWindow (row n).window t → t < periods
+  pub within : (n t : ℕ) → IsInWindow (row n).window t → IsInSpan span t
 
 -- the flight has few nodes, and legs that lead upward
 pub record IsUpward (flight : Flight) : Type 0 where
@@ -36,12 +40,14 @@ pub record IsUpward (flight : Flight) : Type 0 where
   pub legs : All (IsLeg (length flight.nodes)) flight.legs
 
 -- all of that
-pub record IsReady (flight : Flight) (row : ℕ → Access) (periods : ℕ) (rates : Rates) : Type 0 where
-  pub day : AreRates periods rates
-  pub windows : AreWindows periods row
+pub record IsReady (flight : Flight) (row : ℕ → Access) (span : Window) (rates : Rates)
+    : Type 0 where
+  pub day : AreRates span rates
+  pub clear : AreClear flight span rates
+  pub windows : AreWindows span row
   pub network : IsUpward flight
 
 -- being at a node costs more the longer it is
-abbrev pub AreRising : Flight → ℕ → Rates → Type 0
-AreRising flight periods rates = (n t u : ℕ) → n + 1 < length flight.nodes → t ≤ u → u < periods
-    → rates.paid n t ≤ℤ rates.paid n u
+abbrev pub AreRising : Flight → Window → Rates → Type 0
+AreRising flight span rates = (n t u : ℕ) → n + 1 < length flight.nodes → span.lo ≤ t → t ≤ u
+    → u ≤ span.hi → rates.paid n t ≤ℤ rates.paid n u

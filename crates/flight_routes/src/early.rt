@@ -123,8 +123,8 @@ fn first_rated(rates: &RateTable, end: End, window: Window) -> u32
 /// could, if it left as soon as it may.
 pub fn about_first_end(accesses: &[Access], rates: &RateTable, last: u16) -> u32
     requires accesses { length accesses.now ≡ most_nodes }
-    requires windows { AreWindows rates.now.periods (row_of accesses.now) }
-    requires few { rates.now.periods ≤ most_periods }
+    requires windows { AreWindows rates.now.span (row_of accesses.now) }
+    requires few { rates.now.span.hi < most_periods }
     requires last { last < most_nodes }
     ensures { result ≤ 2 * most_periods }
 {
@@ -141,8 +141,8 @@ pub fn about_first_end(accesses: &[Access], rates: &RateTable, last: u16) -> u32
 /// The last period in which the flight can arrive, 0 where it can't.
 pub fn last_end(accesses: &[Access], rates: &RateTable, last: u16) -> u32
     requires accesses { length accesses.now ≡ most_nodes }
-    requires windows { AreWindows rates.now.periods (row_of accesses.now) }
-    requires few { rates.now.periods ≤ most_periods }
+    requires windows { AreWindows rates.now.span (row_of accesses.now) }
+    requires few { rates.now.span.hi < most_periods }
     requires last { last < most_nodes }
     ensures small { result < most_periods }
     ensures end { MatchOption (row_of accesses.now last).window (result ≡ 0)
@@ -168,9 +168,9 @@ fn ways_bound(
 ) -> Cost
     requires accesses { length accesses.now ≡ most_nodes }
     requires distances { length distances.now ≡ most_nodes }
-    requires ready { IsReady flight.now (row_of accesses.now) rates.now.periods
+    requires ready { IsReady flight.now (row_of accesses.now) rates.now.span
         (rates_of rates.now) }
-    requires rising { AreRising flight.now rates.now.periods (rates_of rates.now) }
+    requires rising { AreRising flight.now rates.now.span (rates_of rates.now) }
     requires ahead { AreAhead flight.now (ahead_in distances.now) }
     requires far { ahead_in distances.now 0 ≤ most_periods }
     requires last { last + 1 ≡ length flight.now.nodes }
@@ -234,9 +234,9 @@ pub fn early_way(
     requires ahead { AreAhead flight.now (ahead_in distances.now) }
     requires far { ahead_in distances.now 0 ≤ most_periods }
     requires cut { length cut.old ≡ most_nodes }
-    requires ready { IsReady flight.now (row_of accesses.now) rates.now.periods
+    requires ready { IsReady flight.now (row_of accesses.now) rates.now.span
         (rates_of rates.now) }
-    requires rising { AreRising flight.now rates.now.periods (rates_of rates.now) }
+    requires rising { AreRising flight.now rates.now.span (rates_of rates.now) }
     requires last { last + 1 ≡ length flight.now.nodes }
     requires cap { cap < most_periods }
     requires room { most_nodes ≤ vec_capacity stops.old }

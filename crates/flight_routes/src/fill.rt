@@ -6,7 +6,7 @@ ghost use Rattle.flow_types.specs.Routes.{IsLeg};
 ghost use Rattle.time_windows.specs.Boxes.{IsInWindow};
 ghost use Rattle.flight_routes.specs.Entries.{IsMoveBy, Offers, cell_at, entry_cost};
 ghost use Rattle.flight_routes.specs.RateLists.{paid_in, rates_of};
-ghost use Rattle.flight_routes.specs.Rates.{IsWayOn};
+ghost use Rattle.flight_routes.specs.Rates.{IsClear, IsWayOn};
 ghost use Rattle.exact_sums.specs.Near.{IsNear};
 ghost use Rattle.flight_routes.specs.Ready.{AreRates, AreWindows, IsReady, row_of};
 ghost use Rattle.flight_routes.specs.Ways.{AreCells, HasLegsFrom, IsCell, IsLimit, entered_cost, stop_at};
@@ -39,8 +39,10 @@ fn relax_leg(
     requires leg { IsLeg nodes leg }
     requires window { (row_of accesses.now node).window ≡ Some window }
     requires limit { IsLimit (row_of accesses.now) nodes node limit }
-    requires day { AreRates rates.now.periods (rates_of rates.now) }
-    requires windows { AreWindows rates.now.periods (row_of accesses.now) }
+    requires day { AreRates rates.now.span (rates_of rates.now) }
+    requires clear { IsClear rates.now.span.lo rates.now.span.hi
+        ((rates_of rates.now).clear node) }
+    requires windows { AreWindows rates.now.span (row_of accesses.now) }
     requires costs { (n u : ℕ) → node < n → n < nodes → IsInWindow (row_of accesses.now n).window u
         → IfSome (cell_at cells.now n u) (IsNear (2 ^ 111)) }
     ensures { (t : ℕ) → window.lo ≤ t → t ≤ window.hi → Offers
@@ -99,7 +101,7 @@ fn enter_row(
     row: &mut [Cost],
 )
     requires accesses { length accesses.now ≡ most_nodes }
-    requires ready { IsReady flight.now (row_of accesses.now) rates.now.periods
+    requires ready { IsReady flight.now (row_of accesses.now) rates.now.span
         (rates_of rates.now) }
     requires legs { HasLegsFrom node flight.now.legs legs.now }
     requires length { length cells.now ≡ most_nodes * most_periods }
@@ -151,7 +153,7 @@ fn leave_row(
     row: &mut [Cost],
 )
     requires accesses { length accesses.now ≡ most_nodes }
-    requires ready { IsReady flight.now (row_of accesses.now) rates.now.periods
+    requires ready { IsReady flight.now (row_of accesses.now) rates.now.span
         (rates_of rates.now) }
     requires legs { HasLegsFrom node flight.now.legs legs.now }
     requires length { length cells.now ≡ most_nodes * most_periods }
@@ -180,7 +182,7 @@ fn fill_row(
     row: &mut [Cost],
 )
     requires accesses { length accesses.now ≡ most_nodes }
-    requires ready { IsReady flight.now (row_of accesses.now) rates.now.periods
+    requires ready { IsReady flight.now (row_of accesses.now) rates.now.span
         (rates_of rates.now) }
     requires legs { HasLegsFrom node flight.now.legs legs.now }
     requires length { length cells.now ≡ most_nodes * most_periods }
@@ -228,7 +230,7 @@ fn fill_node(
     cells: &mut [Cost],
 )
     requires accesses { length accesses.now ≡ most_nodes }
-    requires ready { IsReady flight.now (row_of accesses.now) rates.now.periods
+    requires ready { IsReady flight.now (row_of accesses.now) rates.now.span
         (rates_of rates.now) }
     requires legs { HasLegsFrom node flight.now.legs legs.now }
     requires node { node < length flight.now.nodes }
@@ -253,7 +255,7 @@ pub fn fill_nodes(
     cells: &mut [Cost],
 )
     requires accesses { length accesses.now ≡ most_nodes }
-    requires ready { IsReady flight.now (row_of accesses.now) rates.now.periods
+    requires ready { IsReady flight.now (row_of accesses.now) rates.now.span
         (rates_of rates.now) }
     requires row { length row.old ≡ most_periods }
     requires length { length cells.old ≡ most_nodes * most_periods }

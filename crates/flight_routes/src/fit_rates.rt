@@ -13,9 +13,9 @@ ghost use Rattle.flight_routes.specs.Filling.{AreSmallAt, IsFitTable, OnlyClear,
 ghost use Rattle.flight_routes.specs.FitRates.{AreFitRates, IsGiven};
 ghost use Rattle.flight_routes.specs.FitTimes.{HasSpace, IsClearAt, IsFirstFull, IsFreeAt, IsInTimeAt, fit_value};
 ghost use Rattle.flight_routes.specs.RateLists.{rates_of};
-ghost use Rattle.flight_routes.specs.Rates.{rate_at};
 ghost use Rattle.exact_sums.specs.Near.{IsNear};
-ghost use Rattle.flight_routes.specs.Ready.{AreWindows, row_of};
+ghost use Rattle.flight_routes.specs.Rates.{AreClear, rate_at};
+ghost use Rattle.flight_routes.specs.Ready.{AreWindows, IsInSpan, row_of};
 ghost use Rattle.time_windows.specs.Turns.{AreTurnsOf};
 
 use crate::cost::Cost;
@@ -144,7 +144,8 @@ fn set_end_in(
     requires loads { IsMadeFor (parts_of s.now) loads.now }
     requires flight { flight < length (parts_of s.now).flights }
     requires accesses { length accesses.now ≡ most_nodes }
-    requires windows { AreWindows (parts_of s.now).day.periods (row_of accesses.now) }
+    requires windows { AreWindows table.old.span (row_of accesses.now) }
+    requires day { table.old.span.hi < (parts_of s.now).day.periods }
     requires node { node < most_nodes }
     ensures costs { (t : ℕ) → IsInWindow (row_of accesses.now node).window t
         → IsGiven (rate_at end (rates_of table.new) t)
@@ -163,8 +164,8 @@ fn first_full(s: &Scenario, loads: &Loads, place: u32, time: u16, later: u16) ->
     requires loads { IsMadeFor (parts_of s.now) loads.now }
     requires place { IsTrue (has_kind kind.Sector (slice_get (parts_of s.now).places place)) }
     requires time { time < (parts_of s.now).day.periods }
-    requires later { IsFirstFull (parts_of s.now) loads.now place (time + 1) later }
-    ensures full { IsFirstFull (parts_of s.now) loads.now place time result }
+    ensures full { (last : ℕ) → IsFirstFull (parts_of s.now) loads.now place last (time + 1) later
+        → IsFirstFull (parts_of s.now) loads.now place last time result }
     ensures choice { (result ≡ time) ⊎ (result ≡ later) }
 {
     if has_space(s, loads, CapKind::Sector, place, time) {
@@ -174,40 +175,44 @@ fn first_full(s: &Scenario, loads: &Loads, place: u32, time: u16, later: u16) ->
     }
 }
 
-// Sets the first full period from each period on.
+// Sets the first full period from each period of the table on.
 fn set_full(table: &mut RateTable, s: &Scenario, node: u16, place: u32, loads: &Loads)
+    requires day { table.old.span.hi < (parts_of s.now).day.periods }
     requires loads { IsMadeFor (parts_of s.now) loads.now }
     requires place { IsTrue (has_kind kind.Sector (slice_get (parts_of s.now).places place)) }
     requires node { node < most_nodes }
-    ensures full { (t : ℕ) → t < (parts_of s.now).day.periods
-        → IsFirstFull (parts_of s.now) loads.now place t ((rates_of table.new).clear node t) }
-    ensures clear { IsClearAt (parts_of s.now).day.periods node (rates_of table.new) }
+    ensures full { (t : ℕ) → IsInSpan table.old.span t → IsFirstFull (parts_of s.now) loads.now
+        place table.old.span.hi t ((rates_of table.new).clear node t) }
+    ensures clear { IsClearAt table.old.span node (rates_of table.new) }
     ensures only { OnlyClear node table.old table.new }
 {
-    let mut time = s.day().periods;
+    let span = table.span();
+    let mut time = span.hi + 1;
     let mut first = MOST_PERIODS;
-    while 0 < time {
+    while span.lo < time {
         time -= 1;
         first = first_full(s, loads, place, time, first);
         table.set_clear(node, time, first);
     }
 }
 
-// Sets the first full period from each period on, for each sector of the flight.
+// Sets the first full period from each period of the table on, for each sector of the flight.
 fn set_all_full(table: &mut RateTable, s: &Scenario, flight: &Flight, last: u16, loads: &Loads)
     requires table { IsFitTable table.old }
-    requires periods { table.old.periods ≡ (parts_of s.now).day.periods }
+    requires day { table.old.span.hi < (parts_of s.now).day.periods }
     requires loads { IsMadeFor (parts_of s.now) loads.now }
     requires last { last < most_nodes }
     requires sectors { (n : ℕ) → 0 < n → n < last → IsTrue (has_kind kind.Sector
         (slice_get (parts_of s.now).places (place_at flight.now n))) }
-    ensures full { (n t : ℕ) → 0 < n → n < last → t < (parts_of s.now).day.periods
-        → IsFirstFull (parts_of s.now) loads.now (place_at flight.now n) t
+    ensures full { (n t : ℕ) → 0 < n → n < last → IsInSpan table.old.span t
+        → IsFirstFull (parts_of s.now) loads.now (place_at flight.now n) table.old.span.hi t
         ((rates_of table.new).clear n t) }
+    ensures clear { (n : ℕ) → 0 < n → n < last
+        → IsClearAt table.old.span n (rates_of table.new) }
     ensures table { IsFitTable table.new }
     ensures leaves { table.new.leaves ≡ table.old.leaves }
     ensures arrives { table.new.arrives ≡ table.old.arrives }
-    ensures periods { table.new.periods ≡ table.old.periods }
+    ensures span { table.new.span ≡ table.old.span }
 {
     for node in 1..last {
         set_full(table, s, node, place_at(flight, node), loads);
@@ -215,7 +220,8 @@ fn set_all_full(table: &mut RateTable, s: &Scenario, flight: &Flight, last: u16,
 }
 
 /// Sets the rates of the flight beside the loads: what leaving and arriving cost it where there is
-/// room and its connections let it, and how long there is room in each of its sectors.
+/// room and its connections let it, and how long there is room in each of its sectors, from each
+/// period of the table on.
 pub fn set_fit_rates(
     table: &mut RateTable,
     s: &Scenario,
@@ -225,18 +231,20 @@ pub fn set_fit_rates(
     turns: &Turns,
 )
     requires table { IsFitTable table.old }
-    requires periods { table.old.periods ≡ (parts_of s.now).day.periods }
+    requires day { table.old.span.hi < (parts_of s.now).day.periods }
     requires loads { IsMadeFor (parts_of s.now) loads.now }
     requires turns { AreTurnsOf (parts_of s.now) turns.now }
     requires flight { flight < length (parts_of s.now).flights }
     requires accesses { length accesses.now ≡ most_nodes }
-    requires windows { AreWindows (parts_of s.now).day.periods (row_of accesses.now) }
+    requires windows { AreWindows table.old.span (row_of accesses.now) }
     ensures rates { (trips : List (List Stop)) (details : Flight)
         → AreLoads (parts_of s.now) trips loads.now → flight_at s.now flight ≡ Some details
-        → AreFitRates (parts_of s.now) trips flight details (row_of accesses.now)
+        → AreFitRates (parts_of s.now) trips flight details (row_of accesses.now) table.old.span
         (rates_of table.new) }
+    ensures clear { (details : Flight) → flight_at s.now flight ≡ Some details
+        → AreClear details table.old.span (rates_of table.new) }
     ensures table { IsFitTable table.new }
-    ensures periods { table.new.periods ≡ table.old.periods }
+    ensures span { table.new.span ≡ table.old.span }
 {
     let details = &s.flights()[flight as usize];
     let last = last_of(details);

@@ -20,10 +20,10 @@
 //! fit beside the trips of others), `Prices` (prices, and what a trip costs under them) and
 //! `TripOrder` (the order of trips). `Work` is what the room for least trips is seen as. The others
 //! serve the proof: `Rates` and `Ways` (what a flight pays on its way, and the least ways on from a
-//! stop), `TripRates`, `FitRates` and `PricedFitRates` (the rates at which ways are trips, trips that
-//! fit, and trips that fit under prices), `Entries` and `Firsts` (the next stop), `Early` (ways that
-//! end early), and `Costs`, `Ends`, `Filling`, `FitTimes`, `Later`,
-//! `PriceRates`, `RateLists`, `Ready`, `TimeCosts` and `TurnTimes`.
+//! stop), `TripRates`, `FitRates` and `PricedFitRates` (the rates at which ways are trips, trips
+//! that fit, and trips that fit under prices), `Entries` and `Firsts` (the next stop), `Early` (ways
+//! that end early), and `Costs`, `Ends`, `Filling`, `FitTimes`, `Later`, `PriceRates`, `RateLists`,
+//! `Ready`, `TimeCosts` and `TurnTimes`.
 //!
 //! Proved: `least_trip` answers the least over all trips of the flight in the box, `least_fit`
 //! and `least_priced_fit` over all of those that fit, and nothing exactly where there is none
@@ -32,8 +32,9 @@
 //! `others`), and 0 before (`free`); `copy_from` takes all those of another `Prices` over.
 //!
 //! The calls turn their question into rates of the flight: what leaving and arriving in a period
-//! cost, what being at a node has cost up to a period, and how long the flight may stay there. A
-//! table holds the least cost of going on from each node in each period, and is filled from the
+//! cost, what being at a node has cost up to a period, and how long the flight may stay there, for
+//! the periods from the first to the last in which the box leaves one of its nodes open. A table
+//! holds the least cost of going on from each node in each period, and is filled from the
 //! destination back. Along each leg, from the last period to the first, the least of the later
 //! entries into the next node is kept, so that a leg takes one step a period. The least start is
 //! the answer. The trip is traced forward from there: at each stop, to the first next one that
@@ -45,10 +46,10 @@
 //!
 //! Memory: `Work` takes about 0.9 MB once. `Prices` take 24 bytes a place and period, and eight a
 //! connection and period. The calls take none. Time: `least_trip` looks at each sector of the
-//! flight and each of its connections once a period, and at its legs once a node and once a period
-//! between the windows that they join, as far as these are cut, all fillings together at most some
-//! twice; `least_fit` does the same, with its connections once in all; and `least_priced_fit` fills
-//! the rates of both.
+//! flight once a period of its windows, at each of its connections once a period of the day, and at
+//! its legs once a node and once a period between the windows that they join, as far as these are
+//! cut, all fillings together at most some twice; `least_fit` does the same, with its connections
+//! once in all; and `least_priced_fit` fills the rates of both.
 #![tactic(auto)]
 
 mod accesses;

@@ -11,7 +11,7 @@ ghost use Rattle.flight_routes.specs.Prices.{ArePricesOf, price_in, summed};
 ghost use Rattle.flight_routes.specs.RateLists.{rates_of};
 ghost use Rattle.flight_routes.specs.Rates.{rate_at};
 ghost use Rattle.exact_sums.specs.Near.{IsNear};
-ghost use Rattle.flight_routes.specs.Ready.{AreWindows, row_of};
+ghost use Rattle.flight_routes.specs.Ready.{AreWindows, IsInSpan, row_of};
 ghost use Rattle.flight_routes.specs.TripRates.{AreTripRates};
 ghost use Rattle.time_windows.specs.Turns.{AreTurnsOf};
 
@@ -137,20 +137,22 @@ fn set_end(
     }
 }
 
-// Sets what being at the node has cost up to each period.
+// Sets what being at the node has cost up to each period, from the first one of the table on.
 #[tactic(auto, using(crate::proofs::LaterFacts::summed_more))]
 fn set_paid(table: &mut RateTable, s: &Scenario, node: u16, place: u32, prices: &Prices)
     requires prices { ArePricesOf (parts_of s.now) prices.now }
     requires node { node < most_nodes }
     requires place { place < length (parts_of s.now).places }
-    ensures paid { (t : ℕ) → t < (parts_of s.now).day.periods → (rates_of table.new).paid node t
-        ≡ pos (summed (price_in prices.now.inside place) 0 t) }
+    requires day { table.old.span.hi < (parts_of s.now).day.periods }
+    ensures paid { (t : ℕ) → IsInSpan table.old.span t → (rates_of table.new).paid node t
+        ≡ pos (summed (price_in prices.now.inside place) table.old.span.lo t) }
     ensures only { OnlyPaid node table.old table.new }
     ensures within { ArePaidSmall table.old → ArePaidSmall table.new }
 {
     let stays = prices.row(PriceKind::Capacity(CapKind::Sector), place);
+    let span = table.span();
     let mut sum = 0u128;
-    for time in 0..s.day().periods {
+    for time in span.lo..span.hi + 1 {
         table.set_paid(node, time, sum);
         sum += u128::from(stays[usize::from(time)]);
     }
@@ -209,7 +211,8 @@ fn set_end_in(
     requires turns { AreTurnsOf (parts_of s.now) turns.now }
     requires flight { flight < length (parts_of s.now).flights }
     requires accesses { length accesses.now ≡ most_nodes }
-    requires windows { AreWindows (parts_of s.now).day.periods (row_of accesses.now) }
+    requires windows { AreWindows table.old.span (row_of accesses.now) }
+    requires day { table.old.span.hi < (parts_of s.now).day.periods }
     requires node { node < most_nodes }
     requires weight { weight < 2 ^ 62 }
     requires sums { length sums.old ≡ (parts_of s.now).day.periods }
@@ -225,15 +228,17 @@ fn set_end_in(
     }
 }
 
-// Sets what being in each sector of the flight has cost up to each period.
+// Sets what being in each sector of the flight has cost up to each period, from the first one of
+// the table on.
 fn set_stays(table: &mut RateTable, s: &Scenario, flight: &Flight, last: u16, prices: &Prices)
     requires prices { ArePricesOf (parts_of s.now) prices.now }
+    requires day { table.old.span.hi < (parts_of s.now).day.periods }
     requires last { last < most_nodes }
     requires places { (n : ℕ) → 0 < n → n < last
         → place_at flight.now n < length (parts_of s.now).places }
-    ensures paid { (n t : ℕ) → 0 < n → n < last → t < (parts_of s.now).day.periods
+    ensures paid { (n t : ℕ) → 0 < n → n < last → IsInSpan table.old.span t
         → (rates_of table.new).paid n t
-        ≡ pos (summed (price_in prices.now.inside (place_at flight.now n)) 0 t) }
+        ≡ pos (summed (price_in prices.now.inside (place_at flight.now n)) table.old.span.lo t) }
     ensures first { (t : ℕ) → t < most_periods
         → (rates_of table.new).paid 0 t ≡ (rates_of table.old).paid 0 t }
     ensures only { OnlyStays table.old table.new }
@@ -245,7 +250,7 @@ fn set_stays(table: &mut RateTable, s: &Scenario, flight: &Flight, last: u16, pr
 }
 
 /// Sets the rates of the flight: what leaving and arriving cost it, and what being in its sectors
-/// has cost up to each period, at this weight of its cost and these prices.
+/// has cost up to each period of the table, at this weight of its cost and these prices.
 pub fn set_price_rates(
     table: &mut RateTable,
     sums: &mut [u128],
@@ -261,14 +266,15 @@ pub fn set_price_rates(
     requires turns { AreTurnsOf (parts_of s.now) turns.now }
     requires flight { flight < length (parts_of s.now).flights }
     requires accesses { length accesses.now ≡ most_nodes }
-    requires windows { AreWindows (parts_of s.now).day.periods (row_of accesses.now) }
+    requires windows { AreWindows table.old.span (row_of accesses.now) }
+    requires day { table.old.span.hi < (parts_of s.now).day.periods }
     requires weight { weight < 2 ^ 62 }
     requires sums { length sums.old ≡ (parts_of s.now).day.periods }
     ensures rates { (details : Flight) → flight_at s.now flight ≡ Some details
         → AreTripRates weight prices.now (parts_of s.now) flight details (row_of accesses.now)
-        (rates_of table.new) }
+        table.old.span (rates_of table.new) }
     ensures table { IsPriceTable table.new }
-    ensures periods { table.new.periods ≡ table.old.periods }
+    ensures span { table.new.span ≡ table.old.span }
     ensures sums { length sums.new ≡ (parts_of s.now).day.periods }
 {
     let details = &s.flights()[flight as usize];

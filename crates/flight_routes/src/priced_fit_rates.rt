@@ -40,7 +40,8 @@ pub fn close_end_in(
     node: u16,
 )
     requires accesses { length accesses.now ≡ most_nodes }
-    requires windows { AreWindows most_periods (row_of accesses.now) }
+    requires windows { AreWindows table.old.span (row_of accesses.now) }
+    requires few { table.old.span.hi < most_periods }
     requires node { node < most_nodes }
     ensures costs { (t : ℕ) → IsInWindow (row_of accesses.now node).window t
         → rate_at end (rates_of table.new) t

@@ -9,7 +9,7 @@ use crate::cost::Cost;
 use flow_types::{MOST_PERIODS, OutOfMemory};
 use std::alloc::Global;
 use std::marker::Model;
-use time_windows::End;
+use time_windows::{End, Window};
 
 /// As many slots as a day may have periods.
 pub const PERIODS: usize = 512;
@@ -21,7 +21,8 @@ pub const CELLS: usize = 16_384;
 /// as `RateLists`, and read those as `Rates`.
 #[derive(Debug)]
 pub struct RateTable {
-    periods: u16,
+    // The periods that the lists are filled for.
+    span: Window,
     leaves: Vec<Cost>,
     arrives: Vec<Cost>,
     paid: Vec<i128>,
@@ -32,7 +33,7 @@ pub struct RateTable {
 impl Drop for RateTable {
     fn drop(self) {
         let RateTable {
-            periods: _,
+            span: _,
             leaves: _,
             arrives: _,
             paid: _,
@@ -47,7 +48,7 @@ impl Model for RateTable {
     ghost Value = { RateLists };
 
     ghost view = { λ a. record {
-      periods = a.periods;
+      span = a.span;
       leaves = a.leaves.items;
       arrives = a.arrives.items;
       paid = a.paid.items;
@@ -55,7 +56,7 @@ impl Model for RateTable {
     } };
 
     ghost invariant = { λ a. HasRoom (record {
-      periods = a.periods;
+      span = a.span;
       leaves = a.leaves.items;
       arrives = a.arrives.items;
       paid = a.paid.items;
@@ -91,14 +92,12 @@ impl RateTable {
     ghost use Rattle.flight_routes.specs.Rates.{rate_at};
     ghost use Rattle.exact_sums.specs.Near.{IsNear};
 
-    /// Rates of a day of so many periods: no period to leave or to arrive in, nothing paid, and
-    /// every node clear.
-    pub fn new(alloc: Global, periods: u16) -> Result<RateTable, OutOfMemory>
-        requires { periods ≤ most_periods }
-        ensures { IfOk result (IsBlank periods) }
+    /// Rates of no flight: no period to leave or to arrive in, nothing paid, and every node clear.
+    pub fn new(alloc: Global) -> Result<RateTable, OutOfMemory>
+        ensures { IfOk result IsBlank }
     {
         Ok(RateTable {
-            periods,
+            span: Window { lo: 0, hi: 0 },
             leaves: no_costs(alloc, PERIODS)?,
             arrives: no_costs(alloc, PERIODS)?,
             paid: nothing_paid(alloc, CELLS)?,
@@ -133,11 +132,12 @@ impl RateTable {
         }
     }
 
-    /// How many periods the day has.
-    pub fn periods(&self) -> u16
-        ensures { result ≡ self.now.periods }
+    /// The periods that the table is filled for.
+    pub fn span(&self) -> Window
+        ensures span { result ≡ self.now.span }
+        ensures few { result.hi < most_periods }
     {
-        self.periods
+        self.span
     }
 
     /// What being at the node has cost up to each period.
@@ -203,10 +203,20 @@ fn all_clear(alloc: Global, count: usize) -> Result<Vec<u16>, OutOfMemory>
 impl RateTable {
     ghost use Rattle.std.specs.Prelude.{◌≡◌, ◌≢◌, ◌<◌, ◌^◌, ℕ, pos};
     ghost use Rattle.flow_types.specs.Limits.{most_nodes, most_periods};
-    ghost use Rattle.flight_routes.specs.Filling.{ArePaidSmall, OnlyClear, OnlyEnd, OnlyPaid};
+    ghost use Rattle.flight_routes.specs.Filling.{ArePaidSmall, IsFitTable, IsPriceTable, OnlyClear, OnlyEnd, OnlyPaid};
     ghost use Rattle.flight_routes.specs.PricedFitRates.{AreExchanged};
     ghost use Rattle.flight_routes.specs.RateLists.{rates_of};
     ghost use Rattle.flight_routes.specs.Rates.{rate_at};
+
+    /// Begins anew, with rates for a span of periods.
+    pub fn begin(&mut self, span: Window)
+        requires { span.hi < most_periods }
+        ensures span { self.new.span ≡ span }
+        ensures price { IsPriceTable self.old → IsPriceTable self.new }
+        ensures fit { IsFitTable self.old → IsFitTable self.new }
+    {
+        self.span = span;
+    }
 
     /// Sets what this end of the trip costs in the period.
     pub fn set_end(&mut self, end: End, time: u16, cost: Cost)

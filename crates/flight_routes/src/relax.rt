@@ -104,7 +104,7 @@ fn wait_from(
     requires cells { length cells.now ≡ most_periods }
     requires hi { time ≤ next.hi }
     requires last { next.hi < most_periods }
-    requires kept { IsClear (next.hi + 1) (clear_in clear.now) }
+    requires kept { IsClear time next.hi (clear_in clear.now) }
     requires small { (t : ℕ) → IsNear (2 ^ 100) (paid_in paid.now t) }
     requires costs { (u : ℕ) → next.lo ≤ u → u ≤ next.hi
         → IfSome (cell_in cells.now u) (IsNear (2 ^ 111)) }
@@ -152,7 +152,7 @@ pub fn relax(
     requires last { next.hi < most_periods }
     requires proper { window.lo ≤ window.hi }
     requires end { window.hi < most_periods }
-    requires kept { IsClear (next.hi + 1) (clear_in clear.now) }
+    requires kept { IsClear window.lo next.hi (clear_in clear.now) }
     requires small { (t : ℕ) → IsNear (2 ^ 100) (paid_in paid.now t) }
     requires costs { (u : ℕ) → next.lo ≤ u → u ≤ next.hi
         → IfSome (cell_in cells.now u) (IsNear (2 ^ 111)) }

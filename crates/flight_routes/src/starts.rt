@@ -36,7 +36,7 @@ fn least_start(
     window: Window,
 ) -> Cost
     requires accesses { length accesses.now ≡ most_nodes }
-    requires ready { IsReady flight.now (row_of accesses.now) rates.now.periods
+    requires ready { IsReady flight.now (row_of accesses.now) rates.now.span
         (rates_of rates.now) }
     requires window { (row_of accesses.now 0).window ≡ Some window }
     requires length { length cells.now ≡ most_nodes * most_periods }
@@ -54,7 +54,7 @@ fn least_start(
 /// The least over the window of the first node, if it is open.
 pub fn least_cost(flight: &Flight, accesses: &[Access], rates: &RateTable, cells: &[Cost]) -> Cost
     requires accesses { length accesses.now ≡ most_nodes }
-    requires ready { IsReady flight.now (row_of accesses.now) rates.now.periods
+    requires ready { IsReady flight.now (row_of accesses.now) rates.now.span
         (rates_of rates.now) }
     requires length { length cells.now ≡ most_nodes * most_periods }
     requires cells { AreCells flight.now (row_of accesses.now) (rates_of rates.now) 0 cells.now }

@@ -57,7 +57,7 @@ impl Table {
     /// way. The table is then of the flight.
     pub fn least_way(&mut self, flight: &Flight, accesses: &[Access], rates: &RateTable) -> Cost
         requires accesses { length accesses.now ≡ most_nodes }
-        requires ready { IsReady flight.now (row_of accesses.now) rates.now.periods
+        requires ready { IsReady flight.now (row_of accesses.now) rates.now.span
             (rates_of rates.now) }
         ensures least { IsLeast (IsWay flight.now (row_of accesses.now) (rates_of rates.now))
             (whole_cost (rates_of rates.now)) result }
@@ -78,7 +78,7 @@ impl Table {
         stops: &mut Vec<Stop>,
     )
         requires accesses { length accesses.now ≡ most_nodes }
-        requires ready { IsReady flight.now (row_of accesses.now) rates.now.periods
+        requires ready { IsReady flight.now (row_of accesses.now) rates.now.span
             (rates_of rates.now) }
         requires cells { AreCells flight.now (row_of accesses.now) (rates_of rates.now) 0 self.now }
         requires least { IsLeast (IsWay flight.now (row_of accesses.now) (rates_of rates.now))

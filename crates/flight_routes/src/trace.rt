@@ -111,8 +111,8 @@ fn first_by(
     requires leg { IsLeg nodes leg }
     requires time { stop.time < most_periods }
     requires limit { IsLimit (row_of accesses.now) nodes stop.node limit }
-    requires day { AreRates rates.now.periods (rates_of rates.now) }
-    requires windows { AreWindows rates.now.periods (row_of accesses.now) }
+    requires day { AreRates rates.now.span (rates_of rates.now) }
+    requires windows { AreWindows rates.now.span (row_of accesses.now) }
     requires costs { (n u : ℕ) → n < nodes → IsInWindow (row_of accesses.now n).window u
         → IfSome (cell_at cells.now n u) (IsNear (2 ^ 111)) }
     requires some { IsSome value }
@@ -144,7 +144,7 @@ fn next_stop(
     stop: Stop,
 ) -> Stop
     requires accesses { length accesses.now ≡ most_nodes }
-    requires ready { IsReady flight.now (row_of accesses.now) rates.now.periods
+    requires ready { IsReady flight.now (row_of accesses.now) rates.now.span
         (rates_of rates.now) }
     requires length { length cells.now ≡ most_nodes * most_periods }
     requires cells { AreCells flight.now (row_of accesses.now) (rates_of rates.now) 0 cells.now }
@@ -181,7 +181,7 @@ fn first_start(
     least: Cost,
 ) -> Option<u16>
     requires accesses { length accesses.now ≡ most_nodes }
-    requires ready { IsReady flight.now (row_of accesses.now) rates.now.periods
+    requires ready { IsReady flight.now (row_of accesses.now) rates.now.span
         (rates_of rates.now) }
     requires window { (row_of accesses.now 0).window ≡ Some window }
     requires length { length cells.now ≡ most_nodes * most_periods }
@@ -207,7 +207,7 @@ fn start_stop(
     least: Cost,
 ) -> Stop
     requires accesses { length accesses.now ≡ most_nodes }
-    requires ready { IsReady flight.now (row_of accesses.now) rates.now.periods
+    requires ready { IsReady flight.now (row_of accesses.now) rates.now.span
         (rates_of rates.now) }
     requires length { length cells.now ≡ most_nodes * most_periods }
     requires cells { AreCells flight.now (row_of accesses.now) (rates_of rates.now) 0 cells.now }
@@ -238,7 +238,7 @@ pub fn trace(
     stops: &mut Vec<Stop>,
 )
     requires accesses { length accesses.now ≡ most_nodes }
-    requires ready { IsReady flight.now (row_of accesses.now) rates.now.periods
+    requires ready { IsReady flight.now (row_of accesses.now) rates.now.span
         (rates_of rates.now) }
     requires length { length cells.now ≡ most_nodes * most_periods }
     requires cells { AreCells flight.now (row_of accesses.now) (rates_of rates.now) 0 cells.now }

@@ -2,13 +2,15 @@
 ghost use Rattle.std.specs.Prelude.{◌≡◌, ◌≤◌, ◌<◌, ℕ, IfOk, MatchOption, [], length, vec_capacity, vec_len};
 ghost use Rattle.exact_sums.specs.Leasts.{IsFirstLeast, IsLeast};
 ghost use Rattle.flow_types.specs.Limits.{most_nodes, most_periods};
+ghost use Rattle.flow_types.specs.Scenario.{parts_of};
 ghost use Rattle.time_windows.specs.Boxes.{IsProper};
-ghost use Rattle.time_windows.specs.Held.{box_of};
+ghost use Rattle.time_windows.specs.Held.{IsMadeFor, box_of};
 ghost use Rattle.flight_routes.specs.RateLists.{rates_of};
 ghost use Rattle.flight_routes.specs.Rates.{IsWay, whole_cost};
-ghost use Rattle.flight_routes.specs.Ready.{AreRising, IsReady, row_of};
+ghost use Rattle.flight_routes.specs.Ready.{AreRising, AreWindows, IsReady, row_of};
 ghost use Rattle.flight_routes.specs.TripOrder.{IsNoLater};
 
+use crate::accesses::span_of;
 use crate::cost::Cost;
 use crate::distances::distances_of;
 use crate::early::{about_first_end, early_way, last_end};
@@ -23,7 +25,7 @@ use flow_types::{Flight, MOST_NODES, OutOfMemory, Scenario, Stop};
 use plan_rules::Loads;
 use std::alloc::Global;
 use std::marker::Model;
-use time_windows::{Access, Boxes, End};
+use time_windows::{Access, Boxes, End, Window};
 
 /// The room in which least trips are found, made once for a scenario: 0.9 MB. Contracts see it as
 /// the stops of the last least trip and the periods of the scenario.
@@ -68,8 +70,7 @@ impl Model for Work {
 
     ghost view = { λ a. record { trip = a.stops.items; periods = a.periods } };
 
-    ghost invariant = { λ a. (a.priced.periods ≡ a.periods) × (a.fitting.periods ≡ a.periods)
-        × IsPriceTable a.priced × IsFitTable a.fitting
+    ghost invariant = { λ a. IsPriceTable a.priced × IsFitTable a.fitting
         × (vec_len a.accesses ≡ most_nodes) × (vec_len a.cut ≡ most_nodes)
         × (vec_len a.sums ≡ a.periods)
         × (most_nodes ≤ vec_capacity a.stops) };
@@ -82,6 +83,7 @@ impl Work {
     ghost use Rattle.flow_types.specs.Costs.{trip_cost_at};
     ghost use Rattle.flow_types.specs.Scenario.{flight_at, parts_of};
     ghost use Rattle.plan_rules.specs.Loads.{AreLoads, IsMadeFor as AreLoadsFor};
+    ghost use Rattle.time_windows.specs.Boxes.{IsProper};
     ghost use Rattle.time_windows.specs.Held.{IsMadeFor, box_of};
     ghost use Rattle.flight_routes.specs.Fits.{IsTripThatFits};
     ghost use Rattle.flight_routes.specs.Inside.{IsTripIn};
@@ -97,8 +99,8 @@ impl Work {
         let periods = s.day().periods;
         Ok(Work {
             periods,
-            priced: RateTable::new(alloc, periods)?,
-            fitting: RateTable::new(alloc, periods)?,
+            priced: RateTable::new(alloc)?,
+            fitting: RateTable::new(alloc)?,
             table: Table::new(alloc)?,
             accesses: no_accesses(alloc)?,
             cut: no_accesses(alloc)?,
@@ -134,12 +136,14 @@ impl Work {
             (priced_cost weight prices.now (parts_of s.now) flight) IsNoLater self.new.trip) }
         ensures made { IsWorkFor (parts_of s.now) self.new }
     {
-        take_row(&mut self.accesses, boxes, flight);
+        let span = take_row(&mut self.accesses, s, boxes, flight);
+        let row: &[Access] = &self.accesses;
+        self.priced.begin(span);
         set_price_rates(
             &mut self.priced,
             &mut self.sums,
             s,
-            &self.accesses,
+            row,
             flight,
             weight,
             prices,
@@ -148,7 +152,7 @@ impl Work {
         least_way(
             &mut self.table,
             &s.flights()[flight as usize],
-            &self.accesses,
+            row,
             &mut self.cut,
             &self.priced,
             &mut self.stops,
@@ -182,19 +186,14 @@ impl Work {
             self.new.trip) }
         ensures made { IsWorkFor (parts_of s.now) self.new }
     {
-        take_row(&mut self.accesses, boxes, flight);
-        set_fit_rates(
-            &mut self.fitting,
-            s,
-            &self.accesses,
-            flight,
-            loads,
-            boxes.turns(),
-        );
+        let span = take_row(&mut self.accesses, s, boxes, flight);
+        let row: &[Access] = &self.accesses;
+        self.fitting.begin(span);
+        set_fit_rates(&mut self.fitting, s, row, flight, loads, boxes.turns());
         least_way(
             &mut self.table,
             &s.flights()[flight as usize],
-            &self.accesses,
+            row,
             &mut self.cut,
             &self.fitting,
             &mut self.stops,
@@ -231,8 +230,10 @@ impl Work {
             (priced_cost weight prices.now (parts_of s.now) flight) IsNoLater self.new.trip) }
         ensures made { IsWorkFor (parts_of s.now) self.new }
     {
-        take_row(&mut self.accesses, boxes, flight);
+        let span = take_row(&mut self.accesses, s, boxes, flight);
         let row: &[Access] = &self.accesses;
+        self.priced.begin(span);
+        self.fitting.begin(span);
         set_price_rates(
             &mut self.priced,
             &mut self.sums,
@@ -295,7 +296,7 @@ fn no_sums(alloc: Global, periods: u16) -> Result<Vec<u128>, OutOfMemory>
 }
 
 // Puts what the box says of each node of the flight into a row.
-fn take_row(accesses: &mut [Access], boxes: &Boxes, flight: u32)
+fn copy_row(accesses: &mut [Access], boxes: &Boxes, flight: u32)
     requires { length accesses.old ≡ most_nodes }
     ensures length { length accesses.new ≡ most_nodes }
     ensures row { (n : ℕ) → row_of accesses.new n ≡ box_of boxes.now flight n }
@@ -304,6 +305,21 @@ fn take_row(accesses: &mut [Access], boxes: &Boxes, flight: u32)
     for node in 0..MOST_NODES {
         accesses[node] = boxes.access(flight, node as u16);
     }
+}
+
+// Puts what the box says of each node of the flight into a row, and tells the periods from the
+// first to the last in which one is open.
+fn take_row(accesses: &mut [Access], s: &Scenario, boxes: &Boxes, flight: u32) -> Window
+    requires accesses { length accesses.old ≡ most_nodes }
+    requires boxes { IsMadeFor (parts_of s.now) boxes.now }
+    requires flight { flight < length (parts_of s.now).flights }
+    ensures length { length accesses.new ≡ most_nodes }
+    ensures row { (n : ℕ) → row_of accesses.new n ≡ box_of boxes.now flight n }
+    ensures windows { AreWindows result (row_of accesses.new) }
+    ensures day { result.hi < (parts_of s.now).day.periods }
+{
+    copy_row(accesses, boxes, flight);
+    span_of(accesses, s.day().periods)
 }
 
 // The least of all ways of the flight, and the first of those that reach it: no stops where there
@@ -316,7 +332,7 @@ fn whole_way(
     stops: &mut Vec<Stop>,
 ) -> Cost
     requires accesses { length accesses.now ≡ most_nodes }
-    requires ready { IsReady flight.now (row_of accesses.now) rates.now.periods
+    requires ready { IsReady flight.now (row_of accesses.now) rates.now.span
         (rates_of rates.now) }
     requires room { most_nodes ≤ vec_capacity stops.old }
     ensures least { IsLeast (IsWay flight.now (row_of accesses.now) (rates_of rates.now))
@@ -347,9 +363,9 @@ fn least_way(
 ) -> Cost
     requires accesses { length accesses.now ≡ most_nodes }
     requires cut { length cut.old ≡ most_nodes }
-    requires ready { IsReady flight.now (row_of accesses.now) rates.now.periods
+    requires ready { IsReady flight.now (row_of accesses.now) rates.now.span
         (rates_of rates.now) }
-    requires rising { AreRising flight.now rates.now.periods (rates_of rates.now) }
+    requires rising { AreRising flight.now rates.now.span (rates_of rates.now) }
     requires room { most_nodes ≤ vec_capacity stops.old }
     ensures least { IsLeast (IsWay flight.now (row_of accesses.now) (rates_of rates.now))
         (whole_cost (rates_of rates.now)) result }

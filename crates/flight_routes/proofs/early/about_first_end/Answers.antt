@@ -6,7 +6,7 @@ use Rattle.flight_routes.proofs.early.about_first_end.Goals as goal
 pub first_rated-requires : goal.first_rated-requires
 first_rated-requires c = record {
   end =
-      let last = window_last c.args.rates.now.periods (row_of c.args.accesses.now) 0
+      let last = window_last c.args.rates.now.span (row_of c.args.accesses.now) 0
       c.in-Some.leaves c.requires.windows (sym c.window_at.ensures ∙ c.in-Some.is) in
       omega (arith, last.1, c.requires.few);
 }
@@ -14,7 +14,7 @@ first_rated-requires c = record {
 pub first_rated-requires-2 : goal.first_rated-requires-2
 first_rated-requires-2 c = record {
   end =
-      let last = window_last c.args.rates.now.periods (row_of c.args.accesses.now) c.args.last
+      let last = window_last c.args.rates.now.span (row_of c.args.accesses.now) c.args.last
       c.in-Some-window_at.arrives c.requires.windows
       (sym c.window_at-2.ensures ∙ c.in-Some-window_at.is) in
       omega (arith, last.1, c.requires.few);
@@ -22,7 +22,7 @@ first_rated-requires-2 c = record {
 
 pub returns : goal.returns
 returns c =
-    let last = window_last c.args.rates.now.periods (row_of c.args.accesses.now) c.args.last
+    let last = window_last c.args.rates.now.span (row_of c.args.accesses.now) c.args.last
     c.in-Some-window_at.arrives c.requires.windows
     (sym c.window_at-2.ensures ∙ c.in-Some-window_at.is) in
     omega (

@@ -10,7 +10,7 @@ use Rattle.flight_routes.proofs.fill.fill_node.Goals as goal
 
 pub store-requires-clause-end : goal.store-requires-clause-end
 store-requires-clause-end c =
-    let last = window_last c.args.rates.now.periods (row_of c.args.accesses.now) c.args.node
+    let last = window_last c.args.rates.now.span (row_of c.args.accesses.now) c.args.node
     c.in-Some.window c.requires.ready.windows (sym c.window_at.ensures ∙ c.in-Some.is) in
     omega (arith, last.1, c.requires.ready.day.few)
 

@@ -8,7 +8,7 @@ use Rattle.flight_routes.proofs.fill.fill_row.Goals as goal
 
 pub arrive_row-requires-clause-end : goal.arrive_row-requires-clause-end
 arrive_row-requires-clause-end c =
-    let last = window_last c.args.rates.now.periods (row_of c.args.accesses.now) c.args.node
+    let last = window_last c.args.rates.now.span (row_of c.args.accesses.now) c.args.node
     c.args.window c.requires.ready.windows c.requires.window in
     omega (arith, last.1, c.requires.ready.day.few)
 

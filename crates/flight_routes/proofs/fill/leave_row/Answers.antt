@@ -11,7 +11,7 @@ use Rattle.flight_routes.proofs.fill.leave_row.Goals as goal
 
 pub lower_row-requires-clause-end : goal.lower_row-requires-clause-end
 lower_row-requires-clause-end c =
-    let last = window_last c.args.rates.now.periods (row_of c.args.accesses.now) c.args.node
+    let last = window_last c.args.rates.now.span (row_of c.args.accesses.now) c.args.node
     c.args.window c.requires.ready.windows c.requires.window in
     omega (arith, last.1, c.requires.ready.day.few)
 
@@ -32,7 +32,7 @@ lower_row-requires-clause-costs c = λ t from to.
 
 pub returns : goal.returns
 returns c = λ t from to.
-    let last = window_last c.args.rates.now.periods (row_of c.args.accesses.now) c.args.node
+    let last = window_last c.args.rates.now.span (row_of c.args.accesses.now) c.args.node
     c.args.window c.requires.ready.windows c.requires.window in
     let paid = part_at c.args.rates.now.paid c.args.node (pos 0) c.paid_part.result.now
     c.paid_part.ensures.part t (omega (arith, to, last.1, c.requires.ready.day.few)) in

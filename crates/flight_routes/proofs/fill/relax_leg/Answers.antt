@@ -11,22 +11,25 @@ use Rattle.flight_routes.proofs.fill.relax_leg.Goals as goal
 
 pub relax-requires-clause-last : goal.relax-requires-clause-last
 relax-requires-clause-last c =
-    let last = window_last c.args.rates.now.periods (row_of c.args.accesses.now) c.args.leg.to
+    let last = window_last c.args.rates.now.span (row_of c.args.accesses.now) c.args.leg.to
     c.in-Some.next c.requires.windows (sym c.window_at.ensures ∙ c.in-Some.is) in
     omega (arith, last.1, c.requires.day.few)
 
 pub relax-requires-clause-end : goal.relax-requires-clause-end
 relax-requires-clause-end c =
-    let last = window_last c.args.rates.now.periods (row_of c.args.accesses.now) c.args.node
+    let last = window_last c.args.rates.now.span (row_of c.args.accesses.now) c.args.node
     c.args.window c.requires.windows c.requires.window in
     omega (arith, last.1, c.requires.day.few)
 
 pub relax-requires-clause-kept : goal.relax-requires-clause-kept
 relax-requires-clause-kept c =
-    let last = window_last c.args.rates.now.periods (row_of c.args.accesses.now) c.args.leg.to
+    let last = window_last c.args.rates.now.span (row_of c.args.accesses.now) c.args.leg.to
     c.in-Some.next c.requires.windows (sym c.window_at.ensures ∙ c.in-Some.is) in
-    part_clear c.args.rates.now.periods (rates_of c.args.rates.now) c.args.node c.in-Some.next.hi
-    (clear_in c.clear_part.result.now) c.requires.day.clear last.1 c.requires.day.few
+    let here = window_last c.args.rates.now.span (row_of c.args.accesses.now) c.args.node
+    c.args.window c.requires.windows c.requires.window in
+    part_clear c.args.rates.now.span (rates_of c.args.rates.now) c.args.node c.args.window.lo
+    c.in-Some.next.hi (clear_in c.clear_part.result.now) c.requires.clear here.2 last.1
+    c.requires.day.few
     (part_at c.args.rates.now.clear c.args.node most_periods c.clear_part.result.now
     c.clear_part.ensures.part)
 
@@ -43,7 +46,7 @@ pub relax-requires-clause-costs : goal.relax-requires-clause-costs
 relax-requires-clause-costs c = λ u from to.
     let next = c.in-Some.next in
     let is = sym c.window_at.ensures ∙ c.in-Some.is in
-    let last = window_last c.args.rates.now.periods (row_of c.args.accesses.now) c.args.leg.to
+    let last = window_last c.args.rates.now.span (row_of c.args.accesses.now) c.args.leg.to
     next c.requires.windows is in
     subst (λ (o : Option ℤ). IfSome o (IsNear (2 ^ 111)))
     (sym (part_at c.args.cells.now c.args.leg.to None c.part_of.result.now c.part_of.ensures.part u
@@ -56,9 +59,9 @@ pub returns-in-Some : goal.returns-in-Some
 returns-in-Some c = λ t from to.
     let next = c.in-Some.next in
     let is = sym c.window_at.ensures ∙ c.in-Some.is in
-    let last = window_last c.args.rates.now.periods (row_of c.args.accesses.now) c.args.leg.to
+    let last = window_last c.args.rates.now.span (row_of c.args.accesses.now) c.args.leg.to
     next c.requires.windows is in
-    let end = window_last c.args.rates.now.periods (row_of c.args.accesses.now) c.args.node
+    let end = window_last c.args.rates.now.span (row_of c.args.accesses.now) c.args.node
     c.args.window c.requires.windows c.requires.window in
     offers_by (row_of c.args.accesses.now) (rates_of c.args.rates.now) c.args.cells.now c.args.leg
     c.args.node t (clear_in c.clear_part.result.now) (paid_in c.paid_part.result.now)

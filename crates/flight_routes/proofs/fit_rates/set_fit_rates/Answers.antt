@@ -1,16 +1,18 @@
-use Rattle.std.proofs.Common.{◌≡◌, ◌∙◌, ◌↔◌, ◌≤◌, ◌<◌, ℕ, List, ℤ, pos, ◌-ℤ◌, Option, None, All, get_or, length, ap, subst, sym}
+use Rattle.std.proofs.Common.{◌≡◌, ◌∙◌, ◌↔◌, ◌≤◌, ◌<◌, ℕ, List, ℤ, pos, ◌-ℤ◌, Option, None, All, get_or, length, ap, arith, subst, sym}
 use Rattle.std.proofs.lemmas.Option.{get_or_from_slice_get}
 use Rattle.flow_types.specs.declared.flight.Flight.{Flight}
 use Rattle.flow_types.specs.Scenario.{flight_at, parts_of}
 use Rattle.flow_types.specs.Trips.{place_at}
+use Rattle.time_windows.specs.declared.access.Window.{Window}
 use Rattle.time_windows.specs.declared.ends.End.TheVariants.{Arrival, Departure}
 use Rattle.time_windows.specs.declared.turns.Turn.{Turn}
 use Rattle.flight_routes.specs.FitRates.{IsGiven}
-use Rattle.flight_routes.specs.FitTimes.{IsFirstFull, IsFreeAt}
+use Rattle.flight_routes.specs.FitTimes.{IsClearAt, IsFirstFull, IsFreeAt}
 use Rattle.flight_routes.specs.RateLists.{rates_of}
-use Rattle.flight_routes.specs.Ready.{row_of}
+use Rattle.flight_routes.specs.Ready.{IsInSpan, row_of}
 use Rattle.flight_routes.specs.TimeCosts.{credit_then, total_then}
 use Rattle.flight_routes.specs.TurnTimes.{IsAfter, IsInTime}
+use Rattle.flight_routes.proofs.FillFacts.{all_clear}
 use Rattle.flight_routes.proofs.LoadRateFacts.{fit_rates}
 use Rattle.time_windows.proofs.TurnFacts.{others_there}
 use Rattle.flight_routes.proofs.fit_rates.set_fit_rates.Goals as goal
@@ -45,7 +47,7 @@ returns-clause-rates c = λ trips details are is.
     c.first_leave-first.result c.arrive_limit-limit.result details there is is
     (row_of c.args.accesses.now) c.set_all_full.new.table
     (c.last_of-last.ensures ∙ ap (λ (f : Flight). length f.nodes) same)
-    c.requires.windows.within
+    c.args.table.now.span c.requires.day c.requires.windows.within
     (λ time. subst (λ turns. (c.first_leave-first.result ≤ time) ↔ All (IsAfter loads time) turns)
     (c.of_flight.ensures ∙ c.requires.turns.departures c.args.flight c.requires.flight)
     (c.first_leave-first.ensures time))
@@ -63,7 +65,27 @@ returns-clause-rates c = λ trips details are is.
     (total_then parts.tables there t))
     (sym (ap (costs t) c.set_all_full.ensures.arrives))
     (c.set_end_in-2.ensures.costs t window))
-    (λ n t above below day. subst (λ (f : Flight). IsFirstFull parts loads (place_at f n) t
-    ((rates_of c.set_all_full.new.table).clear n t)) same
-    (c.set_all_full.ensures.full n t above below day))
+    (λ n t above below in_span. subst (λ (f : Flight). IsFirstFull parts loads (place_at f n)
+    c.args.table.now.span.hi t ((rates_of c.set_all_full.new.table).clear n t)) same
+    (subst (λ (span : Window). IsInSpan span t → IsFirstFull parts loads
+    (place_at c.index-flights-flight.result n) span.hi t
+    ((rates_of c.set_all_full.new.table).clear n t))
+    (c.set_end_in-2.ensures.only.span ∙ c.set_end_in.ensures.only.span)
+    (c.set_all_full.ensures.full n t above below) in_span))
     c.set_all_full.ensures.table
+
+pub returns-clause-clear : goal.returns-clause-clear
+returns-clause-clear c = λ details is.
+    let parts = parts_of c.args.s.now in
+    let same : c.index-flights-flight.result ≡ details =
+    c.index-flights-flight.is
+    ∙ ap (λ flights. get_or flights c.args.flight c.index-flights-flight.result) c.flights.ensures
+    ∙ get_or_from_slice_get parts.flights c.args.flight details c.index-flights-flight.result is in
+    all_clear details c.last_of-last.result c.args.table.now.span c.set_all_full.new.table
+    (c.last_of-last.ensures ∙ ap (λ (f : Flight). length f.nodes) same)
+    (omega (arith, c.requires.day, c.args.s.now.valid.day.periods_to))
+    c.set_all_full.ensures.table
+    (subst (λ (span : Window). (n : ℕ) → 0 < n → n < c.last_of-last.result
+    → IsClearAt span n (rates_of c.set_all_full.new.table))
+    (c.set_end_in-2.ensures.only.span ∙ c.set_end_in.ensures.only.span)
+    c.set_all_full.ensures.clear)

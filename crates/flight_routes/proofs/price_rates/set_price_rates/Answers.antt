@@ -1,11 +1,12 @@
-use Rattle.std.proofs.Common.{◌≡◌, ◌∙◌, ℕ, List, ℤ, pos, Option, None, get_or, length, ap}
+use Rattle.std.proofs.Common.{◌≡◌, ◌∙◌, ℕ, List, ℤ, pos, Option, None, get_or, length, ap, subst}
 use Rattle.std.proofs.lemmas.Option.{get_or_from_slice_get}
 use Rattle.flow_types.specs.declared.flight.Flight.{Flight}
 use Rattle.flow_types.specs.Scenario.{flight_at, parts_of}
 use Rattle.flow_types.specs.Trips.{place_at}
+use Rattle.time_windows.specs.declared.access.Window.{Window}
 use Rattle.flight_routes.specs.Prices.{price_in, summed}
-use Rattle.flight_routes.specs.RateLists.{place_of}
-use Rattle.flight_routes.specs.Ready.{row_of}
+use Rattle.flight_routes.specs.RateLists.{place_of, rates_of}
+use Rattle.flight_routes.specs.Ready.{IsInSpan, row_of}
 use Rattle.flight_routes.proofs.PriceRateFacts.{price_rates}
 use Rattle.flight_routes.proofs.price_rates.set_price_rates.Goals as goal
 
@@ -20,15 +21,20 @@ returns-clause-rates c = λ details is.
     price_rates c.args.weight c.args.prices.now parts c.args.flight c.last_of-last.result details
     (flight_at c.args.s.now c.args.flight) (row_of c.args.accesses.now) c.set_stays.new.table is
     (c.last_of-last.ensures ∙ ap (λ (f : Flight). length f.nodes) same)
-    c.args.s.now.valid.day.periods_to
+    c.args.table.now.span c.requires.day c.args.s.now.valid.day.periods_to
     (λ t window.
     ap (leaves t) (c.set_stays.ensures.only.leaves ∙ c.set_end_in-2.ensures.only.leaves)
     ∙ c.set_end_in.ensures.costs t window)
     (λ t window.
     ap (leaves t) c.set_stays.ensures.only.arrives ∙ c.set_end_in-2.ensures.costs t window)
-    (λ n t above below in_day.
-    c.set_stays.ensures.paid n t above below in_day
-    ∙ ap (λ (f : Flight). pos (summed (price_in c.args.prices.now.inside (place_at f n)) 0 t)) same)
+    (λ n t above below in_span.
+    subst (λ (s : Window). IsInSpan s t → (rates_of c.set_stays.new.table).paid n t
+    ≡ pos (summed (price_in c.args.prices.now.inside
+    (place_at c.index-flights-flight.result n)) s.lo t))
+    (c.set_end_in-2.ensures.only.span ∙ c.set_end_in.ensures.only.span)
+    (c.set_stays.ensures.paid n t above below) in_span
+    ∙ ap (λ (f : Flight). pos (summed (price_in c.args.prices.now.inside (place_at f n))
+    c.args.table.now.span.lo t)) same)
     (λ t in_day. c.set_stays.ensures.first t in_day
     ∙ ap (λ costs. get_or costs (place_of 0 t) (pos 0))
     (c.set_end_in-2.ensures.only.paid ∙ c.set_end_in.ensures.only.paid)

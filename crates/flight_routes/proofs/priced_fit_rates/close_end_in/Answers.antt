@@ -6,5 +6,5 @@ use Rattle.flight_routes.proofs.priced_fit_rates.close_end_in.Goals as goal
 
 pub close_end-requires : goal.close_end-requires
 close_end-requires c =
-    window_end most_periods (row_of c.args.accesses.now) c.args.node c.in-Some.window
-    c.requires.windows (search rules)
+    window_end c.args.table.now.span most_periods (row_of c.args.accesses.now) c.args.node
+    c.in-Some.window c.requires.windows c.requires.few (search rules)

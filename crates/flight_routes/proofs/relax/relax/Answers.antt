@@ -13,9 +13,11 @@ loop-time-init c =
     let next = c.args.next in
     record {
       wait = rw c.none-wait.ensures
-          (no_entry clear paid cell next c.requires.kept (next.hi + 1) (omega arith));
+          (no_entry clear paid cell next c.args.window.lo c.requires.kept (next.hi + 1)
+          (omega arith));
       slots = λ t from to. record {
-        done = λ turn. offers_none clear paid cell next c.requires.kept c.args.least t
+        done = λ turn. offers_none clear paid cell next c.args.window.lo c.requires.kept
+            c.args.least t from
             (slice_index_or c.args.row.now t None) (omega arith);
         left = λ turn. refl;
       };
@@ -36,7 +38,8 @@ loop-time-preserved c =
     let cell = cell_in c.args.cells.now in
     record {
       wait = c.wait_from-wait.ensures;
-      slots = λ t from to. slot_next clear paid cell c.args.next c.requires.kept c.args.least t
+      slots = λ t from to. slot_next clear paid cell c.args.next c.args.window.lo c.requires.kept
+          c.args.least t from
           c.loop-time.time c.wait_from-wait.result (slice_index_or c.args.row.now t None)
           (slice_index_or c.loop-time.row t None) (slice_index_or c.offer.new.row t None)
           (omega arith) (omega arith) c.wait_from-wait.ensures

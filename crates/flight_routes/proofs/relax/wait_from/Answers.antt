@@ -1,3 +1,4 @@
+use Rattle.std.proofs.Common.{arith}
 use Rattle.flight_routes.specs.Entries.{cell_in}
 use Rattle.flight_routes.specs.RateLists.{clear_in, paid_in}
 use Rattle.flight_routes.proofs.EntryFacts.{wait_next}
@@ -7,4 +8,5 @@ pub returns : goal.returns
 returns c =
     rw (c.lesser.ensures, c.kept_of.ensures, c.entered_of-entered.ensures)
     (wait_next (clear_in c.args.clear.now) (paid_in c.args.paid.now) (cell_in c.args.cells.now)
-    c.args.next c.requires.kept c.args.time c.args.wait c.requires.hi c.requires.wait)
+    c.args.next c.args.time c.requires.kept c.args.time c.args.wait (omega arith) c.requires.hi
+    c.requires.wait)

@@ -7,7 +7,7 @@ use Rattle.flight_routes.proofs.trace.first_by.Goals as goal
 
 pub first_entry-requires-clause-last : goal.first_entry-requires-clause-last
 first_entry-requires-clause-last c =
-    let last = window_last c.args.rates.now.periods (row_of c.args.accesses.now) c.args.leg.to
+    let last = window_last c.args.rates.now.span (row_of c.args.accesses.now) c.args.leg.to
     c.in-Some.next c.requires.windows (sym c.window_at.ensures ∙ c.in-Some.is) in
     omega (arith, last.1, c.requires.day.few)
 

@@ -9,13 +9,13 @@ use Rattle.flight_routes.proofs.trace.first_start.Goals as goal
 
 pub overflow_add-time-end : goal.overflow_add-time-end
 overflow_add-time-end c =
-    let last = window_last c.args.rates.now.periods (row_of c.args.accesses.now) 0 c.args.window
+    let last = window_last c.args.rates.now.span (row_of c.args.accesses.now) 0 c.args.window
     c.requires.ready.windows c.requires.window in
     omega (arith, last.1, c.requires.ready.day.few)
 
 pub start_of-requires-clause-time : goal.start_of-requires-clause-time
 start_of-requires-clause-time c =
-    let last = window_last c.args.rates.now.periods (row_of c.args.accesses.now) 0 c.args.window
+    let last = window_last c.args.rates.now.span (row_of c.args.accesses.now) 0 c.args.window
     c.requires.ready.windows c.requires.window in
     omega (arith, last.1, c.requires.ready.day.few)
 

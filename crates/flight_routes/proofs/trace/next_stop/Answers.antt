@@ -51,7 +51,7 @@ unreachable-requires c =
     let none = subst (λ (o : Option Stop). IsFirst
     (IsNextAmong legs c.loop-at.at row rates c.args.cells.now stop value) o) c.in-None.is
     c.loop-at.invariant in
-    not_none flight row rates c.args.rates.now.periods c.requires.ready c.args.cells.now
+    not_none flight row rates c.args.rates.now.span c.requires.ready c.args.cells.now
     c.requires.cells legs stop value
     (subst (HasLegsFrom stop.node flight.legs) (sym c.items-legs.ensures)
     (all_legs stop.node flight.legs))
@@ -76,7 +76,7 @@ returns c =
     c.in-Some.is c.loop-at.invariant in
     subst (λ (o : Option ℤ). IsFirstAt (IsNext flight row rates c.args.cells.now stop o)
     c.in-Some.next) c.cell_at-value.ensures
-    (first_of_all flight row rates c.args.rates.now.periods c.requires.ready c.args.cells.now
+    (first_of_all flight row rates c.args.rates.now.span c.requires.ready c.args.cells.now
     c.requires.cells legs stop c.in-Some.next c.cell_at-value.result
     (subst (HasLegsFrom stop.node flight.legs) (sym c.items-legs.ensures)
     (all_legs stop.node flight.legs))

@@ -28,7 +28,7 @@ loop-stop-init c =
       goes_on = λ rest on.
           subst (λ (xs : List Stop). IsFirstLeast (IsWay flight row rates) (whole_cost rates)
           IsNoLater (xs ++ rest)) (sym items)
-          (trace_start flight row rates c.args.rates.now.periods c.requires.ready cells
+          (trace_start flight row rates c.args.rates.now.span c.requires.ready cells
           c.requires.cells stop c.args.least node c.requires.some c.requires.least
           c.start_stop-stop.ensures.first rest on);
       inside = omega (arith, node, c.requires.ready.network.nodes_from);
@@ -55,7 +55,7 @@ loop-stop-preserved c =
     record {
       goes_on = λ rest on.
           let more = so_far.goes_on (next ∷ rest)
-          (trace_next flight row rates c.args.rates.now.periods c.requires.ready cells
+          (trace_next flight row rates c.args.rates.now.span c.requires.ready cells
           c.requires.cells stop next (cell_at cells stop.node stop.time) before
           (c.requires.cells.each stop.node stop.time (omega arith) so_far.inside so_far.window)
           so_far.reaches first rest on) in
@@ -84,7 +84,7 @@ returns-clause-first c =
     subst (λ (xs : List Stop). IsFirstLeast (IsWay flight row rates) (whole_cost rates)
     IsNoLater xs) (append-nil c.loop-stop.stops.items)
     (so_far.goes_on []
-    (trace_last flight row rates c.args.rates.now.periods c.requires.ready cells c.requires.cells
+    (trace_last flight row rates c.args.rates.now.span c.requires.ready cells c.requires.cells
     stop (cell_at cells stop.node stop.time) last
     (c.requires.cells.each stop.node stop.time (omega arith) so_far.inside so_far.window)
     so_far.reaches))

@@ -1,4 +1,4 @@
-use Rattle.std.proofs.Common.{◌≡◌, ◌∙◌, ℕ, List, length, replicate, refl, ap}
+use Rattle.std.proofs.Common.{◌≡◌, ◌∙◌, ℕ, List, length, replicate, ap, arith}
 use Rattle.std.proofs.lemmas.List.{length-replicate}
 use Rattle.flight_routes.proofs.rates.RateTable.new.Goals as goal
 
@@ -7,7 +7,6 @@ long n a xs is = ap length is ∙ length-replicate n a
 
 pub returns : goal.returns
 returns c = record {
-  periods = refl;
   leaves = c.in_ok-no_costs.ensures;
   arrives = c.in_ok-no_costs-2.ensures;
   paid = c.in_ok-nothing_paid.ensures;
@@ -16,7 +15,7 @@ returns c = record {
 
 pub invariant_of-result : goal.invariant_of-result
 invariant_of-result c = record {
-  periods = c.requires;
+  span = omega arith;
   leaves = long _ _ _ c.in_ok-no_costs.ensures;
   arrives = long _ _ _ c.in_ok-no_costs-2.ensures;
   paid = long _ _ _ c.in_ok-nothing_paid.ensures;

@@ -1,35 +1,49 @@
-use Rattle.std.proofs.Common.{◌≡◌, ◌∙◌, [], length, refl, ap, subst, sym}
+use Rattle.std.proofs.Common.{◌≡◌, ◌∙◌, ◌<◌, [], length, refl, arith, subst, sym}
 use Rattle.std.proofs.lemmas.Option.{slice_get_read}
 use Rattle.flow_types.specs.Scenario.{parts_of}
+use Rattle.time_windows.specs.declared.access.Window.{Window}
 use Rattle.time_windows.specs.Held.{box_of}
 use Rattle.flight_routes.specs.Inside.{IsTripIn}
 use Rattle.flight_routes.specs.Prices.{priced_cost}
 use Rattle.flight_routes.specs.RateLists.{rates_of}
 use Rattle.flight_routes.specs.Rates.{IsWay, whole_cost}
-use Rattle.flight_routes.specs.Ready.{row_of}
+use Rattle.flight_routes.specs.Ready.{AreRising, row_of}
 use Rattle.flight_routes.specs.TripOrder.{IsNoLater}
-use Rattle.flight_routes.specs.TripRates.{AreTripRates}
-use Rattle.flight_routes.specs.Work.{Worked}
-use Rattle.flight_routes.proofs.WorkFacts.{match_first, price_ready, price_rising, priced_first, priced_least, proper_written, row_written, written}
+use Rattle.flight_routes.proofs.WorkFacts.{match_first, price_ready, price_rising, priced_first, priced_least, row_written, windows_written, written}
 use Rattle.flight_routes.proofs.work.Work.least_trip.Goals as goal
+
+pub set_price_rates-requires-clause-windows : goal.set_price_rates-requires-clause-windows
+set_price_rates-requires-clause-windows c =
+    let parts = parts_of c.args.s.now in
+    let read = written c.self.inside.accesses.len c.take_row-span.new.accesses
+    c.self.inside.accesses.items c.deref-row.result.now c.deref-row.ensures.value
+    (c.take_row-span.ensures.length ∙ sym c.self.invariant.2) in
+    windows_written c.deref-row.result.now c.take_row-span.new.accesses c.begin.new.self.span
+    c.take_row-span.result read c.begin.ensures.span c.take_row-span.ensures.windows
+
+pub set_price_rates-requires-clause-day : goal.set_price_rates-requires-clause-day
+set_price_rates-requires-clause-day c =
+    subst (λ (span : Window). span.hi < (parts_of c.args.s.now).day.periods)
+    (sym c.begin.ensures.span) c.take_row-span.ensures.day
 
 pub least_way-requires-clause-ready : goal.least_way-requires-clause-ready
 least_way-requires-clause-ready c =
-    let read = written c.self.inside.accesses.len c.take_row.new.accesses
-    c.self.inside.accesses.items c.deref-2.result.now c.deref-2.ensures.value
-    (c.take_row.ensures.length ∙ sym c.self.invariant.4) in
-    price_ready (parts_of c.args.s.now) c.args.s.now.valid (box_of c.args.boxes.now)
-    c.requires.boxes.inside c.args.flight c.index-flights-flight.result
-    (slice_get_read (parts_of c.args.s.now).flights (length (parts_of c.args.s.now).flights)
-    c.args.flight c.index-flights-flight.result refl c.requires.flight
-    (rw c.flights.ensures at c.index-flights-flight.is))
-    (row_of c.deref-2.result.now)
-    (row_written c.deref-2.result.now c.take_row.new.accesses
-    (box_of c.args.boxes.now c.args.flight) read c.take_row.ensures.row)
-    (proper_written c.deref-2.result.now c.take_row.new.accesses read c.take_row.ensures.proper)
-    c.set_price_rates.new.table
-    (c.set_price_rates.ensures.periods ∙ c.self.invariant.0
-    ∙ ap (λ (w : Worked). w.periods) c.self.view_is ∙ c.requires.made.periods)
+    let parts = parts_of c.args.s.now in
+    let read = written c.self.inside.accesses.len c.take_row-span.new.accesses
+    c.self.inside.accesses.items c.deref-row.result.now c.deref-row.ensures.value
+    (c.take_row-span.ensures.length ∙ sym c.self.invariant.2) in
+    let here = slice_get_read parts.flights (length parts.flights) c.args.flight
+    c.index-flights-flight.result refl c.requires.flight
+    (rw c.flights.ensures at c.index-flights-flight.is) in
+    let row = row_of c.deref-row.result.now in
+    let same = row_written c.deref-row.result.now c.take_row-span.new.accesses
+    (box_of c.args.boxes.now c.args.flight) read c.take_row-span.ensures.row in
+    price_ready parts c.args.s.now.valid (box_of c.args.boxes.now) c.requires.boxes.inside
+    c.args.flight c.index-flights-flight.result here row same c.set_price_rates.new.table
+    c.take_row-span.result (c.set_price_rates.ensures.span ∙ c.begin.ensures.span)
+    (windows_written c.deref-row.result.now c.take_row-span.new.accesses c.take_row-span.result
+    c.take_row-span.result read refl c.take_row-span.ensures.windows)
+    (omega (arith, c.take_row-span.ensures.day, c.args.s.now.valid.day.periods_to))
     c.set_price_rates.ensures.table
 
 pub least_way-requires-clause-rising : goal.least_way-requires-clause-rising
@@ -38,58 +52,59 @@ least_way-requires-clause-rising c =
     let here = slice_get_read parts.flights (length parts.flights) c.args.flight
     c.index-flights-flight.result refl c.requires.flight
     (rw c.flights.ensures at c.index-flights-flight.is) in
-    price_rising c.args.weight c.args.prices.now parts c.args.flight
-    c.index-flights-flight.result (row_of c.deref.result.now)
-    (rates_of c.set_price_rates.new.table) c.set_price_rates.new.table.periods
-    (c.set_price_rates.ensures.periods ∙ c.self.invariant.0
-    ∙ ap (λ (w : Worked). w.periods) c.self.view_is ∙ c.requires.made.periods)
-    (c.set_price_rates.ensures.rates c.index-flights-flight.result here)
+    let day = subst (λ (span : Window). span.hi < parts.day.periods) (sym c.begin.ensures.span)
+    c.take_row-span.ensures.day in
+    subst (λ (span : Window). AreRising c.index-flights-flight.result span
+    (rates_of c.set_price_rates.new.table)) (sym c.set_price_rates.ensures.span)
+    (price_rising c.args.weight c.args.prices.now parts c.args.flight
+    c.index-flights-flight.result (row_of c.deref-row.result.now) c.begin.new.self.span
+    (rates_of c.set_price_rates.new.table) day
+    (c.set_price_rates.ensures.rates c.index-flights-flight.result here))
 
 pub returns-clause-least : goal.returns-clause-least
 returns-clause-least c =
-    let read = written c.self.inside.accesses.len c.take_row.new.accesses
-    c.self.inside.accesses.items c.deref-2.result.now c.deref-2.ensures.value
-    (c.take_row.ensures.length ∙ sym c.self.invariant.4) in
-    let here = slice_get_read (parts_of c.args.s.now).flights
-    (length (parts_of c.args.s.now).flights) c.args.flight c.index-flights-flight.result refl
-    c.requires.flight (rw c.flights.ensures at c.index-flights-flight.is) in
+    let parts = parts_of c.args.s.now in
+    let read = written c.self.inside.accesses.len c.take_row-span.new.accesses
+    c.self.inside.accesses.items c.deref-row.result.now c.deref-row.ensures.value
+    (c.take_row-span.ensures.length ∙ sym c.self.invariant.2) in
+    let here = slice_get_read parts.flights (length parts.flights) c.args.flight
+    c.index-flights-flight.result refl c.requires.flight
+    (rw c.flights.ensures at c.index-flights-flight.is) in
+    let row = row_of c.deref-row.result.now in
+    let same = row_written c.deref-row.result.now c.take_row-span.new.accesses
+    (box_of c.args.boxes.now c.args.flight) read c.take_row-span.ensures.row in
+    let windows = windows_written c.deref-row.result.now c.take_row-span.new.accesses c.begin.new.self.span
+    c.take_row-span.result read c.begin.ensures.span c.take_row-span.ensures.windows in
     rw c.get.ensures
-    (priced_least (parts_of c.args.s.now) c.args.s.now.valid (box_of c.args.boxes.now)
-    c.requires.boxes.inside c.args.flight c.index-flights-flight.result here
-    (row_of c.deref-2.result.now)
-    (row_written c.deref-2.result.now c.take_row.new.accesses
-    (box_of c.args.boxes.now c.args.flight) read c.take_row.ensures.row)
-    c.args.weight c.args.prices.now (rates_of c.set_price_rates.new.table)
-    (subst (λ xs. AreTripRates c.args.weight c.args.prices.now (parts_of c.args.s.now) c.args.flight
-    c.index-flights-flight.result (row_of xs) (rates_of c.set_price_rates.new.table))
-    (c.deref.ensures.value ∙ sym c.deref-2.ensures.value)
-    (c.set_price_rates.ensures.rates c.index-flights-flight.result here))
+    (priced_least parts c.args.s.now.valid (box_of c.args.boxes.now) c.requires.boxes.inside
+    c.args.flight c.index-flights-flight.result here row same c.args.weight c.args.prices.now
+    c.begin.new.self.span windows.within (rates_of c.set_price_rates.new.table)
+    (c.set_price_rates.ensures.rates c.index-flights-flight.result here)
     c.least_way.result c.least_way.ensures.least)
 
 pub returns-clause-first : goal.returns-clause-first
 returns-clause-first c =
-    let read = written c.self.inside.accesses.len c.take_row.new.accesses
-    c.self.inside.accesses.items c.deref-2.result.now c.deref-2.ensures.value
-    (c.take_row.ensures.length ∙ sym c.self.invariant.4) in
-    let here = slice_get_read (parts_of c.args.s.now).flights
-    (length (parts_of c.args.s.now).flights) c.args.flight c.index-flights-flight.result refl
-    c.requires.flight (rw c.flights.ensures at c.index-flights-flight.is) in
+    let parts = parts_of c.args.s.now in
+    let read = written c.self.inside.accesses.len c.take_row-span.new.accesses
+    c.self.inside.accesses.items c.deref-row.result.now c.deref-row.ensures.value
+    (c.take_row-span.ensures.length ∙ sym c.self.invariant.2) in
+    let here = slice_get_read parts.flights (length parts.flights) c.args.flight
+    c.index-flights-flight.result refl c.requires.flight
+    (rw c.flights.ensures at c.index-flights-flight.is) in
+    let row = row_of c.deref-row.result.now in
+    let same = row_written c.deref-row.result.now c.take_row-span.new.accesses
+    (box_of c.args.boxes.now c.args.flight) read c.take_row-span.ensures.row in
+    let windows = windows_written c.deref-row.result.now c.take_row-span.new.accesses c.begin.new.self.span
+    c.take_row-span.result read c.begin.ensures.span c.take_row-span.ensures.windows in
     rw c.get.ensures
     (match_first
-    (IsWay c.index-flights-flight.result (row_of c.deref-2.result.now)
-    (rates_of c.set_price_rates.new.table))
-    (IsTripIn (parts_of c.args.s.now) (box_of c.args.boxes.now) c.args.flight)
+    (IsWay c.index-flights-flight.result row (rates_of c.set_price_rates.new.table))
+    (IsTripIn parts (box_of c.args.boxes.now) c.args.flight)
     (whole_cost (rates_of c.set_price_rates.new.table))
-    (priced_cost c.args.weight c.args.prices.now (parts_of c.args.s.now) c.args.flight) IsNoLater
+    (priced_cost c.args.weight c.args.prices.now parts c.args.flight) IsNoLater
     c.least_way.result (c.least_way.new.stops.items ≡ []) c.least_way.new.stops.items
-    (priced_first (parts_of c.args.s.now) c.args.s.now.valid (box_of c.args.boxes.now)
-    c.requires.boxes.inside c.args.flight c.index-flights-flight.result here
-    (row_of c.deref-2.result.now)
-    (row_written c.deref-2.result.now c.take_row.new.accesses
-    (box_of c.args.boxes.now c.args.flight) read c.take_row.ensures.row)
-    c.args.weight c.args.prices.now (rates_of c.set_price_rates.new.table)
-    (subst (λ xs. AreTripRates c.args.weight c.args.prices.now (parts_of c.args.s.now) c.args.flight
-    c.index-flights-flight.result (row_of xs) (rates_of c.set_price_rates.new.table))
-    (c.deref.ensures.value ∙ sym c.deref-2.ensures.value)
-    (c.set_price_rates.ensures.rates c.index-flights-flight.result here)))
+    (priced_first parts c.args.s.now.valid (box_of c.args.boxes.now) c.requires.boxes.inside
+    c.args.flight c.index-flights-flight.result here row same c.args.weight c.args.prices.now
+    c.begin.new.self.span windows.within (rates_of c.set_price_rates.new.table)
+    (c.set_price_rates.ensures.rates c.index-flights-flight.result here))
     c.least_way.ensures.first)
