@@ -6,7 +6,8 @@
 //! in a queue, where each slot costs so much that whoever has the next one doesn't want it. With a
 //! plan of the least cost and one scarce capacity that ends, as the search for shortest ways by
 //! repeated relaxation does, with prices that prove it (the dual of an assignment problem). With
-//! other plans some prices would rise for ever, so passes are few, and the best prices count.
+//! other plans, or where several capacities are scarce at once, some prices would rise for ever, so
+//! passes are few, and the best prices count.
 ghost use Rattle.std.specs.Prelude.{◌≡◌, ◌<◌, ◌≤◌, length};
 ghost use Rattle.flow_types.specs.Scenario.{parts_of};
 ghost use Rattle.flight_routes.specs.Work.{IsWorkFor};
