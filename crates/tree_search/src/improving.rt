@@ -102,6 +102,31 @@ pub fn improve(
     offer_found(s, walk, draft, found)
 }
 
+/// Looks for a plan that costs less than the best one, where the prices now tell more than they did
+/// before.
+pub fn improve_again(
+    alloc: Global,
+    s: &Scenario,
+    walk: &Walk,
+    rooms: &mut Rooms,
+    draft: &mut RecordDraft,
+    before: Bound,
+    bound: Bound,
+) -> Result<(), OutOfMemory>
+    requires boxes { IsMadeFor (parts_of s.now) walk.now.present }
+    requires rooms { AreRoomsFor (parts_of s.now) rooms.old }
+    ensures improved { (budget : Budget) → IsSearching (parts_of s.now) budget walk.now draft.old
+        → OnOk result (IsSearching (parts_of s.now) budget walk.now draft.new) }
+    ensures rooms { AreRoomsFor (parts_of s.now) rooms.new }
+{
+    if !bound.is_above(before) || bound.is_reached(draft.best) {
+        return Ok(());
+    }
+    let best = draft.plans.items().last();
+    let found = find_again(alloc, s, walk.boxes(), rooms, best, bound, Search::Again(0))?;
+    offer_found(s, walk, draft, found)
+}
+
 // How long the search for a cheaper plan is after the first climb: short where one is known, since
 // better prices may still be found then.
 fn next_search(known: Option<i64>) -> Search {

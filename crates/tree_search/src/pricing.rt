@@ -197,13 +197,16 @@ fn lean_often(
     requires rooms { ArePriceRoomsFor (parts_of s.now) rooms.old }
     ensures { ArePriceRoomsFor (parts_of s.now) rooms.new }
 {
-    let mut told = bound;
-    for number in 0..MOST_LEANS {
-        let before = told;
+    let mut told = lean_once(s, boxes, rooms, steps, plan, cutoff, bound, false)?;
+    let mut before = bound;
+    let mut number = 1;
+    while number < MOST_LEANS && !told.is_reached(cutoff) {
         told = lean_once(s, boxes, rooms, steps, plan, cutoff, told, number == 1)?;
-        if told.is_reached(cutoff) || (number > 1 && !told.is_above(before)) {
+        if !told.is_above(before) {
             return Ok(told);
         }
+        before = told;
+        number += 1;
     }
     Ok(told)
 }

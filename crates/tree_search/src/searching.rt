@@ -21,7 +21,7 @@ ghost use Rattle.branch_tree.specs.Paths.{AreSteps, IsFork, IsNextOr, top_box};
 use crate::branching::first_choice;
 use crate::draft::{RecordDraft, no_draft, note, offer};
 use crate::found::{Budget, Found};
-use crate::improving::{improve, improve_further, offer_found, seek};
+use crate::improving::{improve, improve_again, improve_further, offer_found, seek};
 use crate::pricing::{LEAD_PART, begin_climb, climb_again, climb_by_plan, climb_further, follow};
 use crate::rooms::{Rooms, rooms_for};
 use crate::seeing::{Seen, see};
@@ -366,6 +366,7 @@ fn search_from(
         bound,
     )?;
     improve(alloc, s, walk, rooms, draft, bound, Search::Long)?;
+    let before = bound;
     let bound = climb_by_plan(
         s,
         walk.boxes(),
@@ -373,8 +374,9 @@ fn search_from(
         budget.rounds,
         draft.plans.items().last(),
         draft.best,
-        bound,
+        before,
     )?;
+    improve_again(alloc, s, walk, rooms, draft, before, bound)?;
     let steps = steps_for(budget.rounds, bound, draft.best);
     run(alloc, s, budget, rooms, whole, walk, draft, steps, bound)
 }
