@@ -1,0 +1,5 @@
+pub mod WalkFacts
+pub mod TimeFacts
+pub mod ReachFacts
+pub mod WayFacts
+pub mod WorkedWalks
