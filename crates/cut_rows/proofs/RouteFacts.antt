@@ -1,0 +1,62 @@
+-- Distances that are made flight by flight.
+use Rattle.std.proofs.Common.{◌≡◌, ℕ, ◌+◌, ◌≤◌, List, [], ◌∷◌, ◌++◌, length, get_or, slice_get, inl, inr, refl, sym, subst, arith}
+use Rattle.std.proofs.lemmas.Bool.{cases_lt}
+use Rattle.std.proofs.lemmas.List.{get_or_append_left, get_or_past, get_or_push, length-append}
+use Rattle.std.proofs.lemmas.List.Elements.{All-nil}
+use Rattle.std.proofs.lemmas.Option.{slice_get_past}
+use Rattle.flow_types.specs.declared.parts.Parts.{Parts}
+use Rattle.flow_types.specs.Routes.{IsLeg}
+use Rattle.route_distances.specs.Walks.{legs_of, reaches_of, shortest_of}
+use Rattle.route_distances.specs.Ways.{AreWaysAlong, Ways, reaches_in, shortest_in}
+use Rattle.route_distances.proofs.WalkFacts.{far_beyond, reach_beyond}
+use Rattle.cut_rows.specs.Routes.{AreRoutesOf, AreRoutesTo, no_ways, ways_of}
+
+pub none_yet : (parts : Parts) → AreRoutesTo parts 0 []
+none_yet parts = record { long = refl; each = λ f below. absurd (omega (arith, below)) }
+
+module _ (parts : Parts) where
+  abbrev AreOf : ℕ → Ways → Type 0
+  AreOf f ways = AreWaysAlong (legs_of (slice_get parts.flights f)) ways
+
+  pub one_more : (count : ℕ) (routes now : List Ways) (ways : Ways) → AreRoutesTo parts count routes
+      → AreOf count ways → now ≡ routes ++ ways ∷ [] → AreRoutesTo parts (count + 1) now
+  one_more count routes now ways before is new =
+      subst (AreRoutesTo parts (count + 1)) (sym new) (record {
+        long = omega (arith, length-append routes (ways ∷ []), before.long);
+        each = λ f below. elim (cases_lt f count)
+            as (λ _. AreOf f (get_or (routes ++ ways ∷ []) f no_ways)) [
+              | inl less ↦ subst (AreOf f) (sym (get_or_append_left routes (ways ∷ []) no_ways f
+                  (omega (arith, less, before.long)))) (before.each f less)
+              | inr more ↦
+                  let here : count ≡ f = omega (arith, more, below) in
+                  subst (λ n. AreOf n (get_or (routes ++ ways ∷ []) n no_ways)) here
+                  (subst (AreOf count) (sym (get_or_push routes ways no_ways count before.long)) is)
+            ];
+      })
+
+  none_along : AreWaysAlong [] no_ways
+  none_along = record {
+    shortest = λ node. sym (far_beyond 0 [] (All-nil (IsLeg 0)) node (omega arith));
+    reaches = λ from to. sym (reach_beyond 0 [] (All-nil (IsLeg 0)) from to (omega arith));
+  }
+
+  pub all_routes : (count : ℕ) (routes : List Ways) → AreRoutesTo parts count routes
+      → length parts.flights ≤ count → AreRoutesOf parts routes
+  all_routes count routes are all f =
+      elim (cases_lt f count) as (λ _. AreOf f (ways_of routes f)) [
+        | inl less ↦ are.each f less
+        | inr more ↦ subst (λ o. AreWaysAlong (legs_of o) (ways_of routes f))
+            (sym (slice_get_past parts.flights f (omega (arith, more, all))))
+            (subst (AreWaysAlong []) (sym (get_or_past routes f no_ways
+            (omega (arith, more, are.long)))) none_along)
+      ]
+
+  pub reaches_told : (routes : List Ways) (f from to : ℕ) → AreRoutesOf parts routes
+      → reaches_in (ways_of routes f) from to
+      ≡ reaches_of (legs_of (slice_get parts.flights f)) from to
+  reaches_told routes f from to are = (are f).reaches from to
+
+  pub shortest_told : (routes : List Ways) (f node : ℕ) → AreRoutesOf parts routes
+      → shortest_in (ways_of routes f) node
+      ≡ shortest_of (legs_of (slice_get parts.flights f)) node
+  shortest_told routes f node are = (are f).shortest node

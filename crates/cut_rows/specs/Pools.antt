@@ -1,0 +1,26 @@
+-- The rows of a day with a pool of cuts, by their names.
+use Rattle.std.specs.Prelude.{Bool, false, List, Option, None, Some, slice_get}
+use Rattle.flow_types.specs.declared.parts.Parts.{Parts}
+use Rattle.bytime_model.specs.declared.names.RowName.{RowName}
+use Rattle.bytime_model.specs.declared.names.RowName.TheVariants.{Cut}
+use Rattle.bytime_model.specs.Rows.{AtMost, is_row, no_row, row_of}
+use Rattle.valid_cuts.specs.declared.names.CutName.{CutName}
+use Rattle.cut_rows.specs.Cuts.{cut_row, is_cut}
+
+-- the cut at a position, if there is one
+abbrev pub is_cut_at : Parts → Option CutName → Bool
+is_cut_at parts None = false
+is_cut_at parts (Some cut) = is_cut parts cut
+
+abbrev pub cut_row_at : Parts → Option CutName → AtMost
+cut_row_at parts None = no_row
+cut_row_at parts (Some cut) = cut_row parts cut
+
+-- there is such a row, with a pool
+abbrev pub is_row_in : Parts → List CutName → RowName → Bool
+is_row_in parts pool (Cut i) = is_cut_at parts (slice_get pool i)
+is_row_in parts pool name = is_row parts name
+
+abbrev pub row_in : Parts → List CutName → RowName → AtMost
+row_in parts pool (Cut i) = cut_row_at parts (slice_get pool i)
+row_in parts pool name = row_of parts name
