@@ -1,0 +1,6 @@
+pub mod FirstFacts
+pub mod ValueFacts
+pub mod CutSizeFacts
+pub mod TakenFacts
+pub mod WorkedWhole
+pub mod WholeLaws

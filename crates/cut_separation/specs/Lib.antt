@@ -1,0 +1,5 @@
+pub mod Exceeding
+pub mod Framed
+pub mod Order
+pub mod Points
+pub mod Whole
