@@ -16,8 +16,8 @@
 //!     }
 //!
 //! Whoever knows that a cut is there, as one who makes them, has its row by `hold_heads` or
-//! `hold_departed`, with no test. Whoever has a pool of cuts asks `fill_row` by the names of all rows, of which those of cuts are
-//! positions in the pool.
+//! `hold_departed`, with no test. Whoever has a pool of cuts asks `fill_row` by the names of all
+//! rows, of which those of cuts are positions in the pool.
 //!
 //! The definitions stand in `specs/`: `Cuts` (which cuts there are, and their rows), `Routes` (the
 //! distances of all flights) and `Pools` (the rows of a day with a pool, by their names). Why a cut
@@ -27,7 +27,8 @@
 //! exactly it (`row`), which no plan that keeps every rule breaks (`valid`), or no terms (`none`).
 //! Like terms are collected (`collected`): no two are of one variable, and no factor is 0. `is_cut`
 //! tells whether there is such a cut, and `is_head` whether a node is a head of another;
-//! `hold_heads` and `hold_departed` hold exactly the row of their cut. `Routes` are the distances of each flight (`routes`).
+//! `hold_heads` and `hold_departed` hold exactly the row of their cut. `Routes` are the distances
+//! of each flight (`routes`).
 //!
 //! Memory: `Routes` takes a byte for each two nodes of a flight and 34 for each node, or up to
 //! twice that: at most 4 MB. The others take none. Time: for a cut of heads the legs of its flight

@@ -8,8 +8,8 @@ ghost use Rattle.cut_rows.specs.Cuts.{is_cut};
 ghost use Rattle.cut_separation.specs.Order.{IsBefore};
 ghost use Rattle.cut_separation.specs.Whole.{IsWhole, whole_cuts};
 
-/// Of a valid scenario a cut is in the list of whole cuts exactly where there is such a cut and it is
-/// whole. The list is in order, so that none is there twice.
+/// Of a valid scenario a cut is in the list of whole cuts exactly where there is such a cut and it
+/// is whole. The list is in order, so that none is there twice.
 pub fn whole_cuts_are_in_order()
     ensures each { (parts : Parts) (cut : CutName) → IsScenario parts
         → Any (λ other. other ≡ cut) (whole_cuts parts)

@@ -19,8 +19,8 @@
 //! `Framed` serves the proof.
 //!
 //! Proved: `separate` gives exactly the first 10,000 of the whole cuts that the point exceeds, or
-//! all of these where there are fewer (`exactly`). The list of whole cuts has each cut that is whole
-//! and no other (`each`), in order (`order`), so that none is there twice
+//! all of these where there are fewer (`exactly`). The list of whole cuts has each cut that is
+//! whole and no other (`each`), in order (`order`), so that none is there twice
 //! (`whole_cuts_are_in_order`).
 //!
 //! The row of each cut is held in room that is made once, and its terms are looked up by their

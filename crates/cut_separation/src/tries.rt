@@ -245,8 +245,8 @@ fn add_flight(
 pub fn add_kind(draft: &mut Draft, frame: &Frame<'_>, kind: WholeKind) -> Result<(), OutOfMemory>
     requires framed { IsFramed frame.now }
     requires few { length draft.old.cuts ≤ most_cuts }
-    ensures { OnOk result (AddsFirst most_cuts (is_taken frame.now) (kind_cuts (parts_in frame.now) kind)
-        draft.old.cuts draft.new.cuts) }
+    ensures { OnOk result (AddsFirst most_cuts (is_taken frame.now)
+        (kind_cuts (parts_in frame.now) kind) draft.old.cuts draft.new.cuts) }
 {
     for flight in 0..frame.s.flights().len() {
         add_flight(draft, frame, kind, flight as u32)?;
