@@ -15,13 +15,13 @@ use crate::routes::Routes;
 use bytime_model::{RowBuffer, Var};
 use flow_types::Scenario;
 
-// Whether a walk along the flight's legs leads from the one node to the other.
+// Whether a walk along the flight's legs leads from the one node to the other. The scenario is for
+// the contract alone.
 #[tactic(auto, using(crate::proofs::RouteFacts::reaches_told))]
 fn reaches(s: &Scenario, routes: &Routes, flight: u32, from: u16, to: u16) -> bool
     requires { AreRoutesOf (parts_of s.now) routes.now }
     ensures { result ≡ reaches_of (legs_of (slice_get (parts_of s.now).flights flight)) from to }
 {
-    let _periods = s.day().periods;
     routes.reaches(flight, from, to)
 }
 

@@ -20,13 +20,13 @@ pub fn is_departed_cut(s: &Scenario, flight: u32, node: u16, time: u16) -> bool
     time < s.day().periods && 0 < node && is_node(s, flight, node)
 }
 
-// How long it takes the flight at the least to get to the node.
+// How long it takes the flight at the least to get to the node. The scenario is for the contract
+// alone.
 #[tactic(auto, using(crate::proofs::RouteFacts::shortest_told))]
 fn shortest(s: &Scenario, routes: &Routes, flight: u32, node: u16) -> u16
     requires { AreRoutesOf (parts_of s.now) routes.now }
     ensures { result ≡ shortest_of (legs_of (slice_get (parts_of s.now).flights flight)) node }
 {
-    let _periods = s.day().periods;
     routes.shortest(flight, node)
 }
 

@@ -92,7 +92,7 @@ fn fill_at(buffer: &mut RowBuffer, s: &Scenario, routes: &Routes, pool: &Pool, i
     }
 }
 
-// Holds no row.
+// Holds no row. The scenario is for the contract alone.
 #[tactic(auto, using(crate::proofs::CutLaws::none_valid, crate::proofs::CutLaws::none_collected))]
 fn hold_none(buffer: &mut RowBuffer, s: &Scenario) -> bool
     ensures told { result ≡ false }
@@ -100,7 +100,6 @@ fn hold_none(buffer: &mut RowBuffer, s: &Scenario) -> bool
     ensures valid { IsValid (parts_of s.now) buffer.new }
     ensures collected { AreCollected buffer.new.terms }
 {
-    let _periods = s.day().periods;
     buffer.clear();
     false
 }

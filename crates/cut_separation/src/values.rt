@@ -77,13 +77,11 @@ fn set_column(numbers: &mut Vec<i64>, columns: &Columns, point: &FreePoint, colu
     set_at(numbers, position, numerator_at(point, column));
 }
 
-/// The denominator of a point.
+/// The denominator of a point. The scenario and the boxes are for the contract alone.
 pub fn denominator_of(s: &Scenario, boxes: &Boxes, point: &FreePoint) -> i64
     requires { IsPointOf (parts_of s.now) (box_of boxes.now) point.now }
     ensures { result ≡ point.now.denominator }
 {
-    let _periods = s.day().periods;
-    let _window = boxes.window(0, 0);
     narrow(point.denominator)
 }
 
