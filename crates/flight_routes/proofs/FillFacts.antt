@@ -1,17 +1,20 @@
 -- Windows within the day, and nodes filled one after another.
-use Rattle.std.proofs.Common.{◌^◌, IfSome, get_or, ◌≡◌, ◌≢◌, ◌⊎◌, ℕ, zero, suc, ◌+◌, ◌-◌, ◌<◌, ◌≤◌, length, Option, Some, None, ℤ, refl, sym, ap, ◌∙◌, subst, inl, inr, arith}
-use Rattle.std.proofs.lemmas.Bool.{cases_eq}
+use Rattle.std.proofs.Common.{◌^◌, IfSome, get_or, ◌≡◌, ◌≢◌, ◌⊎◌, ℕ, zero, suc, ◌+◌, ◌-◌, ◌<◌, ◌≤◌, length, slice_get, slice_index, List, Option, Some, None, ℤ, refl, sym, ap, ◌∙◌, subst, inl, inr, arith}
+use Rattle.std.proofs.lemmas.Bool.{cases_eq, cases_lt}
 use Rattle.flow_types.specs.declared.flight.Flight.{Flight}
 use Rattle.flow_types.specs.declared.parts.Parts.{Parts}
 use Rattle.flow_types.specs.Limits.{most_nodes, most_periods}
+use Rattle.flow_types.specs.declared.place.CapKind.TheVariants as kind
+use Rattle.flow_types.specs.Capacities.{capacity_of, caps_of}
 use Rattle.plan_rules.specs.Tally.{Tally}
+use Rattle.plan_rules.specs.Loads.{load_at}
 use Rattle.time_windows.specs.declared.access.Access.{Access}
 use Rattle.time_windows.specs.declared.access.Window.{Window}
 use Rattle.time_windows.specs.Boxes.{IsInWindow, IsProper}
 use Rattle.time_windows.specs.declared.ends.End.{End}
 use Rattle.time_windows.specs.declared.ends.End.TheVariants.{Arrival, Departure}
 use Rattle.flight_routes.specs.Filling.{IsFitTable, OnlyClear, OnlyEnd, OnlyPaid}
-use Rattle.flight_routes.specs.FitTimes.{IsClearAt, IsFirstFull}
+use Rattle.flight_routes.specs.FitTimes.{HasSpace, IsClearAt, IsFirstFull, IsNextFull}
 use Rattle.flight_routes.specs.RateLists.{RateLists, rates_of}
 use Rattle.flight_routes.specs.Rates.{AreClear, IsClear}
 use Rattle.exact_sums.specs.Near.{IsNear}
@@ -143,6 +146,66 @@ in_span_more row node span wider wide here before n t below inside (inl same) =
     here t (subst (λ k. IsInWindow (row k).window t) same inside)
 in_span_more row node span wider wide here before n t below inside (inr other) =
     wide t (before n t (omega (arith, below, other)) inside)
+
+-- the first full period, by room
+pub first_kept : (counts capacities : List ℕ) (time later : ℕ)
+    → slice_index counts time + 1 ≤ slice_index capacities time
+    → IsNextFull counts capacities time later later
+first_kept counts capacities time later room =
+    record { room = λ r. refl; none = λ no. absurd (no room) }
+
+pub first_here : (counts capacities : List ℕ) (time later : ℕ)
+    → (slice_index counts time + 1 ≤ slice_index capacities time → ⊥)
+    → IsNextFull counts capacities time later time
+first_here counts capacities time later none =
+    record { room = λ r. absurd (none r); none = λ no. refl }
+
+first_by : (parts : Parts) (loads : Tally) (place last time later first : ℕ)
+    (counts capacities : List ℕ) → slice_index counts time ≡ load_at loads kind.Sector place time
+    → capacities ≡ caps_of kind.Sector (slice_get parts.places place)
+    → IsNextFull counts capacities time later first
+    → (slice_index capacities time < slice_index counts time + 1)
+    ⊎ (slice_index counts time + 1 ≤ slice_index capacities time)
+    → IsFirstFull parts loads place last (time + 1) later
+    → IsFirstFull parts loads place last time first
+first_by parts loads place last time later first counts capacities count is next (inr room) was =
+    let here : HasSpace parts loads kind.Sector place time =
+    subst (λ (n : ℕ). n + 1 ≤ capacity_of parts.places kind.Sector place time) count
+    (subst (λ (xs : List ℕ). slice_index counts time + 1 ≤ slice_index xs time) is room) in
+    subst (IsFirstFull parts loads place last time) (sym (next.room room)) (record {
+      late = omega (arith, was.late);
+      free = λ p from before within. room_at here p from before within (cases_eq p time);
+      full = was.full;
+    })
+  where
+    room_at : HasSpace parts loads kind.Sector place time → (p : ℕ) → time ≤ p → p < later
+        → p ≤ last → (p ≡ time) ⊎ (p ≢ time) → HasSpace parts loads kind.Sector place p
+    room_at here p from before within (inl same) =
+        subst (HasSpace parts loads kind.Sector place) (sym same) here
+    room_at here p from before within (inr other) =
+        was.free p (omega (arith, from, other)) before within
+first_by parts loads place last time later first counts capacities count is next (inl less) was =
+    subst (IsFirstFull parts loads place last time)
+    (sym (next.none (λ room. omega (arith, room, less)))) (record {
+      late = omega arith;
+      free = λ p from before within. absurd (omega (arith, from, before));
+      full = λ within space.
+          let room = subst (λ (xs : List ℕ). slice_index counts time + 1 ≤ slice_index xs time)
+          (sym is)
+          (subst (λ (n : ℕ). n + 1 ≤ capacity_of parts.places kind.Sector place time) (sym count)
+          space) in
+          omega (arith, room, less);
+    })
+
+pub first_is : (parts : Parts) (loads : Tally) (place last time later first : ℕ)
+    (counts capacities : List ℕ) → slice_index counts time ≡ load_at loads kind.Sector place time
+    → capacities ≡ caps_of kind.Sector (slice_get parts.places place)
+    → IsNextFull counts capacities time later first
+    → IsFirstFull parts loads place last (time + 1) later
+    → IsFirstFull parts loads place last time first
+first_is parts loads place last time later first counts capacities count is next was =
+    first_by parts loads place last time later first counts capacities count is next
+    (cases_lt (slice_index capacities time) (slice_index counts time + 1)) was
 
 -- of one node, what the table tells from a period on: the first full period from each one on
 pub record TellsFull (parts : Parts) (loads : Tally) (place node : ℕ) (span : Window)

@@ -1,8 +1,7 @@
 -- Sums of prices over the periods from each one on.
-use Rattle.std.proofs.Common.{◌≡◌, ◌≢◌, ◌⊎◌, ℕ, zero, suc, ◌+◌, ◌-◌, ◌*◌, ◌^◌, ◌<◌, ◌≤◌, List, length, get_or, set, sum_by, refl, sym, ap, subst, ◌∙◌, inl, inr, arith}
+use Rattle.std.proofs.Common.{◌≡◌, ◌⊎◌, ℕ, zero, suc, ◌+◌, ◌-◌, ◌*◌, ◌^◌, ◌<◌, ◌≤◌, List, length, get_or, sum_by, refl, sym, ap, ◌∙◌, inl, inr, arith}
 use Rattle.std.specs.List.{range_with_len}
 use Rattle.std.proofs.lemmas.Bool.{cases_eq}
-use Rattle.std.proofs.lemmas.List.{get_or-set_same, get_or-set_other, length-set}
 use Rattle.std.proofs.lemmas.List.Sums.{sum_by-cons}
 use Rattle.flight_routes.specs.Prices.{summed}
 
@@ -47,117 +46,76 @@ summed_more price from n low =
       summed_none price (n + 1) (n + 1) (omega arith),
     )
 
--- the sums of the periods from one on are told, and the others are as they were
-pub record AddsLater (price : ℕ → ℕ) (shift periods time sum : ℕ)
-    (old new : List ℕ) : Type 0 where
+-- The sums of the periods from one on are told, as far as they are in a window, and the others there
+-- are as they were.
+pub record AddsLater (price : ℕ → ℕ) (lo hi shift periods time sum : ℕ) (old new : List ℕ)
+    : Type 0 where
   pub long : length new ≡ length old
   pub within : time ≤ periods
   pub sum_is : sum ≡ summed price time periods
   pub few : sum + time * 2 ^ 62 ≤ periods * 2 ^ 62
-  pub done : (t : ℕ) → time ≤ t + shift → t < periods
+  pub done : (t : ℕ) → lo ≤ t → t ≤ hi → time ≤ t + shift
       → get_or new t 0 ≡ get_or old t 0 + summed price (t + shift) periods
-  pub left : (t : ℕ) → t + shift < time → get_or new t 0 ≡ get_or old t 0
-  pub grown : (t : ℕ) → get_or new t 0 ≤ get_or old t 0 + periods * 2 ^ 62
+  pub left : (t : ℕ) → t ≤ hi → t + shift < time → get_or new t 0 ≡ get_or old t 0
+  pub grown : (t : ℕ) → t ≤ hi → get_or new t 0 ≤ get_or old t 0 + periods * 2 ^ 62
 
-pub adds_none : (price : ℕ → ℕ) (shift periods : ℕ) (sums : List ℕ)
-    → AddsLater price shift periods periods 0 sums sums
-adds_none price shift periods sums = record {
+pub adds_none : (price : ℕ → ℕ) (lo hi shift periods : ℕ) (sums : List ℕ)
+    → AddsLater price lo hi shift periods periods 0 sums sums
+adds_none price lo hi shift periods sums = record {
   long = refl;
   within = omega arith;
   sum_is = sym (summed_none price periods periods (omega arith));
   few = omega arith;
-  done = λ t past in_day.
+  done = λ t low high past.
       omega (arith, summed_none price (t + shift) periods past);
-  left = λ t before. refl;
-  grown = λ t. omega arith;
+  left = λ t high before. refl;
+  grown = λ t high. omega arith;
 }
 
-module _ (price : ℕ → ℕ) (shift periods before time sum : ℕ) (old new : List ℕ)
-    (next : before ≡ time + 1) (adds : AddsLater price shift periods before sum old new)
-    (above : shift ≤ time)
-    (room : periods ≤ length old) (one : price time < 2 ^ 62) where
-  there : time - shift < length new
-  there = omega (arith, adds.long, adds.within, above, room)
-
-  more : sum + price time ≡ summed price time periods
+module _ (price : ℕ → ℕ) (lo hi shift periods before time sum value at : ℕ)
+    (old new added : List ℕ) (next : before ≡ time + 1)
+    (adds : AddsLater price lo hi shift periods before sum old new) (above : shift ≤ time)
+    (at_is : at ≡ time - shift) (value_is : value ≡ price time) (one : price time < 2 ^ 62)
+    (long : length added ≡ length new)
+    (here : at ≤ hi → get_or added at 0 ≡ get_or new at 0 + (sum + value))
+    (others : (t : ℕ) → t ≤ hi → (t ≡ at → ⊥) → get_or added t 0 ≡ get_or new t 0) where
+  more : sum + value ≡ summed price time periods
   more =
       let step = summed_step price time periods (omega (arith, next, adds.within)) in
-      omega (arith, step, adds.sum_is, ap (λ n. summed price n periods) next)
+      omega (arith, step, adds.sum_is, value_is, ap (λ n. summed price n periods) next)
 
-  at_place : (t : ℕ) → (t ≡ time - shift) ⊎ (t ≢ time - shift)
-      → ((t ≡ time - shift)
-      × (get_or (set new (time - shift) (get_or new (time - shift) 0 + (sum + price time))) t 0
-      ≡ get_or old t 0 + (sum + price time)))
-      ⊎ ((t ≢ time - shift)
-      × (get_or (set new (time - shift) (get_or new (time - shift) 0 + (sum + price time))) t 0
-      ≡ get_or new t 0))
-  at_place t (inl same) =
-      inl (
-        same,
-        ap (λ n. get_or
-            (set new (time - shift) (get_or new (time - shift) 0 + (sum + price time))) n 0) same
-            ∙ get_or-set_same new (time - shift)
-            (get_or new (time - shift) 0 + (sum + price time)) 0
-            there
-            ∙ ap (λ n. n + (sum + price time))
-            (adds.left (time - shift) (omega (arith, above)) ∙ ap (λ n. get_or old n 0) (sym same)),
-      )
-  at_place t (inr other) =
-      inr (
-        other,
-        get_or-set_other new (time - shift) t
-            (get_or new (time - shift) 0 + (sum + price time)) 0 other,
-      )
+  done_by : (t : ℕ) → lo ≤ t → t ≤ hi → time ≤ t + shift → (t ≡ at) ⊎ (t ≡ at → ⊥)
+      → get_or added t 0 ≡ get_or old t 0 + summed price (t + shift) periods
+  done_by t low high from (inl same) =
+      let is : t + shift ≡ time = omega (arith, same, at_is, above) in
+      let was = adds.left t high (omega (arith, is, next)) in
+      ap (λ n. get_or added n 0) same ∙ here (omega (arith, same, high))
+      ∙ ap (λ n. get_or new n 0 + (sum + value)) (sym same)
+      ∙ ap (λ n. n + (sum + value)) was
+      ∙ ap (λ n. get_or old t 0 + n) (more ∙ ap (λ n. summed price n periods) (sym is))
+  done_by t low high from (inr other) =
+      others t high other
+      ∙ adds.done t low high (omega (arith, other, at_is, above, from, next))
 
-  done_by : (t : ℕ) → time ≤ t + shift → t < periods
-      → ((t ≡ time - shift)
-      × (get_or (set new (time - shift) (get_or new (time - shift) 0 + (sum + price time))) t 0
-      ≡ get_or old t 0 + (sum + price time)))
-      ⊎ ((t ≢ time - shift)
-      × (get_or (set new (time - shift) (get_or new (time - shift) 0 + (sum + price time))) t 0
-      ≡ get_or new t 0))
-      → get_or (set new (time - shift) (get_or new (time - shift) 0 + (sum + price time))) t 0
-      ≡ get_or old t 0 + summed price (t + shift) periods
-  done_by t from in_day (inl here) =
-      let is : t + shift ≡ time = omega (arith, here.0, above) in
-      here.1 ∙ ap (λ n. get_or old t 0 + n) (more ∙ ap (λ n. summed price n periods) (sym is))
-  done_by t from in_day (inr there_is) =
-      there_is.1 ∙ adds.done t (omega (arith, there_is.0, above, from)) in_day
+  grown_by : (t : ℕ) → t ≤ hi → (t ≡ at) ⊎ (t ≡ at → ⊥)
+      → get_or added t 0 ≤ get_or old t 0 + periods * 2 ^ 62
+  grown_by t high (inl same) =
+      let is : t + shift ≡ time = omega (arith, same, at_is, above) in
+      let was = adds.left t high (omega (arith, is, next)) in
+      let now = ap (λ n. get_or added n 0) same ∙ here (omega (arith, same, high))
+      ∙ ap (λ n. get_or new n 0 + (sum + value)) (sym same) in
+      omega (arith, now, was, adds.few, one, value_is, next)
+  grown_by t high (inr other) = omega (arith, others t high other, adds.grown t high)
 
-  grown_by : (t : ℕ)
-      → ((t ≡ time - shift)
-      × (get_or (set new (time - shift) (get_or new (time - shift) 0 + (sum + price time))) t 0
-      ≡ get_or old t 0 + (sum + price time)))
-      ⊎ ((t ≢ time - shift)
-      × (get_or (set new (time - shift) (get_or new (time - shift) 0 + (sum + price time))) t 0
-      ≡ get_or new t 0))
-      → get_or (set new (time - shift) (get_or new (time - shift) 0 + (sum + price time))) t 0
-      ≤ get_or old t 0 + periods * 2 ^ 62
-  grown_by t (inl here) = omega (arith, here.1, adds.few, one)
-  grown_by t (inr there_is) = omega (arith, there_is.1, adds.grown t)
-
-  pub adds_more : AddsLater price shift periods time (sum + price time) old
-      (set new (time - shift) (get_or new (time - shift) 0 + (sum + price time)))
+  pub adds_more : AddsLater price lo hi shift periods time (sum + value) old added
   adds_more = record {
-    long = length-set new (time - shift) (get_or new (time - shift) 0 + (sum + price time))
-        ∙ adds.long;
-    within = omega (arith, adds.within);
+    long = long ∙ adds.long;
+    within = omega (arith, adds.within, next);
     sum_is = more;
-    few = omega (arith, adds.few, one);
-    done = λ t from in_day. done_by t from in_day (at_place t (cases_eq t (time - shift)));
-    left = λ t early.
-        get_or-set_other new (time - shift) t
-        (get_or new (time - shift) 0 + (sum + price time)) 0 (λ e. absurd (omega (arith, e, above)))
-        ∙ adds.left t (omega (arith, early, next));
-    grown = λ t. grown_by t (at_place t (cases_eq t (time - shift)));
+    few = omega (arith, adds.few, one, value_is, next);
+    done = λ t low high from. done_by t low high from (cases_eq t at);
+    left = λ t high early.
+        others t high (λ e. absurd (omega (arith, e, at_is, above, early)))
+        ∙ adds.left t high (omega (arith, early, next));
+    grown = λ t high. grown_by t high (cases_eq t at);
   }
-
-  -- as the code says it
-  pub adds_read : (at value : ℕ) → at ≡ time - shift → value ≡ price time
-      → AddsLater price shift periods time (sum + value) old
-      (set new at (get_or new at 0 + (sum + value)))
-  adds_read at value at_is value_is =
-      subst (λ a. AddsLater price shift periods time (sum + value) old
-      (set new a (get_or new a 0 + (sum + value)))) (sym at_is)
-      (subst (λ v. AddsLater price shift periods time (sum + v) old
-      (set new (time - shift) (get_or new (time - shift) 0 + (sum + v)))) (sym value_is) adds_more)

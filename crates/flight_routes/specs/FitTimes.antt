@@ -1,5 +1,5 @@
 -- The periods in which a flight may leave, arrive or stay beside the loads.
-use Rattle.std.specs.Prelude.{ℕ, ◌+◌, ◌<◌, ◌≤◌, List, Option, ℤ, pos, ◌-ℤ◌}
+use Rattle.std.specs.Prelude.{◌≡◌, ℕ, ◌+◌, ◌<◌, ◌≤◌, List, Option, slice_index, ℤ, pos, ◌-ℤ◌}
 use Rattle.flow_types.specs.declared.flight.CostTable.{CostTable}
 use Rattle.flow_types.specs.declared.flight.Flight.{Flight}
 use Rattle.flow_types.specs.declared.parts.Parts.{Parts}
@@ -44,6 +44,11 @@ pub record IsFirstFull (parts : Parts) (loads : Tally) (place last time first : 
   pub free : (p : ℕ) → time ≤ p → p < first → p ≤ last
       → HasSpace parts loads kind.Sector place p
   pub full : first ≤ last → HasSpace parts loads kind.Sector place first → ⊥
+
+-- the period, if no room is left in it, and else a later one
+pub record IsNextFull (counts capacities : List ℕ) (time later first : ℕ) : Type 0 where
+  pub room : slice_index counts time + 1 ≤ slice_index capacities time → first ≡ later
+  pub none : (slice_index counts time + 1 ≤ slice_index capacities time → ⊥) → first ≡ time
 
 -- of one node: the first full period is the period, or that of the next one
 abbrev pub IsClearAt : Window → ℕ → Rates → Type 0

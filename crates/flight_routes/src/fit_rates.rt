@@ -1,9 +1,9 @@
 //! The rates of a flight beside the trips of others, at which only trips that fit are ways.
-ghost use Rattle.std.specs.Prelude.{◌≡◌, ◌≤◌, ◌<◌, ◌+◌, ◌^◌, ◌↔◌, ◌⊎◌, ℕ, IfSome, IsTrue, List, None, Some, length, option_map, slice_get, pos, ◌-ℤ◌};
+ghost use Rattle.std.specs.Prelude.{◌≡◌, ◌≤◌, ◌<◌, ◌+◌, ◌^◌, ◌↔◌, ◌⊎◌, ℕ, IfSome, IsTrue, List, None, Some, length, option_map, slice_get, slice_index, pos, ◌-ℤ◌};
 ghost use Rattle.flow_types.specs.declared.flight.Flight.{Flight};
 ghost use Rattle.flow_types.specs.declared.place.CapKind.TheVariants as kind;
 ghost use Rattle.flow_types.specs.declared.plan.Stop.{Stop};
-ghost use Rattle.flow_types.specs.Capacities.{has_kind};
+ghost use Rattle.flow_types.specs.Capacities.{caps_of, has_kind};
 ghost use Rattle.flow_types.specs.Limits.{most_nodes};
 ghost use Rattle.flow_types.specs.Scenario.{flight_at, parts_of};
 ghost use Rattle.flow_types.specs.Trips.{place_at};
@@ -11,7 +11,7 @@ ghost use Rattle.plan_rules.specs.Loads.{AreLoads, IsMadeFor};
 ghost use Rattle.time_windows.specs.Boxes.{IsInWindow};
 ghost use Rattle.flight_routes.specs.Filling.{AreSmallAt, IsFitTable, OnlyClear, OnlyEnd};
 ghost use Rattle.flight_routes.specs.FitRates.{AreFitRates, IsGiven};
-ghost use Rattle.flight_routes.specs.FitTimes.{HasSpace, IsClearAt, IsFirstFull, IsFreeAt, IsInTimeAt, fit_value};
+ghost use Rattle.flight_routes.specs.FitTimes.{HasSpace, IsClearAt, IsFirstFull, IsFreeAt, IsInTimeAt, IsNextFull, fit_value};
 ghost use Rattle.flight_routes.specs.RateLists.{rates_of};
 ghost use Rattle.exact_sums.specs.Near.{IsNear};
 ghost use Rattle.flight_routes.specs.Rates.{AreClear, rate_at};
@@ -159,16 +159,34 @@ fn set_end_in(
     }
 }
 
+// The capacities of the sector, by period.
+fn capacities_of(s: &Scenario, place: u32) -> &[u32]
+    ensures { result.now ≡ caps_of kind.Sector (slice_get (parts_of s.now).places place) }
+{
+    match s.places().get(place as usize) {
+        None => &[],
+        Some(place) => place.first.items(),
+    }
+}
+
+// Whether there is room for one more flight than are counted.
+fn has_room(counts: &[u32], capacities: &[u32], time: u16) -> bool
+    requires { time < length counts.now }
+    ensures { IsTrue result
+        ↔ slice_index counts.now time + 1 ≤ slice_index capacities.now time }
+{
+    let at = usize::from(time);
+    counts[at] < capacities.get(at).copied().unwrap_or(0)
+}
+
 // The first full period, by that from the next period on.
-fn first_full(s: &Scenario, loads: &Loads, place: u32, time: u16, later: u16) -> u16
-    requires loads { IsMadeFor (parts_of s.now) loads.now }
-    requires place { IsTrue (has_kind kind.Sector (slice_get (parts_of s.now).places place)) }
-    requires time { time < (parts_of s.now).day.periods }
-    ensures full { (last : ℕ) → IsFirstFull (parts_of s.now) loads.now place last (time + 1) later
-        → IsFirstFull (parts_of s.now) loads.now place last time result }
+#[tactic(auto, using(crate::proofs::FillFacts::first_kept, crate::proofs::FillFacts::first_here))]
+fn first_full(counts: &[u32], capacities: &[u32], time: u16, later: u16) -> u16
+    requires time { time < length counts.now }
+    ensures full { IsNextFull counts.now capacities.now time later result }
     ensures choice { (result ≡ time) ⊎ (result ≡ later) }
 {
-    if has_space(s, loads, CapKind::Sector, place, time) {
+    if has_room(counts, capacities, time) {
         later
     } else {
         time
@@ -187,11 +205,13 @@ fn set_full(table: &mut RateTable, s: &Scenario, node: u16, place: u32, loads: &
     ensures only { OnlyClear node table.old table.new }
 {
     let span = table.span();
+    let counts = loads.row(CapKind::Sector, place);
+    let capacities = capacities_of(s, place);
     let mut time = span.hi + 1;
     let mut first = MOST_PERIODS;
     while span.lo < time {
         time -= 1;
-        first = first_full(s, loads, place, time, first);
+        first = first_full(counts, capacities, time, first);
         table.set_clear(node, time, first);
     }
 }

@@ -123,7 +123,8 @@ fn set_end(
     requires window { window.hi < (parts_of s.now).day.periods }
     requires weight { weight < 2 ^ 62 }
     requires sums { length sums.now ≡ (parts_of s.now).day.periods }
-    requires small { (t : ℕ) → slice_index sums.now t ≤ most_connections * 2 ^ 71 }
+    requires small { (t : ℕ) → window.lo ≤ t → t ≤ window.hi
+        → slice_index sums.now t ≤ most_connections * 2 ^ 71 }
     ensures costs { (t : ℕ) → window.lo ≤ t → t ≤ window.hi
         → rate_at end (rates_of table.new) t ≡ Some (end_value end weight prices.now
         (parts_of s.now) (flight_at s.now flight) t (slice_index sums.now t)) }
@@ -189,6 +190,7 @@ fn set_end_rates(
         prices,
         turns.of_flight(flight, end),
         end,
+        window,
         s.day().periods,
     );
     set_end(table, s, flight, end, window, weight, prices, sums);

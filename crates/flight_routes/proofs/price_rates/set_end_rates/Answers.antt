@@ -29,5 +29,4 @@ returns-clause-costs c = λ t low high.
     c.args.flight c.requires.flight c.of_flight.result.now t _ c.day.result.periods
     (ap (λ (day : Day). day.periods) c.day.ensures)
     (c.of_flight.ensures ∙ own c.args.flight c.requires.flight)
-    (c.add_up_later.ensures.sums t
-    (omega (arith, high, c.requires.window, ap (λ (day : Day). day.periods) c.day.ensures))))
+    (c.add_up_later.ensures.sums t low high))
