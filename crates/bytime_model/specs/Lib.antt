@@ -8,6 +8,5 @@ pub mod Left
 pub mod Multipliers
 pub mod Order
 pub mod Rows
-pub mod Table
 pub mod Values
 pub mod Visits

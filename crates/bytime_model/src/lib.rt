@@ -31,8 +31,7 @@
 //! and `wait_term` give such a factor with its variable.
 //!
 //! Whoever adds up over the variables that a tight box leaves free makes their positions once a
-//! scenario, `Columns::new(alloc, &s)?`, or these with the visits and the cost row,
-//! `table_for(alloc, &s)?`; `landing_of(&columns, &s, &boxes, variable)` tells where a
+//! scenario, `Columns::new(alloc, &s)?`; `landing_of(&columns, &s, &boxes, variable)` tells where a
 //! variable counts: nowhere, surely, or at a position. The positions are those of the tight root
 //! box, node by node, so they are found with no search and serve every tight box within.
 //!
@@ -40,12 +39,12 @@
 //! rows, by their names), `Kinds` (the one list of their kinds, and what names each has), `AllRows`
 //! (the names of all rows, and its parts) and `Order` (their order), which go by it, `Visits` (who
 //! has a node at a place), `CostRow` (what a plan costs, as a sum of terms), `Left` (what a box
-//! leaves of a variable), `Columns` (a position for each variable that a tight box may leave free),
-//! `Landing` (where a variable counts) and `Table` (positions, visits and the cost row, made once).
-//! `Filling` serves the proofs alone; `Multipliers` says how large the numbers of rows that are
-//! counted may be. `proofs/RowLaws.antt`, `proofs/KindLaws.antt` and `proofs/SmallFacts.antt` are
-//! for the proofs of crates above: how large factors, limits and steps are, how long a row is, of
-//! which names there are rows, and how many; they stand on the other files of proofs too.
+//! leaves of a variable), `Columns` (a position for each variable that a tight box may leave free)
+//! and `Landing` (where a variable counts). `Filling` serves the proofs alone; `Multipliers` says
+//! how large the numbers of rows that are counted may be. `proofs/RowLaws.antt`,
+//! `proofs/KindLaws.antt` and `proofs/SmallFacts.antt` are for the proofs of crates above: how
+//! large factors, limits and steps are, how long a row is, of which names there are rows, and how
+//! many; they stand on the other files of proofs too.
 //!
 //! A new kind of rows has its name, its place in the list and its numbers in `src/names.rt` and
 //! `specs/Kinds.antt`, its row in `src/rows.rt` and `specs/Rows.antt`, and a clause in each lemma
@@ -71,10 +70,9 @@
 //! Memory: `RowBuffer` takes 0.2 MB once, `Visits` 8 bytes for each node of a flight and for each
 //! place, `linear_cost` 24 bytes for each period that a flight may be late or wait, `row_of` 24 for
 //! each term, and `rows_of` and the calls for its parts 12 for each name; these take up to twice
-//! that, since the lists grow. `Columns` takes 24 bytes for each of 32 nodes a flight, and
-//! `table_for` what `Columns`, `Visits` and the cost row take. While they run `row_of` takes a
-//! `RowBuffer` more, `Visits::new` up to 28 bytes for each node and 4 for each place, and
-//! `Columns::new` and `table_for` a root box. The others take none. Time: for a row of a capacity,
+//! that, since the lists grow. `Columns` takes 24 bytes for each of 32 nodes a flight. While they
+//! run `row_of` takes a `RowBuffer` more, `Visits::new` up to 28 bytes for each node and 4 for each
+//! place, and `Columns::new` a root box. The others take none. Time: for a row of a capacity,
 //! `fill` goes over the flights of the day, and `fill_with` over those that have a node at the
 //! place; for that of a sector, `fill` also goes over the nodes of each flight, and both over the
 //! legs of each flight that has a node there. For any other row both go over the legs of its
@@ -92,7 +90,6 @@ mod multiplier;
 mod names;
 mod row;
 mod rows;
-mod table;
 mod variables;
 mod visited;
 mod visits;
@@ -112,6 +109,5 @@ pub use names::{
 };
 pub use row::{Row, row_of};
 pub use rows::{has_inside, is_row};
-pub use table::{Table, table_for};
 pub use variables::{Term, Terms, Var, Vars};
 pub use visits::{Visit, Visits};

@@ -28,8 +28,8 @@ use Rattle.bytime_model.proofs.TripFacts.{before, before_le}
 use Rattle.bytime_model.proofs.UseFacts.{IsFlown, by_value}
 use Rattle.bytime_model.proofs.ValidFacts.{flown}
 use Rattle.route_distances.specs.Walks.{legs_of, shortest_of}
-use Rattle.valid_cuts.specs.declared.names.CutName.{CutName}
-use Rattle.valid_cuts.specs.declared.names.CutName.TheVariants.{Apart, Departed, Heads}
+use Rattle.cut_rows.specs.declared.names.CutName.{CutName}
+use Rattle.cut_rows.specs.declared.names.CutName.TheVariants.{Apart, Departed, Heads}
 use Rattle.cut_rows.specs.Cuts.{apart_term, apart_terms, are_apart, are_heads, ascends_from, cut_row, cut_terms, departed_terms, head_term, head_time, heads_terms, is_cut, is_head, leads_to_none}
 use Rattle.cut_rows.proofs.NodeFacts.{head_leg, head_within, heads_are, legs_network, nodes_apart, passes}
 use Rattle.cut_rows.proofs.SumFacts.{only, sum_le, sum_of, sum_once}

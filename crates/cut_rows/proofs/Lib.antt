@@ -1,3 +1,5 @@
+pub mod PoolFacts
+pub mod PoolRows
 pub mod RouteFacts
 pub mod NodeFacts
 pub mod FillFacts

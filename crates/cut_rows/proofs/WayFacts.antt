@@ -90,7 +90,8 @@ module _ (periods : ℕ) (flight : Flight) (network : All (IsLeg (length flight.
               let soon = not_sooner node time stop rest onward (omega (arith, some)) in
               let from = ap (shortest_of legs) first in
               let zero_at = first_far (length flight.nodes) legs network in
-              let wait : shortest_of legs node + stop.time ≤ time = omega (arith, soon, from, zero_at)
+              let wait : shortest_of legs node + stop.time ≤ time = omega
+              (arith, soon, from, zero_at)
               in
               omega (
                 arith,
@@ -132,7 +133,8 @@ module _ (periods : ℕ) (flight : Flight) (network : All (IsLeg (length flight.
         reached_after stop.node node time stop rest onward (inl refl) there
 
 -- the leg between two nodes is the one that joins them
-joins_both : (from to : ℕ) (leg : Leg) → joins from to leg ≡ true → (leg.from ≡ from) × (leg.to ≡ to)
+joins_both : (from to : ℕ) (leg : Leg) → joins from to leg ≡ true → (leg.from ≡ from) × (leg.to
+    ≡ to)
 joins_both from to leg is =
     let both = and_parts (leg.from == from) (leg.to == to) is in
     (eqb-true leg.from from both.0, eqb-true leg.to to both.1)

@@ -5,7 +5,7 @@ use Rattle.flow_types.specs.declared.parts.Parts.{Parts}
 use Rattle.bytime_model.specs.declared.variables.Var.TheVariants.{By}
 use Rattle.bytime_model.specs.Rows.{minus_one, one, term_of}
 use Rattle.worked_days.specs.Days.{there, two_flights}
-use Rattle.valid_cuts.specs.declared.names.CutName.TheVariants.{Apart, Departed, Heads}
+use Rattle.cut_rows.specs.declared.names.CutName.TheVariants.{Apart, Departed, Heads}
 use Rattle.cut_rows.specs.Cuts.{cut_row, is_cut}
 
 abbrev leg_with : ℕ → ℕ → ℕ → Leg

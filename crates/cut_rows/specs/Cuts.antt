@@ -8,8 +8,8 @@ use Rattle.bytime_model.specs.declared.variables.Term.{Term}
 use Rattle.bytime_model.specs.declared.variables.Var.TheVariants.{By}
 use Rattle.bytime_model.specs.Rows.{AtMost, by_before, is_node, minus_one, no_row, one, term_of}
 use Rattle.route_distances.specs.Walks.{legs_of, reaches_of, shortest_of}
-use Rattle.valid_cuts.specs.declared.names.CutName.{CutName}
-use Rattle.valid_cuts.specs.declared.names.CutName.TheVariants.{Apart, Departed, Heads}
+use Rattle.cut_rows.specs.declared.names.CutName.{CutName}
+use Rattle.cut_rows.specs.declared.names.CutName.TheVariants.{Apart, Departed, Heads}
 
 -- the leg leads from one node to the other
 abbrev pub joins : ℕ → ℕ → Leg → Bool

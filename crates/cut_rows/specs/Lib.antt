@@ -1,3 +1,5 @@
 pub mod Cuts
+pub mod Order
 pub mod Pools
 pub mod Routes
+pub mod Table

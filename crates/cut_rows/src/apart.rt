@@ -6,7 +6,7 @@ ghost use Rattle.flow_types.specs.Scenario.{parts_of};
 ghost use Rattle.bytime_model.specs.Filling.{Adds};
 ghost use Rattle.bytime_model.specs.Rows.{most_terms, no_row};
 ghost use Rattle.route_distances.specs.Walks.{legs_of, reaches_of};
-ghost use Rattle.valid_cuts.specs.declared.names.CutName.TheVariants.{Apart};
+ghost use Rattle.cut_rows.specs.declared.names.CutName.TheVariants.{Apart};
 ghost use Rattle.cut_rows.specs.Cuts.{FillsCut, apart_term, apart_terms, are_apart, is_cut, leads_to_none};
 ghost use Rattle.cut_rows.specs.Routes.{AreRoutesOf};
 

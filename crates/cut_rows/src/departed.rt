@@ -4,7 +4,7 @@ ghost use Rattle.flow_types.specs.Scenario.{parts_of};
 ghost use Rattle.bytime_model.specs.Filling.{Adds};
 ghost use Rattle.bytime_model.specs.Rows.{by_before, minus_one, most_terms, no_row};
 ghost use Rattle.route_distances.specs.Walks.{legs_of, shortest_of};
-ghost use Rattle.valid_cuts.specs.declared.names.CutName.TheVariants.{Departed};
+ghost use Rattle.cut_rows.specs.declared.names.CutName.TheVariants.{Departed};
 ghost use Rattle.cut_rows.specs.Cuts.{FillsCut, cut_row, is_cut};
 ghost use Rattle.cut_rows.specs.Routes.{AreRoutesOf};
 

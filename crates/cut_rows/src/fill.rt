@@ -2,18 +2,20 @@
 ghost use Rattle.std.specs.Prelude.{◌≡◌, false, slice_get, true};
 ghost use Rattle.flow_types.specs.Scenario.{parts_of};
 ghost use Rattle.bytime_model.specs.Rows.{AreCollected, IsValid, no_row};
-ghost use Rattle.bytime_model.specs.Visits.{AreVisitsOf};
 ghost use Rattle.cut_rows.specs.Cuts.{FillsCut, cut_row, is_cut};
-ghost use Rattle.cut_rows.specs.Pools.{cut_row_at, is_cut_at, is_row_in, row_in};
+ghost use Rattle.cut_rows.specs.Pools.{cut_row_at, is_cut_at, is_row_with, row_with};
 ghost use Rattle.cut_rows.specs.Routes.{AreRoutesOf};
+ghost use Rattle.cut_rows.specs.Table.{IsTableFor};
 
 use crate::apart::{fill_apart, is_apart_cut};
 use crate::departed::{fill_departed, is_departed_cut};
 use crate::heads::{fill_heads, is_heads_cut};
+use crate::names::CutName;
+use crate::pool::Pool;
 use crate::routes::Routes;
-use bytime_model::{RowBuffer, RowName, Visits};
+use crate::table::Table;
+use bytime_model::{RowBuffer, RowName, is_row};
 use flow_types::Scenario;
-use valid_cuts::{CutName, Pool};
 
 /// Whether there is such a cut: its flight and its period are there, and its nodes are as its kind
 /// wants them. It takes no memory.
@@ -109,21 +111,42 @@ fn hold_none(buffer: &mut RowBuffer, s: &Scenario) -> bool
 pub fn fill_row(
     buffer: &mut RowBuffer,
     s: &Scenario,
-    visits: &Visits,
-    routes: &Routes,
+    table: &Table,
     pool: &Pool,
     name: RowName,
 ) -> bool
-    requires visits { AreVisitsOf (parts_of s.now) visits.now }
-    requires routes { AreRoutesOf (parts_of s.now) routes.now }
-    ensures told { result ≡ is_row_in (parts_of s.now) pool.now name }
-    ensures row { result ≡ true → buffer.new ≡ row_in (parts_of s.now) pool.now name }
+    requires table { IsTableFor (parts_of s.now) table.now }
+    ensures told { result ≡ is_row_with (parts_of s.now) pool.now name }
+    ensures row { result ≡ true → buffer.new ≡ row_with (parts_of s.now) pool.now name }
     ensures none { result ≡ false → buffer.new ≡ no_row }
     ensures valid { IsValid (parts_of s.now) buffer.new }
     ensures collected { AreCollected buffer.new.terms }
 {
     match name {
-        RowName::Cut { index } => fill_at(buffer, s, routes, pool, index),
-        _ => buffer.fill_with(s, visits, name),
+        RowName::Cut { index } => fill_at(buffer, s, &table.routes, pool, index),
+        _ => buffer.fill_with(s, &table.visits, name),
     }
+}
+
+/// Whether there is a row of this name, with a pool: that of a cut is its position in the pool. It
+/// takes no memory.
+pub fn is_row_with(s: &Scenario, routes: &Routes, pool: &Pool, name: RowName) -> bool
+    requires routes { AreRoutesOf (parts_of s.now) routes.now }
+    ensures { result ≡ is_row_with (parts_of s.now) pool.now name }
+{
+    match name {
+        RowName::Cut { index } => is_cut_at(s, routes, pool, index),
+        _ => is_row(s, name),
+    }
+}
+
+// Whether there is the cut at a position of the pool.
+fn is_cut_at(s: &Scenario, routes: &Routes, pool: &Pool, index: u32) -> bool
+    requires routes { AreRoutesOf (parts_of s.now) routes.now }
+    ensures { result ≡ is_cut_at (parts_of s.now) (slice_get pool.now index) }
+{
+    let Some(cut) = pool.items().get(index as usize) else {
+        return false;
+    };
+    is_cut(s, routes, cut)
 }

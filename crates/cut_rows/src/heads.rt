@@ -6,7 +6,7 @@ ghost use Rattle.flow_types.specs.Scenario.{parts_of};
 ghost use Rattle.bytime_model.specs.Filling.{Adds};
 ghost use Rattle.bytime_model.specs.Rows.{most_terms, no_row};
 ghost use Rattle.route_distances.specs.Walks.{legs_of};
-ghost use Rattle.valid_cuts.specs.declared.names.CutName.TheVariants.{Heads};
+ghost use Rattle.cut_rows.specs.declared.names.CutName.TheVariants.{Heads};
 ghost use Rattle.cut_rows.specs.Cuts.{FillsCut, are_heads, cut_row, head_term, head_time, heads_terms, is_cut, is_from, is_head, joins, least_between};
 
 use crate::nodes::{ascends, legs_at};

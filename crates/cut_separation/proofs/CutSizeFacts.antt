@@ -1,10 +1,9 @@
 -- What a row of a whole cut is like: few terms, of variables that are there, each once.
-use Rattle.std.proofs.Common.{◌≡◌, ℕ, ◌-◌, ◌≤◌, Bool, true, false, nat_le, cond, List, [], ◌∷◌, length, map, Option, None, Some, slice_get, All, if◌then◌else◌, refl, arith}
+use Rattle.std.proofs.Common.{◌≡◌, ℕ, ◌-◌, ◌≤◌, Bool, true, false, nat_le, cond, List, [], ◌∷◌, length, map, get_or, Option, None, Some, slice_get, All, if◌then◌else◌, unsigned_abs, inl, inr, refl, ap, arith}
 use Rattle.std.proofs.lemmas.Int.{ints}
-use Rattle.std.proofs.lemmas.List.{length-append}
+use Rattle.std.proofs.lemmas.List.{length-append, length-map}
 use Rattle.std.specs.List.{filter, range_with_len}
 use Rattle.std.proofs.lemmas.List.FromFn.{length-range_with_len}
-use Rattle.std.proofs.lemmas.List.Elements.{All-append, All-cons, All-nil}
 use Rattle.flow_types.specs.declared.flight.Flight.{Flight}
 use Rattle.flow_types.specs.declared.parts.Parts.{Parts}
 use Rattle.flow_types.specs.Limits.{most_nodes}
@@ -12,59 +11,30 @@ use Rattle.flow_types.specs.Valid.{IsScenario}
 use Rattle.time_windows.proofs.RootFacts.{flight_in}
 use Rattle.bytime_model.specs.declared.variables.Term.{Term}
 use Rattle.bytime_model.specs.declared.variables.Var.TheVariants.{By}
-use Rattle.bytime_model.specs.Rows.{by_before, minus_one, node_count, one, term_of}
+use Rattle.bytime_model.specs.Rows.{minus_one, node_count, term_of}
+use Rattle.bytime_model.proofs.SmallFacts.{IsUnit}
 use Rattle.route_distances.specs.Walks.{legs_of, shortest_of}
-use Rattle.valid_cuts.specs.declared.names.CutName.{CutName}
-use Rattle.valid_cuts.specs.declared.names.CutName.TheVariants.{Apart, Departed, Heads}
-use Rattle.cut_rows.specs.Cuts.{apart_term, cut_row, cut_terms, head_term, is_head}
+use Rattle.cut_rows.specs.declared.names.CutName.{CutName}
+use Rattle.cut_rows.specs.declared.names.CutName.TheVariants.{Departed, Heads}
+use Rattle.cut_rows.specs.Cuts.{cut_row, cut_terms, head_term, is_head}
+use Rattle.cut_rows.proofs.PoolRows.{cut_there, cut_units}
 use Rattle.cut_separation.specs.Framed.{IsSmall, IsSmallRow}
 use Rattle.cut_separation.specs.Whole.{heads_of}
 
-module _ (flights : List Flight) where
-  one_small : (f n t : ℕ) → IsSmall flights (term_of one (By f n t))
-  one_small f n t = record { there = tt; unit = omega (arith, ints) }
-
-  minus_small : (f n t : ℕ) → IsSmall flights (term_of minus_one (By f n t))
-  minus_small f n t = record { there = tt; unit = omega (arith, ints) }
-
-  mapped_small : (part : ℕ → Term) → ((n : ℕ) → IsSmall flights (part n)) → (nodes : List ℕ)
-      → All (IsSmall flights) (map part nodes)
-  mapped_small part each [] = All-nil (IsSmall flights)
-  mapped_small part each (node ∷ nodes) =
-      All-cons (IsSmall flights) (part node) (map part nodes) (each node)
-      (mapped_small part each nodes)
-
-  before_small : (b : Bool) (f n t : ℕ)
-      → All (IsSmall flights) (if b then term_of minus_one (By f n t) ∷ [] else [])
-  before_small true f n t =
-      All-cons (IsSmall flights) (term_of minus_one (By f n t)) [] (minus_small f n t)
-      (All-nil (IsSmall flights))
-  before_small false f n t = All-nil (IsSmall flights)
-
-mapped_long : (part : ℕ → Term) (nodes : List ℕ) → length (map part nodes) ≡ length nodes
-mapped_long part [] = refl
-mapped_long part (node ∷ nodes) = omega (arith, mapped_long part nodes)
+-- each cut has such terms alone
+pub cut_small : (parts : Parts) (cut : CutName) → All (IsSmall parts.flights) (cut_terms parts cut)
+cut_small parts cut k d within = record {
+  there = cut_there parts cut k d within;
+  unit = by (get_or (cut_terms parts cut) k d) (cut_units parts cut k d within);
+}
+  where
+    by : (term : Term) → IsUnit term → unsigned_abs term.factor ≤ 1
+    by term (inl plus) = omega (arith, ap unsigned_abs plus)
+    by term (inr minus) = omega (arith, ap unsigned_abs minus)
 
 before_few : (b : Bool) (term : Term) → length (if b then term ∷ [] else []) ≤ 1
 before_few true term = omega arith
 before_few false term = omega arith
-
--- each cut has such terms alone
-pub cut_small : (parts : Parts) (cut : CutName) → All (IsSmall parts.flights) (cut_terms parts cut)
-cut_small parts (Heads f n t heads) =
-    let legs = legs_of (slice_get parts.flights f) in
-    All-append (IsSmall parts.flights) (map (head_term parts.day.periods legs f n t) heads)
-    (term_of minus_one (By f n t) ∷ [])
-    (mapped_small parts.flights (head_term parts.day.periods legs f n t)
-    (λ head. record { there = tt; unit = omega (arith, ints) }) heads)
-    (before_small parts.flights true f n t)
-cut_small parts (Apart f t nodes) =
-    mapped_small parts.flights (apart_term f t) (λ node. one_small parts.flights f node t) nodes
-cut_small parts (Departed f n t) =
-    let wait = shortest_of (legs_of (slice_get parts.flights f)) n in
-    All-cons (IsSmall parts.flights) (term_of one (By f n t))
-    (by_before minus_one f 0 t wait) (one_small parts.flights f n t)
-    (before_small parts.flights (nat_le wait t) f 0 (t - wait))
 
 pub heads_small : (parts : Parts) (f n t : ℕ) (heads : List ℕ) → length heads ≤ most_nodes
     → IsSmallRow parts.flights (cut_row parts (Heads f n t heads))
@@ -75,7 +45,7 @@ heads_small parts f n t heads few =
         arith,
         length-append (map (head_term parts.day.periods legs f n t) heads)
             (term_of minus_one (By f n t) ∷ []),
-        mapped_long (head_term parts.day.periods legs f n t) heads,
+        length-map heads (head_term parts.day.periods legs f n t),
         few,
       );
       each = cut_small parts (Heads f n t heads);

@@ -5,7 +5,7 @@ use Rattle.std.proofs.lemmas.Grind.{flat_map-append}
 use Rattle.std.proofs.lemmas.List.{append-nil, append_assoc, length-append, take-append-le}
 use Rattle.std.proofs.lemmas.List.Elements.{filter-append}
 use Rattle.std.proofs.lemmas.List.FromFn.{map-range_with_len_more}
-use Rattle.valid_cuts.specs.declared.names.CutName.{CutName}
+use Rattle.cut_rows.specs.declared.names.CutName.{CutName}
 use Rattle.cut_separation.specs.Exceeding.{AddsFirst}
 
 pub take_then : {X : Type 0} (n : ℕ) (xs ys : List X)
@@ -40,7 +40,8 @@ filter_next test n b is =
     ∙ ap (λ c. filter test (range_with_len 0 n) ++ cond c (n ∷ []) []) is ∙ by b
   where
     by : (c : Bool) → filter test (range_with_len 0 n) ++ cond c (n ∷ []) []
-        ≡ (if c then filter test (range_with_len 0 n) ++ n ∷ [] else filter test (range_with_len 0 n))
+        ≡ (if c then filter test (range_with_len 0 n) ++ n ∷ [] else filter test
+        (range_with_len 0 n))
     by true = refl
     by false = append-nil (filter test (range_with_len 0 n))
 
@@ -104,7 +105,8 @@ module _ (most : ℕ) (test : CutName → Bool) where
       → AddsFirst most test (part i) old new
       → AddsFirst most test (flat_map part (range_with_len 0 (i + 1))) start new
   adds_part part i start old new before here =
-      let both = adds_then (flat_map part (range_with_len 0 i)) (part i) start old new before here in
+      let both = adds_then (flat_map part (range_with_len 0 i))
+      (part i) start old new before here in
       subst (λ cuts. AddsFirst most test cuts start new) (sym (more i)) both
     where
       more : (n : ℕ) → flat_map part (range_with_len 0 (n + 1))

@@ -10,8 +10,8 @@ use Rattle.bytime_model.specs.declared.variables.Term.{Term}
 use Rattle.bytime_model.specs.declared.variables.Var.{Var}
 use Rattle.bytime_model.specs.Columns.{IsThere}
 use Rattle.bytime_model.specs.Rows.{AtMost}
-use Rattle.valid_cuts.specs.declared.names.CutName.{CutName}
-use Rattle.valid_cuts.specs.declared.names.CutName.TheVariants.{Heads}
+use Rattle.cut_rows.specs.declared.names.CutName.{CutName}
+use Rattle.cut_rows.specs.declared.names.CutName.TheVariants.{Heads}
 use Rattle.cut_rows.specs.Cuts.{cut_limit, cut_row, cut_terms}
 use Rattle.cut_separation.specs.declared.frame.Frame.{Frame}
 use Rattle.cut_separation.specs.declared.point.FreePoint.{FreePoint}

@@ -177,7 +177,8 @@ module _ (parts : Parts) (numbering : Numbering) (box : Box) (point : FreePoint)
   set_by column v number numbers within one two false told =
       get_or-set_other numbers (position column) (position v) number (pos 0)
       (λ same. let e = one_position column v one two (sym same) in
-      let yes : is_same column v ≡ true = subst (λ w. is_same column w ≡ true) e (same_refl column) in
+      let yes : is_same column v ≡ true = subst (λ w. is_same column w ≡ true) e
+      (same_refl column) in
       let bad : ⊥ = cc in bad)
 
   pub column_set : (i : ℕ) (d : Var) (numbers new : List ℤ)

@@ -11,13 +11,13 @@ use Rattle.flow_types.specs.Valid.{IsScenario}
 use Rattle.bytime_model.specs.Rows.{is_node, node_count}
 use Rattle.bytime_model.proofs.NameLists.{Ascending, Each, any_first, any_flat, any_if, any_map, any_second, ascending_append, ascending_flat, ascending_if, ascending_map, ascending_pairs, each_any, each_append, each_flat, each_if, each_map, each_weaker}
 use Rattle.route_distances.specs.Walks.{legs_of}
-use Rattle.valid_cuts.specs.declared.names.CutName.{CutName}
-use Rattle.valid_cuts.specs.declared.names.CutName.TheVariants.{Apart, Departed, Heads}
+use Rattle.cut_rows.specs.declared.names.CutName.{CutName}
+use Rattle.cut_rows.specs.declared.names.CutName.TheVariants.{Apart, Departed, Heads}
 use Rattle.cut_rows.specs.Cuts.{are_heads, ascends_from, is_cut, is_head}
 use Rattle.cut_rows.proofs.NodeFacts.{head_leg, head_within, heads_are, passes}
 use Rattle.cut_separation.specs.declared.whole.WholeKind.{WholeKind}
 use Rattle.cut_separation.specs.declared.whole.WholeKind.TheVariants as kind
-use Rattle.cut_separation.specs.Order.{IsBefore, comes_before, numbers_of}
+use Rattle.cut_rows.specs.Order.{IsBefore, comes_before, numbers_of}
 use Rattle.cut_separation.specs.Whole.{IsWhole, flight_cuts, heads_cuts, heads_of, kind_cuts, node_cuts, over_day, whole_cuts}
 
 -- what a filter over a range keeps ascends, and passes
@@ -73,7 +73,7 @@ node_below None node is = absurd cc
 node_below (Some flight) node is = ltb-true node (length flight.nodes) is
 
 module _ (parts : Parts) where
-  abbrev IsIn : CutName → Type 0
+  abbrev pub IsIn : CutName → Type 0
   IsIn cut = (is_cut parts cut ≡ true) × IsWhole parts cut
 
   -- each of the list is such a cut
@@ -114,7 +114,7 @@ module _ (parts : Parts) where
       (node_count (slice_get parts.flights f))
       (λ n from_n below_n. node_in k f n (omega (arith, below_n))))
 
-  all_in : Each IsIn (whole_cuts parts)
+  pub all_in : Each IsIn (whole_cuts parts)
   all_in =
       each_append IsIn (kind_cuts parts kind.Heads) (kind_cuts parts kind.Departed ++ [])
       (kind_in kind.Heads)

@@ -4,8 +4,8 @@ use Rattle.flow_types.specs.declared.flight.Flight.{Flight}
 use Rattle.flow_types.specs.declared.flight.Leg.{Leg}
 use Rattle.flow_types.specs.declared.parts.Parts.{Parts}
 use Rattle.worked_days.specs.Days.{there, two_flights}
-use Rattle.valid_cuts.specs.declared.names.CutName.{CutName}
-use Rattle.valid_cuts.specs.declared.names.CutName.TheVariants.{Departed, Heads}
+use Rattle.cut_rows.specs.declared.names.CutName.{CutName}
+use Rattle.cut_rows.specs.declared.names.CutName.TheVariants.{Departed, Heads}
 use Rattle.cut_rows.specs.Cuts.{cut_row}
 use Rattle.cut_separation.specs.Exceeding.{is_exceeded}
 use Rattle.cut_separation.specs.Whole.{heads_of, whole_cuts}

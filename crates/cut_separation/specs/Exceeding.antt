@@ -7,7 +7,7 @@ use Rattle.time_windows.specs.Boxes.{Box}
 use Rattle.bytime_model.specs.declared.variables.Term.{Term}
 use Rattle.bytime_model.specs.declared.variables.Var.{Var}
 use Rattle.bytime_model.specs.Rows.{AtMost}
-use Rattle.valid_cuts.specs.declared.names.CutName.{CutName}
+use Rattle.cut_rows.specs.declared.names.CutName.{CutName}
 use Rattle.cut_rows.specs.Cuts.{cut_row}
 use Rattle.cut_separation.specs.declared.point.FreePoint.{FreePoint}
 use Rattle.cut_separation.specs.Points.{fraction_in}

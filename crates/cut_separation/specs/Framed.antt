@@ -9,7 +9,7 @@ use Rattle.bytime_model.specs.declared.variables.Var.{Var}
 use Rattle.bytime_model.specs.Columns.{IsThere}
 use Rattle.bytime_model.specs.Landing.{IsReady}
 use Rattle.bytime_model.specs.Rows.{AtMost, most_terms}
-use Rattle.valid_cuts.specs.declared.names.CutName.{CutName}
+use Rattle.cut_rows.specs.declared.names.CutName.{CutName}
 use Rattle.cut_rows.specs.Cuts.{cut_row}
 use Rattle.cut_rows.specs.Routes.{AreRoutesOf}
 use Rattle.cut_separation.specs.declared.frame.Frame.{Frame}

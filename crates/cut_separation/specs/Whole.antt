@@ -5,8 +5,8 @@ use Rattle.flow_types.specs.declared.flight.Flight.{Flight}
 use Rattle.flow_types.specs.declared.parts.Parts.{Parts}
 use Rattle.bytime_model.specs.Rows.{node_count}
 use Rattle.route_distances.specs.Walks.{legs_of}
-use Rattle.valid_cuts.specs.declared.names.CutName.{CutName}
-use Rattle.valid_cuts.specs.declared.names.CutName.TheVariants.{Apart, Departed, Heads}
+use Rattle.cut_rows.specs.declared.names.CutName.{CutName}
+use Rattle.cut_rows.specs.declared.names.CutName.TheVariants.{Apart, Departed, Heads}
 use Rattle.cut_rows.specs.Cuts.{is_head}
 use Rattle.cut_separation.specs.declared.whole.WholeKind.{WholeKind}
 use Rattle.cut_separation.specs.declared.whole.WholeKind.TheVariants as kind

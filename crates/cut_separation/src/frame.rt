@@ -1,10 +1,9 @@
 //! What is looked up while cuts are tried, and what is found.
 use bytime_model::{Columns, RowBuffer};
-use cut_rows::Routes;
+use cut_rows::{Cuts, Routes};
 use flow_types::Scenario;
 use std::alloc::Global;
 use time_windows::Boxes;
-use valid_cuts::Cuts;
 
 /// A day, a box of its plans, and a point of it by positions.
 pub struct Frame<'a> {

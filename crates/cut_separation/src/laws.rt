@@ -3,9 +3,9 @@ ghost use Rattle.std.specs.Prelude.{◌≡◌, ◌↔◌, AllPairs, true};
 ghost use Rattle.std.specs.List.{Any};
 ghost use Rattle.flow_types.specs.declared.parts.Parts.{Parts};
 ghost use Rattle.flow_types.specs.Valid.{IsScenario};
-ghost use Rattle.valid_cuts.specs.declared.names.CutName.{CutName};
+ghost use Rattle.cut_rows.specs.declared.names.CutName.{CutName};
 ghost use Rattle.cut_rows.specs.Cuts.{is_cut};
-ghost use Rattle.cut_separation.specs.Order.{IsBefore};
+ghost use Rattle.cut_rows.specs.Order.{IsBefore};
 ghost use Rattle.cut_separation.specs.Whole.{IsWhole, whole_cuts};
 
 /// Of a valid scenario a cut is in the list of whole cuts exactly where there is such a cut and it

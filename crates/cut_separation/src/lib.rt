@@ -1,12 +1,12 @@
 //! The cuts that a point exceeds: of all whole cuts of a day, in their order, the first 10,000 that
 //! the point of a box breaks.
 //!
-//! A caller has a point of the box, as a run of the box's program tells it, and the columns and
-//! routes of the day, and asks:
+//! A caller has a point of the box, as a run of the box's program tells it, and the table of the
+//! day, and asks:
 //!
 //!     let point = FreePoint { columns, numerators, denominator };
-//!     let cuts = separate(alloc, &s, &columns_of_the_day, &routes, &boxes, &point)?;
-//!     for cut in cuts.items() {
+//!     let pool = separate(alloc, &s, &table, &boxes, &point)?;
+//!     for cut in pool.items() {
 //!         println!("{cut:?} is broken");
 //!     }
 //!
@@ -15,13 +15,12 @@
 //! then by flight, node and period.
 //!
 //! The definitions stand in `specs/`: `Whole` (the whole cuts), `Points` (a point, and the fraction
-//! of each variable there), `Exceeding` (which cuts it exceeds) and `Order` (the order of cuts);
-//! `Framed` serves the proof.
+//! of each variable there) and `Exceeding` (which cuts it exceeds); `Framed` serves the proof.
 //!
 //! Proved: `separate` gives exactly the first 10,000 of the whole cuts that the point exceeds, or
-//! all of these where there are fewer (`exactly`). The list of whole cuts has each cut that is
-//! whole and no other (`each`), in order (`order`), so that none is there twice
-//! (`whole_cuts_are_in_order`).
+//! all of these where there are fewer (`exactly`), and they are cuts of the scenario (`pool`). The
+//! list of whole cuts has each cut that is whole and no other (`each`), in order (`order`), so that
+//! none is there twice (`whole_cuts_are_in_order`).
 //!
 //! The row of each cut is held in room that is made once, and its terms are looked up by their
 //! positions (`bytime_model::Columns`), so the work is the same for each term.

@@ -4,7 +4,7 @@ ghost use Rattle.std.specs.List.{filter, range_with_len};
 ghost use Rattle.flow_types.specs.Limits.{most_nodes};
 ghost use Rattle.flow_types.specs.Scenario.{parts_of};
 ghost use Rattle.bytime_model.specs.Rows.{node_count};
-ghost use Rattle.valid_cuts.specs.declared.names.CutName.TheVariants.{Departed, Heads};
+ghost use Rattle.cut_rows.specs.declared.names.CutName.TheVariants.{Departed, Heads};
 ghost use Rattle.cut_rows.specs.Cuts.{is_head};
 ghost use Rattle.route_distances.specs.Walks.{legs_of};
 ghost use Rattle.cut_separation.specs.declared.whole.WholeKind.TheVariants as whole;
@@ -15,10 +15,9 @@ ghost use Rattle.cut_separation.specs.Whole.{flight_cuts, heads_of, kind_cuts, n
 use crate::frame::{Draft, Frame};
 use crate::values::is_exceeded;
 use crate::whole::WholeKind;
-use cut_rows::{hold_departed, hold_heads, is_head};
+use cut_rows::{CutName, Heads, hold_departed, hold_heads, is_head};
 use flow_types::{Leg, OutOfMemory, Scenario, Sequence};
 use std::alloc::Global;
-use valid_cuts::{CutName, Heads};
 
 /// How many cuts are taken at the most.
 pub const MOST_CUTS: usize = 10_000;

@@ -1,18 +1,16 @@
 //! The cuts that are exceeded where every free variable is 0.
 ghost use Rattle.std.specs.Prelude.{IfOk};
 ghost use Rattle.flow_types.specs.Scenario.{parts_of};
-ghost use Rattle.cut_rows.specs.Routes.{AreRoutesOf};
 ghost use Rattle.time_windows.specs.Held.{IsMadeFor, box_of};
 ghost use Rattle.time_windows.specs.Tight.{IsTight};
 
-use bytime_model::{Columns, RowBuffer, Vars};
-use cut_rows::{Routes, fill_cut};
+use bytime_model::{RowBuffer, Vars};
+use cut_rows::{CutName, Pool, Routes, fill_cut, table_for};
 use cut_separation::{FreePoint, separate};
 use flow_types::{OutOfMemory, Scenario, Sequence};
 use std::alloc::Global;
 use std::test::Fail;
 use time_windows::Boxes;
-use valid_cuts::{CutName, Cuts};
 use worked_days::two_flights;
 
 // The flights and periods of the cuts, each of the one head of node 1.
@@ -29,17 +27,15 @@ fn tight_root(alloc: Global, s: &Scenario) -> Result<Boxes, OutOfMemory>
 }
 
 // The cuts that the point without columns exceeds.
-fn exceeded(alloc: Global, s: &Scenario, routes: &Routes) -> Result<Cuts, OutOfMemory>
-    requires { AreRoutesOf (parts_of s.now) routes.now }
-{
-    let columns = Columns::new(alloc, s)?;
+fn exceeded(alloc: Global, s: &Scenario) -> Result<Pool, OutOfMemory> {
+    let table = table_for(alloc, s)?;
     let boxes = tight_root(alloc, s)?;
     let point = FreePoint {
         columns: Vars::empty(alloc),
         numerators: Sequence::empty(alloc),
         denominator: 1,
     };
-    separate(alloc, s, &columns, routes, &boxes, &point)
+    separate(alloc, s, &table, &boxes, &point)
 }
 
 // Whether it is the cut of the flight's second node and its one head, in this period.
@@ -59,10 +55,9 @@ fn is_expected(cut: &CutName, expected: (u32, u16)) -> bool {
 fn cuts_of_arrivals_are_exceeded(rt: HostRuntime) -> Result<(), Fail> {
     let alloc = rt.alloc();
     let s = two_flights(alloc, 1, 9, 9)?;
-    let routes = Routes::new(alloc, &s)?;
-    let cuts = exceeded(alloc, &s, &routes)?;
-    assert_eq!(rt; cuts.items().len(), EXPECTED.len());
-    for (cut, expected) in cuts.items().iter().zip(EXPECTED) {
+    let pool = exceeded(alloc, &s)?;
+    assert_eq!(rt; pool.items().len(), EXPECTED.len());
+    for (cut, expected) in pool.items().iter().zip(EXPECTED) {
         assert!(rt; is_expected(cut, expected));
     }
     Ok(())

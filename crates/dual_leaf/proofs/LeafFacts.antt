@@ -14,6 +14,7 @@ use Rattle.time_windows.specs.Boxes.{Box, IsBoxOf, IsClosedMust, IsInBox}
 use Rattle.branch_tree.specs.declared.leaf.Leaf.{Leaf}
 use Rattle.branch_tree.specs.declared.leaf.Leaf.TheVariants.{Dual, Empty, Lag, Unit as UnitLeaf}
 use Rattle.bytime_model.specs.declared.multiplier.Multiplier.{Multiplier}
+use Rattle.cut_rows.specs.declared.names.CutName.{CutName}
 use Rattle.dual_leaf.specs.Leaf.{IsCostIn, IsDualAnswer, IsLagAnswer, IsLeafBound, IsUnitBox}
 use Rattle.time_windows.specs.Plans.{IsBoundIn}
 use Rattle.dual_leaf.proofs.LagFacts.{table-sound}
@@ -49,12 +50,13 @@ empty_sound : (parts : Parts) (box : Box) (bound : Bound) → IsBoxOf parts box 
 empty_sound parts box bound made is f n closed =
     subst (IsBoundIn parts box) (sym is) (no_plan_by parts box f n made closed)
 
-dual_bound : (parts : Parts) (box : Box) (weight : ℕ) (rows : List Multiplier) (bound : Bound)
-    → IsScenario parts → IsBoxOf parts box → IsDualAnswer parts box weight rows (Ok bound)
+dual_bound : (parts : Parts) (pool : List CutName) (box : Box) (weight : ℕ)
+    (rows : List Multiplier) (bound : Bound) → IsScenario parts → IsBoxOf parts box
+    → IsDualAnswer parts pool box weight rows (Ok bound)
     → IsBoundIn parts box bound
-dual_bound parts box weight rows bound valid made (inl is) =
-    dual_sound parts box weight rows bound valid made is
-dual_bound parts box weight rows bound valid made (inr fault) = absurd fault
+dual_bound parts pool box weight rows bound valid made (inl is) =
+    dual_sound parts pool box weight rows bound valid made is
+dual_bound parts pool box weight rows bound valid made (inr fault) = absurd fault
 
 lag_bound : (parts : Parts) (box : Box) (weight : ℕ) (rows : List Multiplier) (bound : Bound)
     → IsScenario parts → IsLagAnswer parts box weight rows (Ok bound) → IsBoundIn parts box bound
@@ -62,13 +64,14 @@ lag_bound parts box weight rows bound valid (inl is) =
     table-sound parts box weight is.table (Ok bound) valid is.answered
 lag_bound parts box weight rows bound valid (inr fault) = absurd fault
 
-pub leaf_bounds : (parts : Parts) (box : Box) (leaf : Leaf) (bound : Bound) → IsScenario parts
-    → IsBoxOf parts box → IsLeafBound parts box leaf (Ok bound) → IsBoundIn parts box bound
-leaf_bounds parts box Empty bound valid made (is, (f, n, closed)) =
+pub leaf_bounds : (parts : Parts) (pool : List CutName) (box : Box) (leaf : Leaf) (bound : Bound)
+    → IsScenario parts → IsBoxOf parts box → IsLeafBound parts pool box leaf (Ok bound)
+    → IsBoundIn parts box bound
+leaf_bounds parts pool box Empty bound valid made (is, (f, n, closed)) =
     empty_sound parts box bound made is f n closed
-leaf_bounds parts box UnitLeaf bound valid made (unit, cost) =
+leaf_bounds parts pool box UnitLeaf bound valid made (unit, cost) =
     unit_sound parts box bound valid unit cost
-leaf_bounds parts box (Dual weight rows) bound valid made is =
-    dual_bound parts box weight rows bound valid made is
-leaf_bounds parts box (Lag weight rows) bound valid made is =
+leaf_bounds parts pool box (Dual weight rows) bound valid made is =
+    dual_bound parts pool box weight rows bound valid made is
+leaf_bounds parts pool box (Lag weight rows) bound valid made is =
     lag_bound parts box weight rows bound valid is

@@ -17,7 +17,8 @@ use Rattle.priced_plans.proofs.SameFacts.{AreSame, rounded_same, value_same}
 use Rattle.bytime_model.specs.declared.multiplier.Multiplier.{Multiplier}
 use Rattle.branch_tree.specs.declared.leaf.Leaf.{Leaf}
 use Rattle.branch_tree.specs.declared.leaf.Leaf.TheVariants.{Dual, Empty, Lag, Unit as UnitLeaf}
-use Rattle.valid_cuts.specs.Dual.{IsChoice, IsFirstUnknown, dual_at}
+use Rattle.cut_rows.specs.declared.names.CutName.{CutName}
+use Rattle.dual_sums.specs.Dual.{IsChoice, IsFirstUnknown, dual_at}
 use Rattle.dual_leaf.specs.declared.fault.LeafFault.{LeafFault}
 use Rattle.dual_leaf.specs.declared.fault.LeafFault.TheVariants.{Closed, NotEmpty, NotUnit, UnknownRow, Useless}
 use Rattle.dual_leaf.specs.Lag.{ArePricedBy, IsFirstUnpriceable}
@@ -140,8 +141,9 @@ module _ (parts : Parts) (box : Box) where
       let same = not_unit_one box f n g m p q in
       ap Err (is ∙ ap₂ NotUnit same.0 same.1 ∙ sym too)
 
-  module _ (weight : ℕ) (rows : List Multiplier) where
-    unknown_one : (j k : ℕ) → IsFirstUnknown parts rows j → IsFirstUnknown parts rows k → j ≡ k
+  module _ (pool : List CutName) (weight : ℕ) (rows : List Multiplier) where
+    unknown_one : (j k : ℕ) → IsFirstUnknown parts pool rows j
+        → IsFirstUnknown parts pool rows k → j ≡ k
     unknown_one j k p q =
         let low = not_less j k (λ less.
         clash _ (q.known_before j p.multiplier less p.here) p.unknown) in
@@ -149,8 +151,8 @@ module _ (parts : Parts) (box : Box) where
         clash _ (p.known_before k q.multiplier less q.here) q.unknown) in
         omega (arith, low, high)
 
-    dual_fault : (x : Answer) → IsDualFault parts box rows x
-        → IsRowFault box (IsFirstUnknown parts rows) x
+    dual_fault : (x : Answer) → IsDualFault parts pool box rows x
+        → IsRowFault box (IsFirstUnknown parts pool rows) x
     dual_fault (Ok bound) is = absurd is
     dual_fault (Err NotEmpty) is = absurd is
     dual_fault (Err (NotUnit f n)) is = absurd is
@@ -158,25 +160,26 @@ module _ (parts : Parts) (box : Box) where
     dual_fault (Err (UnknownRow k)) is = inr (k, refl, is.0, is.1)
     dual_fault (Err (Useless value)) is = absurd is
 
-    dual_one : (x y : Answer) → IsDualAnswer parts box weight rows x
-        → IsDualAnswer parts box weight rows y → x ≡ y
+    dual_one : (x y : Answer) → IsDualAnswer parts pool box weight rows x
+        → IsDualAnswer parts pool box weight rows y → x ≡ y
     dual_one x y (inl p) (inl q) =
         answer_one weight p.value x y p.answered
         (subst (λ v. IsAnswerOf weight v y)
-        (least_once (IsChoice parts.flights box) (dual_at parts weight rows) q.value p.value
+        (least_once (IsChoice parts.flights box) (dual_at parts pool weight rows) q.value p.value
         q.least p.least) q.answered)
     dual_one x y (inl p) (inr q) =
-        absurd (no_row_fault box (IsFirstUnknown parts rows) y p.live
+        absurd (no_row_fault box (IsFirstUnknown parts pool rows) y p.live
         (λ k first. clash _ (p.known k first.multiplier first.here) first.unknown)
         (dual_fault y q))
     dual_one x y (inr p) (inl q) =
-        absurd (no_row_fault box (IsFirstUnknown parts rows) x q.live
+        absurd (no_row_fault box (IsFirstUnknown parts pool rows) x q.live
         (λ k first. clash _ (q.known k first.multiplier first.here) first.unknown)
         (dual_fault x p))
     dual_one x y (inr p) (inr q) =
-        row_fault_one box (IsFirstUnknown parts rows) unknown_one x y (dual_fault x p)
+        row_fault_one box (IsFirstUnknown parts pool rows) unknown_one x y (dual_fault x p)
         (dual_fault y q)
 
+  module _ (weight : ℕ) (rows : List Multiplier) where
     unpriceable_one : (j k : ℕ) → IsFirstUnpriceable parts rows j
         → IsFirstUnpriceable parts rows k → j ≡ k
     unpriceable_one j k p q =
@@ -232,12 +235,12 @@ module _ (parts : Parts) (box : Box) where
         row_fault_one box (IsFirstUnpriceable parts rows) unpriceable_one x y (lag_fault x p)
         (lag_fault y q)
 
-pub leaf_one : (parts : Parts) (box : Box) (leaf : Leaf) (first second : Answer)
-    → IsScenario parts → IsLeafBound parts box leaf first → IsLeafBound parts box leaf second
-    → first ≡ second
-leaf_one parts box Empty first second valid p q = empty_one box first second p q
-leaf_one parts box UnitLeaf first second valid p q = unit_one parts box first second valid p q
-leaf_one parts box (Dual weight rows) first second valid p q =
-    dual_one parts box weight rows first second p q
-leaf_one parts box (Lag weight rows) first second valid p q =
+pub leaf_one : (parts : Parts) (pool : List CutName) (box : Box) (leaf : Leaf)
+    (first second : Answer) → IsScenario parts → IsLeafBound parts pool box leaf first
+    → IsLeafBound parts pool box leaf second → first ≡ second
+leaf_one parts pool box Empty first second valid p q = empty_one box first second p q
+leaf_one parts pool box UnitLeaf first second valid p q = unit_one parts box first second valid p q
+leaf_one parts pool box (Dual weight rows) first second valid p q =
+    dual_one parts box pool weight rows first second p q
+leaf_one parts pool box (Lag weight rows) first second valid p q =
     lag_one parts box weight rows first second valid p q

@@ -15,21 +15,22 @@ use Rattle.flow_types.specs.Valid.{IsScenario}
 use Rattle.time_windows.specs.Boxes.{Box, IsBoxOf, IsInBox}
 use Rattle.bytime_model.specs.declared.variables.Var.{Var}
 use Rattle.bytime_model.specs.declared.variables.Var.TheVariants.{By, Inside}
-use Rattle.bytime_model.specs.Rows.{row_of}
 use Rattle.bytime_model.specs.Values.{by_at, has_inside, inside_at, value_at}
-use Rattle.bytime_model.proofs.RowLaws.{row_kept}
 use Rattle.bytime_model.proofs.CostFacts.{plan_priced}
 use Rattle.bytime_model.proofs.EntryFacts.{by_few}
 use Rattle.bytime_model.proofs.LeftFacts.{agrees}
 use Rattle.bytime_model.proofs.ValidFacts.{flown}
 use Rattle.bytime_model.specs.declared.multiplier.Multiplier.{Multiplier}
 use Rattle.plan_rules.proofs.CountFacts.{stays_at-once}
-use Rattle.valid_cuts.specs.Dual.{AreKnown, IsChoice, IsDualValue, dual_at, excess, excesses}
+use Rattle.cut_rows.specs.declared.names.CutName.{CutName}
+use Rattle.cut_rows.specs.Pools.{row_with}
+use Rattle.cut_rows.proofs.PoolRows.{kept_with}
+use Rattle.dual_sums.specs.Dual.{AreKnown, IsChoice, IsDualValue, dual_at, excess, excesses}
 use Rattle.time_windows.specs.Tight.{IsLive}
 use Rattle.dual_leaf.specs.Leaf.{IsDualBound, IsAnswerOf}
 use Rattle.time_windows.specs.Plans.{IsBoundIn}
 use Rattle.dual_leaf.specs.declared.fault.LeafFault.{LeafFault}
-use Rattle.valid_cuts.proofs.TimesFacts.{times-down}
+use Rattle.dual_sums.proofs.TimesFacts.{times-down}
 
 module _ (parts : Parts) (scenario : IsScenario parts) (box : Box) (made : IsBoxOf parts box)
     (plan : List (List Stop)) (feasible : IsFeasible parts plan) (inside : IsInBox box plan) where
@@ -65,51 +66,54 @@ module _ (parts : Parts) (scenario : IsScenario parts) (box : Box) (made : IsBox
     agree = agrees parts plan scenario feasible.trips box made inside;
   }
 
-  excess_down : (rows : List Multiplier) → AreKnown parts rows → excesses parts rows value ≤ℤ pos 0
-  excess_down [] known = omega (arith, ints)
-  excess_down (m ∷ rows) known =
-      let kept = row_kept parts plan scenario feasible m.row (known 0 m refl) in
-      let here = times-down m.value (excess value (row_of parts m.row)) (omega (
+  excess_down : (pool : List CutName) (rows : List Multiplier) → AreKnown parts pool rows
+      → excesses parts pool rows value ≤ℤ pos 0
+  excess_down pool [] known = omega (arith, ints)
+  excess_down pool (m ∷ rows) known =
+      let kept = kept_with parts pool plan m.row scenario feasible (known 0 m refl) in
+      let here = times-down m.value (excess value (row_with parts pool m.row)) (omega (
         arith,
         ints,
         kept,
       )) in
-      let rest = excess_down rows (λ k other is. known (suc k) other is) in
+      let rest = excess_down pool rows (λ k other is. known (suc k) other is) in
       omega (arith, ints, here, rest)
 
-  dual_le : (weight : ℕ) (rows : List Multiplier) → AreKnown parts rows
-      → dual_at parts weight rows value
+  dual_le : (pool : List CutName) (weight : ℕ) (rows : List Multiplier) → AreKnown parts pool rows
+      → dual_at parts pool weight rows value
       ≤ℤ (pos weight *ℤ plan_cost parts.tables parts.flights plan)
-  dual_le weight rows known =
+  dual_le pool weight rows known =
       let cost = ap (λ n. pos weight *ℤ n) (plan_priced parts plan scenario feasible.trips) in
-      let down = excess_down rows known in
+      let down = excess_down pool rows known in
       omega (arith, ints, cost, down)
 
-pub dual_sound : (parts : Parts) (box : Box) (weight : ℕ) (rows : List Multiplier) (bound : Bound)
-    → IsScenario parts → IsBoxOf parts box → IsDualBound parts box weight rows (Ok bound)
+pub dual_sound : (parts : Parts) (pool : List CutName) (box : Box) (weight : ℕ)
+    (rows : List Multiplier) (bound : Bound) → IsScenario parts → IsBoxOf parts box
+    → IsDualBound parts pool box weight rows (Ok bound)
     → IsBoundIn parts box bound
-dual_sound parts box weight rows NoPlan scenario made is = λ plan kept.
+dual_sound parts pool box weight rows NoPlan scenario made is = λ plan kept.
     let le = is.least.below (value_at parts.flights plan)
     (plan_is parts scenario box made plan kept.feasible kept.inside) in
-    let cost = dual_le parts scenario box made plan kept.feasible kept.inside weight rows is.known
-    in
+    let cost = dual_le parts scenario box made plan kept.feasible kept.inside pool weight rows
+    is.known in
     let zero_of = ap (λ w. pos w *ℤ plan_cost parts.tables parts.flights plan) is.answered.0
     ∙ zero-*ℤ (plan_cost parts.tables parts.flights plan) in
     absurd (omega (arith, ints, le, cost, zero_of, is.answered.1))
-dual_sound parts box weight rows (AtLeast least) scenario made is = λ plan kept.
+dual_sound parts pool box weight rows (AtLeast least) scenario made is = λ plan kept.
     let le = is.least.below (value_at parts.flights plan)
     (plan_is parts scenario box made plan kept.feasible kept.inside) in
-    let cost = dual_le parts scenario box made plan kept.feasible kept.inside weight rows is.known
-    in
+    let cost = dual_le parts scenario box made plan kept.feasible kept.inside pool weight rows
+    is.known in
     let turned = *ℤ_comm (pos weight) (plan_cost parts.tables parts.flights plan) in
     is.answered.1.below (plan_cost parts.tables parts.flights plan)
     (omega (arith, ints, le, cost, turned))
 
-pub if_sound : (parts : Parts) (box : Box) (weight : ℕ) (rows : List Multiplier)
-    (answer : Result Bound LeafFault) → IsScenario parts → IsBoxOf parts box → IsLive box
-    → AreKnown parts rows → (value : ℤ) → IsDualValue parts box weight rows value
+pub if_sound : (parts : Parts) (pool : List CutName) (box : Box) (weight : ℕ)
+    (rows : List Multiplier) (answer : Result Bound LeafFault) → IsScenario parts
+    → IsBoxOf parts box → IsLive box
+    → AreKnown parts pool rows → (value : ℤ) → IsDualValue parts pool box weight rows value
     → IsAnswerOf weight value answer → IfOk answer (IsBoundIn parts box)
-if_sound parts box weight rows (Ok bound) scenario made live known value least answered =
-    dual_sound parts box weight rows bound scenario made
+if_sound parts pool box weight rows (Ok bound) scenario made live known value least answered =
+    dual_sound parts pool box weight rows bound scenario made
     (record { live = live; known = known; value = value; least = least; answered = answered })
-if_sound parts box weight rows (Err fault) scenario made live known value least answered = tt
+if_sound parts pool box weight rows (Err fault) scenario made live known value least answered = tt

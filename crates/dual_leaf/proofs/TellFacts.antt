@@ -48,8 +48,8 @@ answered parts box weight table (AtLeast least) some (value, priced, rounded) =
 
 pub tells : (parts : Parts) (weight : ℕ) (table : PriceTable) (leaf : Leaf) → 0 < weight
     → IsLagOf parts weight table leaf → TellsAs parts weight table leaf
-tells parts weight table leaf some is = λ box bound live told.
-    subst (λ z. IsLeafBound parts box z (Ok bound)) (sym is.is) (inl (record {
+tells parts weight table leaf some is = λ pool box bound live told.
+    subst (λ z. IsLeafBound parts pool box z (Ok bound)) (sym is.is) (inl (record {
       live = live;
       priceable = is.priceable;
       table = table;
@@ -59,8 +59,8 @@ tells parts weight table leaf some is = λ box bound live told.
 
 pub closes : (parts : Parts) (table : PriceTable) (leaf : Leaf) → IsLagOf parts 0 table leaf
     → Closes parts table leaf
-closes parts table leaf is = λ box value live priced above.
-    subst (λ z. IsLeafBound parts box z (Ok NoPlan)) (sym is.is) (inl (record {
+closes parts table leaf is = λ pool box value live priced above.
+    subst (λ z. IsLeafBound parts pool box z (Ok NoPlan)) (sym is.is) (inl (record {
       live = live;
       priceable = is.priceable;
       table = table;

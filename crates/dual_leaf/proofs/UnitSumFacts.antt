@@ -29,7 +29,7 @@ use Rattle.dual_leaf.specs.Leaf.{IsCostIn, IsUnitBox}
 use Rattle.time_windows.specs.Plans.{IsBoundIn}
 use Rattle.flow_types.specs.Bounds.{IsNearBound, bound_of}
 use Rattle.dual_leaf.specs.UnitSums.{IsNext, IsNextTrip, IsSoFar, IsSumOf}
-use Rattle.valid_cuts.proofs.SumsFacts.{abs_le}
+use Rattle.dual_sums.proofs.SumsFacts.{abs_le}
 use Rattle.dual_leaf.proofs.UnitBoxFacts.{one_trip}
 use Rattle.dual_leaf.proofs.UnitFitFacts.{trip_fits}
 

@@ -16,9 +16,10 @@ use Rattle.time_windows.specs.Tight.{IsEarlierNode, IsFirstClosed, IsLive}
 use Rattle.branch_tree.specs.declared.leaf.Leaf.{Leaf}
 use Rattle.branch_tree.specs.declared.leaf.Leaf.TheVariants.{Dual, Empty, Lag, Unit as UnitLeaf}
 use Rattle.bytime_model.specs.declared.multiplier.Multiplier.{Multiplier}
+use Rattle.cut_rows.specs.declared.names.CutName.{CutName}
 use Rattle.dual_leaf.specs.declared.fault.LeafFault.{LeafFault}
 use Rattle.dual_leaf.specs.declared.fault.LeafFault.TheVariants.{Closed, NotEmpty, NotUnit, UnknownRow, Useless}
-use Rattle.valid_cuts.specs.Dual.{AreKnown, IsDualValue, IsFirstUnknown}
+use Rattle.dual_sums.specs.Dual.{AreKnown, IsDualValue, IsFirstUnknown}
 use Rattle.dual_leaf.specs.Lag.{ArePriceable, ArePricedBy, IsFirstUnpriceable}
 
 abbrev pub IsEmptyBound : Box → Result Bound LeafFault → Type 0
@@ -56,28 +57,30 @@ IsAnswerOf weight value (Ok NoPlan) = (weight ≡ 0) × (pos 1 ≤ℤ value)
 IsAnswerOf weight value (Err fault) = (weight ≡ 0) × (value ≤ℤ pos 0) × (fault ≡ Useless value)
 
 -- The box is live and all rows are there: what the value says.
-pub record IsDualBound (parts : Parts) (box : Box) (weight : ℕ) (rows : List Multiplier)
-    (answer : Result Bound LeafFault) : Type 0 where
+pub record IsDualBound (parts : Parts) (pool : List CutName) (box : Box) (weight : ℕ)
+    (rows : List Multiplier) (answer : Result Bound LeafFault) : Type 0 where
   pub live : IsLive box
-  pub known : AreKnown parts rows
+  pub known : AreKnown parts pool rows
   pub value : ℤ
-  pub least : IsDualValue parts box weight rows value
+  pub least : IsDualValue parts pool box weight rows value
   pub answered : IsAnswerOf weight value answer
 
 -- or it has no value: the first node that must be entered and is closed, or, in a live box, the
 -- first row that isn't there
-abbrev pub IsDualFault : Parts → Box → List Multiplier → Result Bound LeafFault → Type 0
-IsDualFault parts box rows (Ok bound) = ⊥
-IsDualFault parts box rows (Err NotEmpty) = ⊥
-IsDualFault parts box rows (Err (NotUnit flight node)) = ⊥
-IsDualFault parts box rows (Err (Closed flight node)) = IsFirstClosed box flight node
-IsDualFault parts box rows (Err (UnknownRow position)) =
-    IsLive box × IsFirstUnknown parts rows position
-IsDualFault parts box rows (Err (Useless value)) = ⊥
+abbrev pub IsDualFault : Parts → List CutName → Box → List Multiplier → Result Bound LeafFault
+    → Type 0
+IsDualFault parts pool box rows (Ok bound) = ⊥
+IsDualFault parts pool box rows (Err NotEmpty) = ⊥
+IsDualFault parts pool box rows (Err (NotUnit flight node)) = ⊥
+IsDualFault parts pool box rows (Err (Closed flight node)) = IsFirstClosed box flight node
+IsDualFault parts pool box rows (Err (UnknownRow position)) =
+    IsLive box × IsFirstUnknown parts pool rows position
+IsDualFault parts pool box rows (Err (Useless value)) = ⊥
 
-abbrev pub IsDualAnswer : Parts → Box → ℕ → List Multiplier → Result Bound LeafFault → Type 0
-IsDualAnswer parts box weight rows answer =
-    IsDualBound parts box weight rows answer ⊎ IsDualFault parts box rows answer
+abbrev pub IsDualAnswer : Parts → List CutName → Box → ℕ → List Multiplier
+    → Result Bound LeafFault → Type 0
+IsDualAnswer parts pool box weight rows answer =
+    IsDualBound parts pool box weight rows answer ⊎ IsDualFault parts pool box rows answer
 
 -- some flight has no trip in the box, whatever the weight
 pub record IsLackAnswer (parts : Parts) (box : Box) (answer : Result Bound LeafFault) : Type 0 where
@@ -119,11 +122,12 @@ abbrev pub IsLagAnswer : Parts → Box → ℕ → List Multiplier → Result Bo
 IsLagAnswer parts box weight rows answer =
     IsLagBound parts box weight rows answer ⊎ IsLagFault parts box rows answer
 
-abbrev pub IsLeafBound : Parts → Box → Leaf → Result Bound LeafFault → Type 0
-IsLeafBound parts box Empty answer = IsEmptyBound box answer
-IsLeafBound parts box UnitLeaf answer = IsUnitBound parts box answer
-IsLeafBound parts box (Dual weight rows) answer = IsDualAnswer parts box weight rows answer
-IsLeafBound parts box (Lag weight rows) answer = IsLagAnswer parts box weight rows answer
+abbrev pub IsLeafBound : Parts → List CutName → Box → Leaf → Result Bound LeafFault → Type 0
+IsLeafBound parts pool box Empty answer = IsEmptyBound box answer
+IsLeafBound parts pool box UnitLeaf answer = IsUnitBound parts box answer
+IsLeafBound parts pool box (Dual weight rows) answer = IsDualAnswer parts pool box weight rows
+    answer
+IsLeafBound parts pool box (Lag weight rows) answer = IsLagAnswer parts box weight rows answer
 
 -- not too far from 0, though prices may be large beside the weight
 abbrev pub IsNearPriced : Bound → Type 0

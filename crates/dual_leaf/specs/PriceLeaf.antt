@@ -11,6 +11,7 @@ use Rattle.bytime_model.specs.Multipliers.{AreAscending, ArePositive}
 use Rattle.branch_tree.specs.declared.leaf.Leaf.{Leaf}
 use Rattle.branch_tree.specs.declared.leaf.Leaf.TheVariants.{Lag}
 use Rattle.bytime_model.specs.declared.multiplier.Multiplier.{Multiplier}
+use Rattle.cut_rows.specs.declared.names.CutName.{CutName}
 use Rattle.dual_leaf.specs.Lag.{ArePriceable, ArePricedBy}
 use Rattle.time_windows.specs.Tight.{IsLive}
 use Rattle.dual_leaf.specs.Leaf.{IsLeafBound}
@@ -24,14 +25,16 @@ pub record IsLagOf (parts : Parts) (weight : ℕ) (table : PriceTable) (leaf : L
   pub ascending : AreAscending rows
   pub priced : ArePricedBy parts rows table
 
--- in any live box what the prices tell is the bound of the leaf
+-- in any live box what the prices tell is the bound of the leaf, whatever the pool
 abbrev pub TellsAs : Parts → ℕ → PriceTable → Leaf → Type 0
 TellsAs parts weight table leaf =
-    (box : Box) (bound : Bound) → IsLive box → IsPricedBound parts box weight table bound
-    → IsLeafBound parts box leaf (Ok bound)
+    (pool : List CutName) (box : Box) (bound : Bound) → IsLive box
+    → IsPricedBound parts box weight table bound
+    → IsLeafBound parts pool box leaf (Ok bound)
 
--- in any live box in which their value at weight 0 is above 0, the leaf says that there is no plan
+-- and where their value at weight 0 is above 0, the leaf says that there is no plan
 abbrev pub Closes : Parts → PriceTable → Leaf → Type 0
 Closes parts table leaf =
-    (box : Box) (value : ℤ) → IsLive box → IsPricedValue parts box 0 table value
-    → pos 1 ≤ℤ value → IsLeafBound parts box leaf (Ok NoPlan)
+    (pool : List CutName) (box : Box) (value : ℤ) → IsLive box
+    → IsPricedValue parts box 0 table value → pos 1 ≤ℤ value → IsLeafBound parts pool box leaf
+    (Ok NoPlan)

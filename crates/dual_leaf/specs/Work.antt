@@ -5,9 +5,9 @@ use Rattle.flight_routes.specs.Prices.{ArePricesOf, PriceTable}
 use Rattle.flight_routes.specs.Work.{IsWorkFor, Worked}
 use Rattle.plan_rules.specs.Tally.{Tally}
 use Rattle.plan_rules.specs.Loads.{IsMadeFor as AreLoadsFor}
-use Rattle.bytime_model.specs.declared.table.Table.{Table}
-use Rattle.bytime_model.specs.Table.{IsTableFor}
-use Rattle.valid_cuts.specs.Sums.{Summed}
+use Rattle.cut_rows.specs.declared.table.Table.{Table}
+use Rattle.cut_rows.specs.Table.{IsTableFor}
+use Rattle.dual_sums.specs.Sums.{Summed}
 
 pub record Room : Type 0 where
   pub table : Table

@@ -17,7 +17,7 @@
 //!
 //! The definitions stand in `specs/`: `Leaf` (the bound of a leaf, or why it has none) and `Lag`
 //! (the prices that a Lag leaf is; what these come to is said in `priced_plans`). What a Dual leaf
-//! comes to is said in `valid_cuts`; `PriceLeaf` has the leaf that prices are, `PriceRows` the row
+//! comes to is said in `dual_sums`; `PriceLeaf` has the leaf that prices are, `PriceRows` the row
 //! that each is put on, and `Trees` the bound of each leaf of a tree. The others serve the proof:
 //! `Listing`, `Options`, `UnitSums`, and `Work` (the room).
 //!
@@ -45,11 +45,11 @@
 //!
 //! Memory: 20 bytes for each variable that the tight root box leaves free (0.4 GB for the largest
 //! days), 24 for each of 32 nodes a flight and each period by which it may be late or wait,
-//! `Visits`, `Loads`, `Prices`, and 1.1 MB; `leaf_bound` takes none. Time: for a Dual leaf the
-//! nodes of the flights, the periods by which they may be late or wait, and for each row that the
-//! leaf names what `RowBuffer::fill_with` takes, and for each of its terms of being inside the legs
-//! of the flight; for a Unit leaf a least trip for each flight; for a Lag leaf that, and each
-//! price.
+//! `Visits`, `Routes`, `Loads`, `Prices`, and 1.1 MB; `leaf_bound` takes none. Time: for a Dual
+//! leaf the nodes of the flights, the periods by which they may be late or wait, and for each row
+//! that the leaf names what `RowBuffer::fill_with` takes, and for each of its terms of being inside
+//! the legs of the flight; for a Unit leaf a least trip for each flight; for a Lag leaf that, and
+//! each price.
 #![tactic(auto)]
 
 mod bound;

@@ -5,9 +5,8 @@ ghost use Rattle.flight_routes.specs.Prices.{ArePricesOf};
 ghost use Rattle.flight_routes.specs.Work.{IsWorkFor};
 ghost use Rattle.time_windows.specs.Held.{IsMadeFor, box_of};
 ghost use Rattle.time_windows.specs.Tight.{IsTight};
-ghost use Rattle.bytime_model.specs.Visits.{AreVisitsOf};
 ghost use Rattle.bytime_model.specs.Multipliers.{HasRange};
-ghost use Rattle.bytime_model.specs.Columns.{AreColumnsOf};
+ghost use Rattle.cut_rows.specs.Table.{IsTableFor};
 ghost use Rattle.dual_leaf.specs.Leaf.{IsDualAnswer, IsLagAnswer, IsNearPriced};
 ghost use Rattle.time_windows.specs.Plans.{IsBoundIn};
 ghost use Rattle.flow_types.specs.Bounds.{IsNearBound};
@@ -18,14 +17,15 @@ use crate::lag::lag_answer;
 use crate::options::first_closed;
 use crate::plain::{empty_bound, unit_bound};
 use branch_tree::Leaf;
-use bytime_model::{Columns, Multiplier, RowBuffer, Table, Visits, table_for};
+use bytime_model::{Multiplier, RowBuffer};
+use cut_rows::{Pool, Table, table_for};
+use dual_sums::{Sums, dual_value};
 use flight_routes::{Prices, Work};
 use flow_types::{Bound, OutOfMemory, Scenario};
 use plan_rules::Loads;
 use std::alloc::Global;
 use std::marker::Model;
 use time_windows::Boxes;
-use valid_cuts::{Pool, Sums, dual_value};
 
 /// The room in which leaves get their bounds, made once for a scenario.
 #[derive(Debug)]
@@ -79,8 +79,8 @@ impl LeafWork {
 
     /// Room for the leaves of the scenario: 20 bytes for each variable that the tight root box
     /// leaves free, 24 for each of 32 nodes a flight and for each period that a flight may be late
-    /// or wait, the visits to its places, loads, prices, and 1.1 MB. While it runs it takes the
-    /// memory of a root box.
+    /// or wait, the visits to its places, the distances of its flights, loads, prices, and 1.1 MB.
+    /// While it runs it takes the memory of a root box.
     pub fn new(alloc: Global, s: &Scenario) -> Result<LeafWork, OutOfMemory>
         ensures { IfOk result (IsRoomFor (parts_of s.now)) }
     {
@@ -106,6 +106,7 @@ impl LeafWork {
     /// The bound of the leaf on the box: no plan in the box that keeps every rule costs less, and
     /// with `NoPlan` there is none. The box is a tight one of the scenario that the room was made
     /// for; the leaf's weight and multipliers are below 2^62, and it has fewer than 2^32 of these.
+    /// A Dual leaf may name cuts of the pool by their positions.
     ///
     /// An Empty leaf has `NoPlan`, and a Unit leaf what the one plan costs that may be in the box,
     /// or `NoPlan` where that breaks a rule. A Dual leaf has its value divided by its weight and
@@ -119,14 +120,14 @@ impl LeafWork {
     ///
     /// The bound is nearer to 0 than 2^115, that of a Lag leaf than 2^124.
     ///
-    /// The fault is the first of those that `LeafFault` lists. No cut has a row yet, whatever the
-    /// pool. It takes no memory, and time for each node; for a Dual leaf also for each period by
-    /// which a flight may be late or wait, and for the rows that the leaf names; for a Unit or a
-    /// Lag leaf as a least trip for each flight, and for a Lag leaf for each price.
+    /// The fault is the first of those that `LeafFault` lists. It takes no memory, and time for
+    /// each node; for a Dual leaf also for each period by which a flight may be late or wait, and
+    /// for the rows that the leaf names; for a Unit or a Lag leaf as a least trip for each flight,
+    /// and for a Lag leaf for each price.
     pub fn leaf_bound(
         &mut self,
         s: &Scenario,
-        _pool: &Pool,
+        pool: &Pool,
         boxes: &Boxes,
         leaf: &Leaf,
     ) -> Result<Bound, LeafFault>
@@ -134,7 +135,7 @@ impl LeafWork {
         requires boxes { IsMadeFor (parts_of s.now) boxes.now }
         requires tight { IsTight (parts_of s.now) (box_of boxes.now) }
         requires range { IsInRange leaf.now }
-        ensures bound { IsLeafBound (parts_of s.now) (box_of boxes.now) leaf.now result }
+        ensures bound { IsLeafBound (parts_of s.now) pool.now (box_of boxes.now) leaf.now result }
         ensures sound { IfOk result (IsBoundIn (parts_of s.now) (box_of boxes.now)) }
         ensures near { IfOk result (IsNearOf leaf.now) }
         ensures made { IsRoomFor (parts_of s.now) self.new }
@@ -145,9 +146,9 @@ impl LeafWork {
             Leaf::Dual { weight, rows } => dual_bound(
                 &mut self.sums,
                 &mut self.buffer,
-                &self.table.columns,
-                &self.table.visits,
+                &self.table,
                 s,
+                pool,
                 boxes,
                 *weight,
                 rows.items(),
@@ -169,28 +170,28 @@ impl LeafWork {
 fn dual_bound(
     sums: &mut Sums,
     buffer: &mut RowBuffer,
-    columns: &Columns,
-    visits: &Visits,
+    table: &Table,
     s: &Scenario,
+    pool: &Pool,
     boxes: &Boxes,
     weight: u64,
     rows: &[Multiplier],
 ) -> Result<Bound, LeafFault>
-    requires columns { AreColumnsOf (parts_of s.now) columns.now }
-    requires positions { length sums.old.factors ≡ columns.now.count }
-    requires visits { AreVisitsOf (parts_of s.now) visits.now }
+    requires table { IsTableFor (parts_of s.now) table.now }
+    requires positions { length sums.old.factors ≡ table.now.columns.count }
     requires boxes { IsMadeFor (parts_of s.now) boxes.now }
     requires tight { IsTight (parts_of s.now) (box_of boxes.now) }
     requires range { HasRange weight rows.now }
-    ensures bound { IsDualAnswer (parts_of s.now) (box_of boxes.now) weight rows.now result }
+    ensures bound { IsDualAnswer (parts_of s.now) pool.now (box_of boxes.now) weight rows.now
+        result }
     ensures sound { IfOk result (IsBoundIn (parts_of s.now) (box_of boxes.now)) }
     ensures near { IfOk result IsNearBound }
-    ensures positions { length sums.new.factors ≡ columns.now.count }
+    ensures positions { length sums.new.factors ≡ table.now.columns.count }
 {
     if let Some(closed) = first_closed(s, boxes) {
         return Err(LeafFault::Closed(closed.flight, closed.node));
     }
-    match dual_value(sums, buffer, columns, visits, s, boxes, weight, rows) {
+    match dual_value(sums, buffer, table, s, pool, boxes, weight, rows) {
         Err(position) => Err(LeafFault::UnknownRow(position)),
         Ok(value) => answer_of(value, weight),
     }

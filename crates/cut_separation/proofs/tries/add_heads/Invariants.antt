@@ -1,6 +1,6 @@
 use Rattle.std.proofs.Common.{map}
 use Rattle.std.specs.List.{range_with_len}
-use Rattle.valid_cuts.specs.declared.names.CutName.TheVariants.{Heads}
+use Rattle.cut_rows.specs.declared.names.CutName.TheVariants.{Heads}
 use Rattle.cut_separation.specs.Exceeding.{AddsFirst, most_cuts}
 use Rattle.cut_separation.specs.Framed.{is_taken}
 use Rattle.cut_separation.proofs.tries.add_heads.Given as goal

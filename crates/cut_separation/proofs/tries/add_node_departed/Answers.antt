@@ -1,6 +1,6 @@
 use Rattle.std.proofs.Common.{[], if◌then◌else◌, subst, sym, arith}
 use Rattle.std.proofs.lemmas.Bool.{le-ltb}
-use Rattle.valid_cuts.specs.declared.names.CutName.TheVariants.{Departed}
+use Rattle.cut_rows.specs.declared.names.CutName.TheVariants.{Departed}
 use Rattle.cut_separation.specs.Exceeding.{AddsFirst, most_cuts}
 use Rattle.cut_separation.specs.Framed.{is_taken, parts_in}
 use Rattle.cut_separation.specs.Whole.{over_day}

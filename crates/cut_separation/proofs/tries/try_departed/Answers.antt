@@ -1,5 +1,5 @@
 use Rattle.std.proofs.Common.{[], ◌∷◌, length, true, false, ap, arith}
-use Rattle.valid_cuts.specs.declared.names.CutName.TheVariants.{Departed}
+use Rattle.cut_rows.specs.declared.names.CutName.TheVariants.{Departed}
 use Rattle.cut_separation.specs.Exceeding.{most_cuts}
 use Rattle.cut_separation.specs.Framed.{is_taken}
 use Rattle.cut_separation.proofs.FirstFacts.{adds_full, adds_no, adds_one}

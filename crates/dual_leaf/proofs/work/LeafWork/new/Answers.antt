@@ -1,6 +1,6 @@
 use Rattle.std.proofs.Common.{◌∙◌, ap, length, pos}
 use Rattle.std.proofs.lemmas.List.{length-replicate}
-use Rattle.valid_cuts.specs.Sums.{Summed}
+use Rattle.dual_sums.specs.Sums.{Summed}
 use Rattle.dual_leaf.proofs.work.LeafWork.new.Goals as goal
 
 pub returns : goal.returns

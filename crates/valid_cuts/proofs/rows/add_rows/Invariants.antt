@@ -1,8 +1,0 @@
-use Rattle.bytime_model.specs.Landing.{choice_in}
-use Rattle.valid_cuts.specs.Rows.{AreAddedTo}
-use Rattle.valid_cuts.proofs.rows.add_rows.Given as goal
-
-abbrev pub invariant-loop-position : goal.invariant-loop-position
-invariant-loop-position l =
-    AreAddedTo l.fn.s.parts (choice_in l.fn.s.parts l.fn.columns l.fn.boxes) l.fn.rows l.position
-    l.fn.sums l.sums
