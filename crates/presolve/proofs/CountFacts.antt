@@ -12,7 +12,8 @@ use Rattle.scaled_simplex.specs.Program.{Problem, columns}
 use Rattle.scaled_simplex.specs.Tableau.{constraint_row, constraint_rows, cost_row, one_at, right_side}
 use Rattle.time_windows.specs.Boxes.{Box}
 use Rattle.bytime_model.specs.declared.names.RowName.{RowName}
-use Rattle.bytime_model.specs.AllRows.{rows_of}
+use Rattle.cut_rows.specs.declared.names.CutName.{CutName}
+use Rattle.cut_rows.specs.Pools.{rows_with}
 use Rattle.presolve.specs.declared.tally.Refused.{Refused}
 use Rattle.presolve.specs.declared.tally.Refused.TheVariants as refused
 use Rattle.presolve.specs.declared.tally.Tally.{Tally}
@@ -116,26 +117,26 @@ sum_ranged_within part n all within =
     omega (arith, one, more)
 
 -- a row that has landed
-module _ (parts : Parts) (box : Box) (name : RowName) (entries : List Entry) (limit : ℤ)
-    (row : IsLandedRow parts box name entries limit) where
-  told : int_lt limit (greatest entries) ≡ may_exceed (row_in parts box name)
+module _ (parts : Parts) (pool : List CutName) (box : Box) (name : RowName) (entries : List Entry)
+    (limit : ℤ) (row : IsLandedRow parts pool box name entries limit) where
+  told : int_lt limit (greatest entries) ≡ may_exceed (row_in parts pool box name)
   told =
       ap (λ n. int_lt n (greatest entries)) row.limit
-      ∙ ap (λ list. int_lt (row_in parts box name).limit (greatest list)) row.terms
+      ∙ ap (λ list. int_lt (row_in parts pool box name).limit (greatest list)) row.terms
 
   kept_entries : int_lt limit (greatest entries) ≡ true
-      → row_entries parts box name ≡ length entries + 1
+      → row_entries parts pool box name ≡ length entries + 1
   kept_entries exceeds =
-      ap (λ b. if b then length (row_in parts box name).terms + 1 else 0) (sym told ∙ exceeds)
+      ap (λ b. if b then length (row_in parts pool box name).terms + 1 else 0) (sym told ∙ exceeds)
       ∙ ap (λ (list : List Entry). length list + 1) (sym row.terms)
 
-  no_entries : int_lt limit (greatest entries) ≡ false → row_entries parts box name ≡ 0
+  no_entries : int_lt limit (greatest entries) ≡ false → row_entries parts pool box name ≡ 0
   no_entries below =
-      ap (λ b. if b then length (row_in parts box name).terms + 1 else 0) (sym told ∙ below)
+      ap (λ b. if b then length (row_in parts pool box name).terms + 1 else 0) (sym told ∙ below)
 
   pub row_counted : int_lt limit (greatest entries) ≡ true → (old new : Tally)
       → IsCounted ((length entries + 1) * 1) old new
-      → IsCounted (row_entries parts box name) old new
+      → IsCounted (row_entries parts pool box name) old new
   row_counted exceeds old new counted = record {
     upto =
         let upto = counted.upto in
@@ -144,18 +145,19 @@ module _ (parts : Parts) (box : Box) (name : RowName) (entries : List Entry) (li
     cells = counted.cells;
   }
 
-  pub row_uncounted : (tally : Tally) → IsCounted (row_entries parts box name) tally tally
+  pub row_uncounted : (tally : Tally) → IsCounted (row_entries parts pool box name) tally tally
   row_uncounted tally = record { upto = omega arith; cells = refl }
 
   pub row_wide : int_lt limit (greatest entries) ≡ true → (reason : Refused) (cells : Option ℕ)
       (old : ℕ) → IfWide reason (IsPast cells (old + (length entries + 1) * 1))
-      → IfWide reason (IsPast cells (old + row_entries parts box name))
+      → IfWide reason (IsPast cells (old + row_entries parts pool box name))
   row_wide exceeds reason cells old why =
-      wide_more reason cells (old + (length entries + 1) * 1) (old + row_entries parts box name)
+      wide_more reason cells (old + (length entries + 1) * 1)
+      (old + row_entries parts pool box name)
       (let same = kept_entries exceeds in omega (arith, same)) why
 
 -- the rows that are kept, and after them one for each column
-module _ (parts : Parts) (box : Box) (problem : Problem) where
+module _ (parts : Parts) (pool : List CutName) (box : Box) (problem : Problem) where
   ones_hold : (numbers : List ℕ) (k : ℕ)
       → length numbers * 3 ≤ live (constraint_rows problem k (map at_most_one numbers))
   ones_hold [] k = omega arith
@@ -165,48 +167,48 @@ module _ (parts : Parts) (box : Box) (problem : Problem) where
       (constraint_rows problem (k + 1) (map at_most_one numbers)) in
       omega (arith, more, all)
 
-  row_long : (name : RowName) (k : ℕ) → length (row_in parts box name).terms + 1
-      ≤ length (constraint_row problem k (kept_row parts box name))
+  row_long : (name : RowName) (k : ℕ) → length (row_in parts pool box name).terms + 1
+      ≤ length (constraint_row problem k (kept_row parts pool box name))
   row_long name k =
-      let row = kept_row parts box name in
+      let row = kept_row parts pool box name in
       let rest = one_at (columns problem + k) ++ unless_zero (right_side problem) row.limit in
       let one = length-append row.terms rest in
       let two = length-append (one_at (columns problem + k))
       (unless_zero (right_side problem) row.limit) in
-      let same = length-map (row_in parts box name).terms
+      let same = length-map (row_in parts pool box name).terms
       (flipped_entry (flipped_of parts box)) in
       omega (arith, one, two, same)
 
   rows_hold : (names : List RowName) (numbers : List ℕ) (k : ℕ)
-      → sum_by (row_entries parts box) names + length numbers * 3
+      → sum_by (row_entries parts pool box) names + length numbers * 3
       ≤ live (constraint_rows problem k
-      (map (kept_row parts box) (kept_among parts box names) ++ map at_most_one numbers))
+      (map (kept_row parts pool box) (kept_among parts pool box names) ++ map at_most_one numbers))
   rows_hold [] numbers k = let ones = ones_hold numbers k in omega (arith, ones)
   rows_hold (name ∷ names) numbers k =
-      let all = sum_by-cons (row_entries parts box) name names in
-      let most = by (may_exceed (row_in parts box name)) (rows_hold names numbers k)
+      let all = sum_by-cons (row_entries parts pool box) name names in
+      let most = by (may_exceed (row_in parts pool box name)) (rows_hold names numbers k)
       (rows_hold names numbers (k + 1)) in
       omega (arith, all, most)
     where
       rest : List RowName
-      rest = kept_among parts box names
+      rest = kept_among parts pool box names
 
       by : (b : Bool)
-          → sum_by (row_entries parts box) names + length numbers * 3
-          ≤ live (constraint_rows problem k (map (kept_row parts box) rest
+          → sum_by (row_entries parts pool box) names + length numbers * 3
+          ≤ live (constraint_rows problem k (map (kept_row parts pool box) rest
           ++ map at_most_one numbers))
-          → sum_by (row_entries parts box) names + length numbers * 3
-          ≤ live (constraint_rows problem (k + 1) (map (kept_row parts box) rest
+          → sum_by (row_entries parts pool box) names + length numbers * 3
+          ≤ live (constraint_rows problem (k + 1) (map (kept_row parts pool box) rest
           ++ map at_most_one numbers))
-          → (if b then length (row_in parts box name).terms + 1 else 0)
-          + sum_by (row_entries parts box) names + length numbers * 3
+          → (if b then length (row_in parts pool box name).terms + 1 else 0)
+          + sum_by (row_entries parts pool box) names + length numbers * 3
           ≤ live (constraint_rows problem k
-          (map (kept_row parts box) (if b then name ∷ rest else rest)
+          (map (kept_row parts pool box) (if b then name ∷ rest else rest)
           ++ map at_most_one numbers))
       by true here next =
           let long = row_long name k in
-          let all = sum_by-cons length (constraint_row problem k (kept_row parts box name))
-          (constraint_rows problem (k + 1) (map (kept_row parts box) rest
+          let all = sum_by-cons length (constraint_row problem k (kept_row parts pool box name))
+          (constraint_rows problem (k + 1) (map (kept_row parts pool box) rest
           ++ map at_most_one numbers)) in
           omega (arith, next, long, all)
       by false here next = omega (arith, here)
@@ -225,13 +227,14 @@ columns_held parts box = go (range_with_len 0 (length parts.flights))
         (flat_map (flight_columns parts box) flights) in
         omega (arith, more, one, both)
 
-pub entries_held : (parts : Parts) (box : Box)
-    → column_entries parts box + sum_by (row_entries parts box) (rows_of parts)
-    ≤ entries_of parts box
-entries_held parts box =
-    let problem = program_of parts box in
+pub entries_held : (parts : Parts) (pool : List CutName) (box : Box)
+    → column_entries parts box + sum_by (row_entries parts pool box) (rows_with parts pool)
+    ≤ entries_of parts pool box
+entries_held parts pool box =
+    let problem = program_of parts pool box in
     let count = length (columns_of parts box) in
-    let rows = rows_hold parts box problem (rows_of parts) (range_with_len 0 count) 0 in
+    let rows = rows_hold parts pool box problem (rows_with parts pool) (range_with_len 0 count)
+    0 in
     let ones = length-range_with_len 0 count in
     let cols = columns_held parts box in
     let last = sum_pushed length (constraint_rows problem 0 problem.constraints)
@@ -239,8 +242,8 @@ entries_held parts box =
     omega (arith, rows, ones, cols, last)
 
 -- what is past the room so far is so for the whole tableau
-module _ (parts : Parts) (box : Box) (cells : Option ℕ) (first : Tally) (reason : Refused)
-    (begun : first ≡ record { entries = 0; cells = cells }) where
+module _ (parts : Parts) (pool : List CutName) (box : Box) (cells : Option ℕ) (first : Tally)
+    (reason : Refused) (begun : first ≡ record { entries = 0; cells = cells }) where
   none_yet : first.entries ≡ 0
   none_yet = ap (λ (t : Tally). t.entries) begun
 
@@ -250,24 +253,23 @@ module _ (parts : Parts) (box : Box) (cells : Option ℕ) (first : Tally) (reaso
       subst (λ room. IfWide reason (IsPast room entries)) (ap (λ (t : Tally). t.cells) begun) why
 
   pub columns_wide : IfWide reason (IsPast first.cells (first.entries + column_entries parts box))
-      → IfWide reason (IsPast cells (entries_of parts box))
+      → IfWide reason (IsPast cells (entries_of parts pool box))
   columns_wide why =
       let none = none_yet in
-      let all = entries_held parts box in
-      wide_more reason cells (first.entries + column_entries parts box) (entries_of parts box)
+      let all = entries_held parts pool box in
+      wide_more reason cells (first.entries + column_entries parts box) (entries_of parts pool box)
       (omega (arith, none, all)) (same_room (first.entries + column_entries parts box) why)
 
   pub rows_wide : (old : Tally) → IsCounted (column_entries parts box) first old
       → IfWide reason
-      (IsPast old.cells (old.entries + sum_by (row_entries parts box) (rows_of parts)))
-      → IfWide reason (IsPast cells (entries_of parts box))
+      (IsPast old.cells (old.entries + sum_by (row_entries parts pool box) (rows_with parts pool)))
+      → IfWide reason (IsPast cells (entries_of parts pool box))
   rows_wide old counted why =
       let none = none_yet in
-      let held = entries_held parts box in
-      same_room (entries_of parts box)
-      (wide_more reason first.cells
-      (first.entries + (column_entries parts box + sum_by (row_entries parts box) (rows_of parts)))
-      (entries_of parts box) (omega (arith, none, held))
-      (wide_both (column_entries parts box) (sum_by (row_entries parts box) (rows_of parts))
-      (column_entries parts box + sum_by (row_entries parts box) (rows_of parts)) first old reason
+      let held = entries_held parts pool box in
+      let rows = sum_by (row_entries parts pool box) (rows_with parts pool) in
+      same_room (entries_of parts pool box)
+      (wide_more reason first.cells (first.entries + (column_entries parts box + rows))
+      (entries_of parts pool box) (omega (arith, none, held))
+      (wide_both (column_entries parts box) rows (column_entries parts box + rows) first old reason
       counted (omega arith) why))

@@ -13,6 +13,7 @@ pub mod NamesFacts
 pub mod NumberFacts
 pub mod PointFacts
 pub mod PointLaws
+pub mod PoolFacts
 pub mod ProblemFacts
 pub mod ProgramFacts
 pub mod PromiseFacts

@@ -24,12 +24,14 @@ use Rattle.bytime_model.specs.declared.variables.Var.TheVariants.{By}
 use Rattle.bytime_model.specs.AllRows.{rows_of}
 use Rattle.bytime_model.specs.CostRow.{cost_row, flight_terms, late_step, late_terms, most_late, most_wait, unless_zero, wait_step, wait_terms}
 use Rattle.bytime_model.specs.Left.{left_of}
-use Rattle.bytime_model.specs.Rows.{is_row, row_of, row_terms, term_of}
+use Rattle.bytime_model.specs.Rows.{term_of}
 use Rattle.bytime_model.proofs.KindLaws.{rows_each}
 use Rattle.bytime_model.proofs.SmallFacts.{all_flat, all_over}
 use Rattle.bytime_model.specs.Columns.{IsThere, IsWhole}
 use Rattle.bytime_model.proofs.NumberFacts.{whole_box}
-use Rattle.bytime_model.proofs.RowLaws.{row_there}
+use Rattle.cut_rows.specs.declared.names.CutName.{CutName}
+use Rattle.cut_rows.specs.Pools.{IsPoolOf, cut_names, is_row_with, row_with, rows_with}
+use Rattle.cut_rows.proofs.PoolRows.{there_with}
 use Rattle.presolve.specs.Landed.{coefficient_of, fixed_of}
 use Rattle.presolve.specs.Points.{AgreesOver, form_at, relaxation_cost, turned}
 use Rattle.presolve.specs.Relaxed.{cost_in, flipped_of, kept_row, program_of, row_in}
@@ -37,6 +39,7 @@ use Rattle.presolve.specs.Variables.{columns_of}
 use Rattle.presolve.proofs.DualityFacts.{costs_in_range, over}
 use Rattle.presolve.proofs.FlipFacts.{IsPointAt, flip_over, one_cost, row_value, unflipped}
 use Rattle.presolve.proofs.LandedFacts.{landed_value}
+use Rattle.presolve.proofs.PoolFacts.{cuts_there, day_row}
 use Rattle.presolve.proofs.SumLaws.{range_items, total_less}
 
 -- what holds of whatever is in a list
@@ -48,17 +51,20 @@ every P (x ∷ xs) each =
     (every P xs (λ z any. each z (any_there (λ y. y ≡ z) x xs any)))
 
 -- the program has as many columns
-pub few : (parts : Parts) (box : Box)
-    → length (columns_of parts box) ≡ columns (program_of parts box)
-few parts box =
+pub few : (parts : Parts) (pool : List CutName) (box : Box)
+    → length (columns_of parts box) ≡ columns (program_of parts pool box)
+few parts pool box =
     sym (length-map (columns_of parts box)
     (λ column. pos (unsigned_abs (cost_in parts box column))))
 
 -- each of the names is of a row
-pub rows_are : (parts : Parts) → All (λ name. is_row parts name ≡ true) (rows_of parts)
-rows_are parts =
-    every (λ name. is_row parts name ≡ true) (rows_of parts)
-    (λ name any. (rows_each parts name).0 any)
+pub rows_are : (parts : Parts) (pool : List CutName) → IsPoolOf parts pool
+    → All (λ name. is_row_with parts pool name ≡ true) (rows_with parts pool)
+rows_are parts pool cuts =
+    All-append (λ name. is_row_with parts pool name ≡ true) (rows_of parts) (cut_names pool)
+    (every (λ name. is_row_with parts pool name ≡ true) (rows_of parts)
+    (λ name any. day_row parts pool name ((rows_each parts name).0 any)))
+    (cuts_there parts pool cuts)
 
 -- the cost row has variables of entering alone
 module _ (parts : Parts) where
@@ -94,8 +100,8 @@ module _ (parts : Parts) where
   cost_there =
       all_over Has (flight_terms parts.tables parts.day.periods) 0 parts.flights flight_there
 
-module _ (parts : Parts) (scenario : IsScenario parts) (box : Box) (made : IsBoxOf parts box)
-    (tight : IsTight parts box) (value : Var → ℤ) (denominator : ℤ)
+module _ (parts : Parts) (pool : List CutName) (scenario : IsScenario parts) (box : Box)
+    (made : IsBoxOf parts box) (tight : IsTight parts box) (value : Var → ℤ) (denominator : ℤ)
     (agree : (variable : Var)
     → AgreesOver denominator value variable (left_of parts.flights box variable))
     (numerator : ℕ → ℤ)
@@ -111,27 +117,30 @@ module _ (parts : Parts) (scenario : IsScenario parts) (box : Box) (made : IsBox
   whole = whole_box parts box made tight
 
   -- a row is as far above its limit as over the columns' variables, and as over the columns
-  pub landed_over : (name : RowName) → is_row parts name ≡ true
-      → over (unflipped flips numerator denominator) denominator (row_in parts box name)
-      ≡ form_at value (row_of parts name).terms -ℤ ((row_of parts name).limit *ℤ denominator)
+  pub landed_over : (name : RowName) → is_row_with parts pool name ≡ true
+      → over (unflipped flips numerator denominator) denominator (row_in parts pool box name)
+      ≡ form_at value (row_with parts pool name).terms
+      -ℤ ((row_with parts pool name).limit *ℤ denominator)
   landed_over name is =
-      let terms = row_terms parts name in
+      let terms = (row_with parts pool name).terms in
       let left = row_value (coefficient_of parts box terms) all_columns value 0
       (unflipped flips numerator denominator) point in
       let landed = landed_value parts scenario box made whole value denominator agree terms
-      (row_there parts scenario name is) in
-      let limit = less_times (row_of parts name).limit (fixed_of parts box terms) denominator in
+      (there_with parts pool name scenario is) in
+      let limit = less_times (row_with parts pool name).limit (fixed_of parts box terms)
+      denominator in
       omega (arith, linear, left, landed, limit)
 
-  pub kept_over : (name : RowName) → is_row parts name ≡ true
-      → over numerator denominator (kept_row parts box name)
-      ≡ form_at value (row_of parts name).terms -ℤ ((row_of parts name).limit *ℤ denominator)
+  pub kept_over : (name : RowName) → is_row_with parts pool name ≡ true
+      → over numerator denominator (kept_row parts pool box name)
+      ≡ form_at value (row_with parts pool name).terms
+      -ℤ ((row_with parts pool name).limit *ℤ denominator)
   kept_over name is =
-      flip_over flips numerator denominator (row_in parts box name) ∙ landed_over name is
+      flip_over flips numerator denominator (row_in parts pool box name) ∙ landed_over name is
 
   -- the costs of the columns
   cost_at : (i k : ℕ) (column : Var) → k ≡ 0 + i → slice_get all_columns i ≡ Some column
-      → slice_index_or (program_of parts box).costs k (pos 0) *ℤ numerator k
+      → slice_index_or (program_of parts pool box).costs k (pos 0) *ℤ numerator k
       ≡ (cost_in parts box column *ℤ value column)
       -ℤ (int_min (pos 0) (cost_in parts box column) *ℤ denominator)
   cost_at i k column same here =
@@ -151,15 +160,15 @@ module _ (parts : Parts) (scenario : IsScenario parts) (box : Box) (made : IsBox
       (sym flip)
       ∙ ap (λ n. (cost_in parts box column *ℤ n) -ℤ low) (point.at i k column same here)
 
-  pub same_cost : point_cost (program_of parts box) numerator denominator
+  pub same_cost : point_cost (program_of parts pool box) numerator denominator
       ≡ relaxation_cost parts value denominator
   same_cost =
       let constant = (cost_row parts).constant in
       let fixed = fixed_of parts box (cost_row parts).terms in
       let low = total (λ column. int_min (pos 0) (cost_in parts box column)) all_columns in
-      let paid : ℕ → ℤ = λ k. slice_index_or (program_of parts box).costs k (pos 0)
+      let paid : ℕ → ℤ = λ k. slice_index_or (program_of parts pool box).costs k (pos 0)
       *ℤ numerator k in
-      let all = costs_in_range numerator denominator (program_of parts box).costs in
+      let all = costs_in_range numerator denominator (program_of parts pool box).costs in
       let many = ap (λ n. total paid (range_with_len 0 n)) (length-map all_columns
       (λ column. pos (unsigned_abs (cost_in parts box column)))) in
       let costs = range_items paid

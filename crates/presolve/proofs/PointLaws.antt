@@ -17,11 +17,11 @@ use Rattle.bytime_model.specs.declared.left.Left.{Left}
 use Rattle.bytime_model.specs.declared.left.Left.TheVariants.{Free, One, Same, Zero}
 use Rattle.bytime_model.specs.declared.names.RowName.{RowName}
 use Rattle.bytime_model.specs.declared.variables.Var.{Var}
-use Rattle.bytime_model.specs.AllRows.{rows_of}
 use Rattle.bytime_model.specs.Left.{left_of}
-use Rattle.bytime_model.specs.Rows.{is_row, row_of, row_terms}
 use Rattle.bytime_model.specs.Columns.{IsWhole}
 use Rattle.bytime_model.proofs.NumberFacts.{whole_box}
+use Rattle.cut_rows.specs.declared.names.CutName.{CutName}
+use Rattle.cut_rows.specs.Pools.{IsPoolOf, is_row_with, row_with, rows_with}
 use Rattle.presolve.specs.Landed.{coefficient_of}
 use Rattle.presolve.specs.Points.{AgreesOver, IsNumerator, IsRelaxationPoint, IsRowKept, column_value, free_value, left_value, relaxation_cost, turned, value_of_point}
 use Rattle.presolve.specs.Relaxed.{at_most_one, flipped_of, greatest, kept_of, kept_row, may_exceed, program_of, row_in}
@@ -109,8 +109,9 @@ module _ (numerator : ℕ → ℤ) (denominator : ℤ) (count : ℕ)
       let split = less_times row.limit (greatest row.terms) denominator in
       omega (arith, linear, most, left, split)
 
-module _ (parts : Parts) (box : Box) (scenario : IsScenario parts) (made : IsBoxOf parts box)
-    (tight : IsTight parts box) (numerator : ℕ → ℤ) (denominator : ℤ) where
+module _ (parts : Parts) (pool : List CutName) (box : Box) (scenario : IsScenario parts)
+    (cuts : IsPoolOf parts pool) (made : IsBoxOf parts box) (tight : IsTight parts box)
+    (numerator : ℕ → ℤ) (denominator : ℤ) where
   abbrev all_columns : List Var
   all_columns = columns_of parts box
 
@@ -165,16 +166,17 @@ module _ (parts : Parts) (box : Box) (scenario : IsScenario parts) (made : IsBox
   at_columns = record { at = column_at }
 
   pub costs_alike : relaxation_cost parts value denominator
-      ≡ point_cost (program_of parts box) numerator denominator
+      ≡ point_cost (program_of parts pool box) numerator denominator
   costs_alike =
-      sym (same_cost parts scenario box made tight value denominator agree numerator at_columns)
+      sym (same_cost parts pool scenario box made tight value denominator agree numerator
+      at_columns)
 
-  module _ (point : IsProgramPoint (program_of parts box) numerator denominator) where
+  module _ (point : IsProgramPoint (program_of parts pool box) numerator denominator) where
     abbrev Holds : Constraint → Type 0
     Holds = ConstraintHolds numerator denominator
 
     abbrev first_rows : List Constraint
-    first_rows = map (kept_row parts box) (kept_of parts box)
+    first_rows = map (kept_row parts pool box) (kept_of parts pool box)
 
     abbrev last_rows : List Constraint
     last_rows = map at_most_one (range_with_len 0 (length all_columns))
@@ -214,12 +216,15 @@ module _ (parts : Parts) (box : Box) (scenario : IsScenario parts) (made : IsBox
         }
     turned_within false part is = is
 
+    pub numbers_within : (k : ℕ) → k < length all_columns → IsNumerator denominator (numerator k)
+    numbers_within k within = record {
+      low = point.least k (omega (arith, within, few parts pool box));
+      high = each_high 0 (length all_columns) k k last_hold (omega arith) within;
+    }
+
     bits_within : (k : ℕ) → k < length all_columns → IsNumerator denominator (bit k)
     bits_within k within =
-        turned_within (slice_index_or flips k false) (numerator k) (record {
-          low = point.least k (omega (arith, within, few parts box));
-          high = each_high 0 (length all_columns) k k last_hold (omega arith) within;
-        })
+        turned_within (slice_index_or flips k false) (numerator k) (numbers_within k within)
 
     place_within : (variable : Var) (place : Option ℕ)
         → position_from (is_same variable) 0 all_columns ≡ place
@@ -241,56 +246,56 @@ module _ (parts : Parts) (box : Box) (scenario : IsScenario parts) (made : IsBox
 
     -- rows that are in the program are kept with it, and the others anyway
     abbrev Keeps : RowName → Type 0
-    Keeps name = IsRowKept value denominator (row_of parts name)
+    Keeps name = IsRowKept value denominator (row_with parts pool name)
 
-    named_kept : (name : RowName) → is_row parts name ≡ true → Holds (kept_row parts box name)
-        → Keeps name
+    named_kept : (name : RowName) → is_row_with parts pool name ≡ true
+        → Holds (kept_row parts pool box name) → Keeps name
     named_kept name is holds =
-        let same = kept_over parts scenario box made tight value denominator agree numerator
-        at_columns name is in
+        let same = kept_over parts pool scenario box made tight value denominator agree
+        numerator at_columns name is in
         omega (arith, linear, holds, same)
 
-    never_kept : (name : RowName) → is_row parts name ≡ true
-        → may_exceed (row_in parts box name) ≡ false → Keeps name
+    never_kept : (name : RowName) → is_row_with parts pool name ≡ true
+        → may_exceed (row_in parts pool box name) ≡ false → Keeps name
     never_kept name is never =
         let low = never_over bit denominator (length all_columns) bits_within
-        (row_in parts box name)
-        (entries_within (coefficient_of parts box (row_terms parts name)) all_columns 0
+        (row_in parts pool box name)
+        (entries_within (coefficient_of parts box (row_with parts pool name).terms) all_columns 0
         (length all_columns) (omega arith)) point.positive never in
-        let same = landed_over parts scenario box made tight value denominator agree numerator
-        at_columns name is in
+        let same = landed_over parts pool scenario box made tight value denominator agree
+        numerator at_columns name is in
         omega (arith, linear, low, same)
 
-    all_kept : (names : List RowName) → All (λ name. is_row parts name ≡ true) names
-        → All Holds (map (kept_row parts box)
-        (filter (λ name. may_exceed (row_in parts box name)) names))
+    all_kept : (names : List RowName) → All (λ name. is_row_with parts pool name ≡ true) names
+        → All Holds (map (kept_row parts pool box)
+        (filter (λ name. may_exceed (row_in parts pool box name)) names))
         → All Keeps names
     all_kept [] are hold = All-nil Keeps
     all_kept (name ∷ names) are hold =
-        by (may_exceed (row_in parts box name)) refl hold
-        (all_kept names (All-tail (λ n. is_row parts n ≡ true) name names are))
+        by (may_exceed (row_in parts pool box name)) refl hold
+        (all_kept names (All-tail (λ n. is_row_with parts pool n ≡ true) name names are))
       where
-        by : (b : Bool) → may_exceed (row_in parts box name) ≡ b
-            → All Holds (map (kept_row parts box)
-            (if b then name ∷ filter (λ n. may_exceed (row_in parts box n)) names
-            else filter (λ n. may_exceed (row_in parts box n)) names))
-            → (All Holds (map (kept_row parts box)
-            (filter (λ n. may_exceed (row_in parts box n)) names)) → All Keeps names)
+        by : (b : Bool) → may_exceed (row_in parts pool box name) ≡ b
+            → All Holds (map (kept_row parts pool box)
+            (if b then name ∷ filter (λ n. may_exceed (row_in parts pool box n)) names
+            else filter (λ n. may_exceed (row_in parts pool box n)) names))
+            → (All Holds (map (kept_row parts pool box)
+            (filter (λ n. may_exceed (row_in parts pool box n)) names)) → All Keeps names)
             → All Keeps (name ∷ names)
         by true may hold later =
             All-cons Keeps name names
-            (named_kept name (are 0 name (omega arith)) (hold 0 (kept_row parts box name)
+            (named_kept name (are 0 name (omega arith)) (hold 0 (kept_row parts pool box name)
             (omega arith)))
-            (later (All-tail Holds (kept_row parts box name) (map (kept_row parts box)
-            (filter (λ n. may_exceed (row_in parts box n)) names)) hold))
+            (later (All-tail Holds (kept_row parts pool box name) (map (kept_row parts pool box)
+            (filter (λ n. may_exceed (row_in parts pool box n)) names)) hold))
         by false never hold later =
             All-cons Keeps name names (never_kept name (are 0 name (omega arith)) never)
             (later hold)
 
-    pub relaxation_point : IsRelaxationPoint parts box value denominator
+    pub relaxation_point : IsRelaxationPoint parts pool box value denominator
     relaxation_point = record {
       positive = point.positive;
       within = free_within;
       agree = agree;
-      kept = all_kept (rows_of parts) (rows_are parts) first_hold;
+      kept = all_kept (rows_with parts pool) (rows_are parts pool cuts) first_hold;
     }

@@ -21,13 +21,12 @@ use Rattle.bytime_model.specs.declared.left.Left.TheVariants.{Free, One, Same, Z
 use Rattle.bytime_model.specs.declared.names.RowName.{RowName}
 use Rattle.bytime_model.specs.declared.variables.Term.{Term}
 use Rattle.bytime_model.specs.declared.variables.Var.{Var}
-use Rattle.bytime_model.specs.AllRows.{rows_of}
 use Rattle.bytime_model.specs.Columns.{IsThere, IsWhole}
 use Rattle.bytime_model.specs.CostRow.{cost_row}
 use Rattle.bytime_model.specs.Left.{left_of}
-use Rattle.bytime_model.specs.Rows.{is_row, row_of}
-use Rattle.bytime_model.proofs.KindLaws.{rows_few}
 use Rattle.bytime_model.proofs.NumberFacts.{whole_box}
+use Rattle.cut_rows.specs.declared.names.CutName.{CutName}
+use Rattle.cut_rows.specs.Pools.{IsPoolOf, is_row_with, row_with, rows_with}
 use Rattle.presolve.specs.Gathering.{Gathered, IsLanded, most_factor}
 use Rattle.presolve.specs.Landed.{coefficient_of, entries_from, fixed_of, is_on, is_one, part_fixed, part_on}
 use Rattle.presolve.specs.Listing.{HaveCosts, IsLandedRow}
@@ -37,6 +36,7 @@ use Rattle.presolve.proofs.ColumnFacts.{once}
 use Rattle.presolve.proofs.CostFacts.{are_costs, entries_size, terms_small, total_map}
 use Rattle.presolve.proofs.FreeFacts.{columns_few}
 use Rattle.presolve.proofs.PointFacts.{cost_there, few}
+use Rattle.presolve.proofs.PoolFacts.{all_few}
 use Rattle.presolve.proofs.ProgramFacts.{costs_are, paid_near, sizes_are}
 use Rattle.presolve.proofs.PromiseFacts.{kept_are}
 use Rattle.presolve.proofs.RowFacts.{factors_small, flipped_constraint, kept_few, landed, landed_row_is, landed_within, one_constraint, row_there_at}
@@ -48,8 +48,8 @@ size z = pos (unsigned_abs z)
 size_sum : (a b : ℤ) → size (a +ℤ b) ≤ℤ (size a +ℤ size b)
 size_sum a b = omega (arith, ints)
 
-module _ (parts : Parts) (box : Box) (scenario : IsScenario parts) (made : IsBoxOf parts box)
-    (tight : IsTight parts box) where
+module _ (parts : Parts) (pool : List CutName) (box : Box) (scenario : IsScenario parts)
+    (cuts : IsPoolOf parts pool) (made : IsBoxOf parts box) (tight : IsTight parts box) where
   abbrev all_columns : List Var
   all_columns = columns_of parts box
 
@@ -170,39 +170,40 @@ module _ (parts : Parts) (box : Box) (scenario : IsScenario parts) (made : IsBox
   abbrev sizes : List ℤ
   sizes = map (λ value. pos (unsigned_abs value)) values
 
-  costs_near : All IsCost (program_of parts box).costs
+  costs_near : All IsCost (program_of parts pool box).costs
   costs_near =
       subst (All IsCost) (costs_are parts box values paid have_costs sizes refl)
       (sizes_are parts box values paid have_costs sizes refl)
 
-  constant_near : nat_abs (program_of parts box).constant ≤ most_entry
+  constant_near : nat_abs (program_of parts pool box).constant ≤ most_entry
   constant_near =
       subst (λ n. nat_abs n ≤ most_entry) have_costs.constant
       (paid_near parts box values paid have_costs)
 
   -- the rows
   abbrev count : ℕ
-  count = columns (program_of parts box)
+  count = columns (program_of parts pool box)
 
-  row_landed : (name : RowName) → is_row parts name ≡ true
-      → IsLandedRow parts box name (row_in parts box name).terms (row_in parts box name).limit
+  row_landed : (name : RowName) → is_row_with parts pool name ≡ true
+      → IsLandedRow parts pool box name (row_in parts pool box name).terms
+      (row_in parts pool box name).limit
   row_landed name is =
-      landed parts name (row_of parts name) refl box (row_for (row_of parts name).terms)
-      (row_in parts box name).limit scenario
-      (lands (row_of parts name).terms
-      (row_there_at parts name (row_of parts name) refl scenario is)
-      (factors_small parts name (row_of parts name) refl))
+      landed parts pool name (row_with parts pool name) refl box
+      (row_for (row_with parts pool name).terms) (row_in parts pool box name).limit scenario is
+      (lands (row_with parts pool name).terms
+      (row_there_at parts pool name (row_with parts pool name) refl scenario is)
+      (factors_small parts pool name (row_with parts pool name) refl))
       refl
 
-  row_near : (name : RowName) → is_row parts name ≡ true
-      → IsConstraint count (kept_row parts box name)
+  row_near : (name : RowName) → is_row_with parts pool name ≡ true
+      → IsConstraint count (kept_row parts pool box name)
   row_near name is =
-      let row = row_in parts box name in
+      let row = row_in parts pool box name in
       let on = row_landed name is in
       flipped_constraint (flipped_of parts box) row.terms row.limit
-      (kept_row parts box name).limit count (kept_row parts box name).terms
-      (landed_row_is parts box name row.terms row.limit on)
-      (landed_within parts box name row.terms row.limit count on (sym (few parts box)))
+      (kept_row parts pool box name).limit count (kept_row parts pool box name).terms
+      (landed_row_is parts pool box name row.terms row.limit on)
+      (landed_within parts pool box name row.terms row.limit count on (sym (few parts pool box)))
       on.size on.near refl refl
 
   ones_near : (from many : ℕ) → from + many ≤ count
@@ -214,27 +215,28 @@ module _ (parts : Parts) (box : Box) (scenario : IsScenario parts) (made : IsBox
       (one_constraint from count (omega (arith, within)))
       (ones_near (from + 1) many (omega (arith, within)))
 
-  rows_near : All (IsConstraint count) (program_of parts box).constraints
+  rows_near : All (IsConstraint count) (program_of parts pool box).constraints
   rows_near =
-      All-append (IsConstraint count) (map (kept_row parts box) (kept_of parts box))
+      All-append (IsConstraint count) (map (kept_row parts pool box) (kept_of parts pool box))
       (map at_most_one (range_with_len 0 (length all_columns)))
-      (All-map (IsConstraint count) (kept_row parts box) (kept_of parts box)
-      (λ k d within. row_near (get_or (kept_of parts box) k d) (kept_are parts box k d within)))
-      (ones_near 0 (length all_columns) (omega (arith, few parts box)))
+      (All-map (IsConstraint count) (kept_row parts pool box) (kept_of parts pool box)
+      (λ k d within. row_near (get_or (kept_of parts pool box) k d)
+      (kept_are parts pool box cuts k d within)))
+      (ones_near 0 (length all_columns) (omega (arith, few parts pool box)))
 
-  pub problem : IsProblem (program_of parts box)
+  pub problem : IsProblem (program_of parts pool box)
   problem = record {
     costs = costs_near;
     constant = constant_near;
     constraints = rows_near;
     few =
-        let both = length-append (map (kept_row parts box) (kept_of parts box))
+        let both = length-append (map (kept_row parts pool box) (kept_of parts pool box))
         (map at_most_one (range_with_len 0 (length all_columns))) in
-        let kept = length-map (kept_of parts box) (kept_row parts box) in
+        let kept = length-map (kept_of parts pool box) (kept_row parts pool box) in
         let ones = length-map-range_with_len at_most_one 0 (length all_columns) in
-        let rows = rows_few parts scenario in
-        let less = kept_few parts box (rows_of parts) in
+        let rows = all_few parts pool cuts scenario in
+        let less = kept_few parts pool box (rows_with parts pool) in
         let cols = columns_few parts scenario box in
-        let same = few parts box in
+        let same = few parts pool box in
         omega (arith, both, kept, ones, rows, less, cols, same);
   }

@@ -10,12 +10,13 @@ use Rattle.row_arena.specs.Rows.{most_entry}
 use Rattle.scaled_simplex.specs.Program.{IsCost, Problem, columns, most_indices}
 use Rattle.time_windows.specs.Boxes.{Box}
 use Rattle.bytime_model.specs.declared.names.RowName.{RowName}
-use Rattle.bytime_model.specs.AllRows.{rows_of}
-use Rattle.bytime_model.proofs.KindLaws.{rows_few}
+use Rattle.cut_rows.specs.declared.names.CutName.{CutName}
+use Rattle.cut_rows.specs.Pools.{IsPoolOf, rows_with}
 use Rattle.presolve.specs.Listing.{AddsRows, HaveCosts, with_rows}
 use Rattle.presolve.specs.Relaxed.{at_most_one, cost_in, flipped_of, kept_of, kept_row, program_of}
 use Rattle.presolve.specs.Variables.{columns_of}
 use Rattle.presolve.proofs.FreeFacts.{columns_few}
+use Rattle.presolve.proofs.PoolFacts.{all_few}
 use Rattle.presolve.proofs.RowFacts.{kept_few}
 
 -- the costs
@@ -64,7 +65,7 @@ module _ (parts : Parts) (box : Box) (values : List ℤ) (paid : ℤ)
       ∙ map_map (λ value. int_lt value (pos 0)) (cost_in parts box) (columns_of parts box)
 
   pub costs_are : (sizes : List ℤ) → sizes ≡ map (λ value. pos (unsigned_abs value)) values
-      → sizes ≡ (program_of parts box).costs
+      → sizes ≡ map (λ column. pos (unsigned_abs (cost_in parts box column))) (columns_of parts box)
   costs_are sizes are =
       are ∙ ap (map (λ value. pos (unsigned_abs value))) have.values
       ∙ map_map (λ value. pos (unsigned_abs value)) (cost_in parts box) (columns_of parts box)
@@ -76,46 +77,49 @@ module _ (parts : Parts) (box : Box) (values : List ℤ) (paid : ℤ)
       ∙ length-map (columns_of parts box) (cost_in parts box)
 
   -- the whole
-  pub program_is : (sizes : List ℤ) (first last : Problem)
+  pub program_is : (pool : List CutName) (sizes : List ℤ) (first last : Problem)
       → sizes ≡ map (λ value. pos (unsigned_abs value)) values
       → first ≡ record { costs = sizes; constant = paid; constraints = [] }
-      → last ≡ with_rows first (program_of parts box).constraints → last ≡ program_of parts box
-  program_is sizes first last are begun whole =
+      → last ≡ with_rows first (program_of parts pool box).constraints
+      → last ≡ program_of parts pool box
+  program_is pool sizes first last are begun whole =
       whole
-      ∙ ap (λ (p : Problem). with_rows p (program_of parts box).constraints) begun
+      ∙ ap (λ (p : Problem). with_rows p (program_of parts pool box).constraints) begun
       ∙ ap (λ list. record {
         costs = list;
         constant = paid;
-        constraints = (program_of parts box).constraints;
+        constraints = (program_of parts pool box).constraints;
       }) (costs_are sizes are)
       ∙ ap (λ n. record {
-        costs = (program_of parts box).costs;
+        costs = (program_of parts pool box).costs;
         constant = n;
-        constraints = (program_of parts box).constraints;
+        constraints = (program_of parts pool box).constraints;
       }) have.constant
 
-pub rows_are : (parts : Parts) (box : Box) (start kept : List RowName) (count : ℕ)
-    (first second third : Problem) → AddsRows parts box (rows_of parts) first second start kept
+pub rows_are : (parts : Parts) (pool : List CutName) (box : Box) (start kept : List RowName)
+    (count : ℕ) (first second third : Problem)
+    → AddsRows parts pool box (rows_with parts pool) first second start kept
     → third ≡ with_rows second (map at_most_one (range_with_len 0 count))
     → count ≡ length (columns_of parts box)
-    → third ≡ with_rows first (program_of parts box).constraints
-rows_are parts box start kept count first second third rows ones long =
+    → third ≡ with_rows first (program_of parts pool box).constraints
+rows_are parts pool box start kept count first second third rows ones long =
     ones
     ∙ ap (λ (p : Problem). with_rows p (map at_most_one (range_with_len 0 count))) rows.program
     ∙ ap (λ list. record {
       costs = first.costs;
       constant = first.constant;
       constraints = list;
-    }) (append_assoc first.constraints (map (kept_row parts box) (kept_of parts box))
+    }) (append_assoc first.constraints (map (kept_row parts pool box) (kept_of parts pool box))
     (map at_most_one (range_with_len 0 count))
-    ∙ ap (λ n. first.constraints ++ (map (kept_row parts box) (kept_of parts box)
+    ∙ ap (λ n. first.constraints ++ (map (kept_row parts pool box) (kept_of parts pool box)
     ++ map at_most_one (range_with_len 0 n))) long)
 
-pub kept_is : (parts : Parts) (box : Box) (start kept : List RowName) (first second : Problem)
-    → AddsRows parts box (rows_of parts) first second start kept → start ≡ []
-    → kept ≡ kept_of parts box
-kept_is parts box start kept first second rows none =
-    rows.kept ∙ ap (λ list. list ++ kept_of parts box) none
+pub kept_is : (parts : Parts) (pool : List CutName) (box : Box) (start kept : List RowName)
+    (first second : Problem)
+    → AddsRows parts pool box (rows_with parts pool) first second start kept → start ≡ []
+    → kept ≡ kept_of parts pool box
+kept_is parts pool box start kept first second rows none =
+    rows.kept ∙ ap (λ list. list ++ kept_of parts pool box) none
 
 -- there is room for all columns and rows
 pub sizes_few : (parts : Parts) (box : Box) (values sizes : List ℤ) (paid : ℤ)
@@ -126,27 +130,29 @@ sizes_few parts box values sizes paid scenario have are =
     let few = columns_few parts scenario box in
     omega (arith, long, few)
 
-pub rows_room : (parts : Parts) (box : Box) (count : ℕ) (first : Problem) → IsScenario parts
-    → columns first ≡ count → count ≡ length (columns_of parts box) → first.constraints ≡ []
-    → columns first + length first.constraints + length (rows_of parts) ≤ most_indices
-rows_room parts box count first scenario long count_is none =
-    let rows = rows_few parts scenario in
+pub rows_room : (parts : Parts) (pool : List CutName) (box : Box) (count : ℕ) (first : Problem)
+    → IsScenario parts → IsPoolOf parts pool → columns first ≡ count
+    → count ≡ length (columns_of parts box) → first.constraints ≡ []
+    → columns first + length first.constraints + length (rows_with parts pool) ≤ most_indices
+rows_room parts pool box count first scenario cuts long count_is none =
+    let rows = all_few parts pool cuts scenario in
     let cols = columns_few parts scenario box in
     let three = ap length none in
     omega (arith, rows, cols, three, long, count_is)
 
-pub ones_room : (parts : Parts) (box : Box) (start kept : List RowName) (count : ℕ)
-    (first second : Problem) → IsScenario parts
-    → AddsRows parts box (rows_of parts) first second start kept → first.constraints ≡ []
-    → columns first ≡ count → count ≡ length (columns_of parts box)
+pub ones_room : (parts : Parts) (pool : List CutName) (box : Box) (start kept : List RowName)
+    (count : ℕ) (first second : Problem) → IsScenario parts → IsPoolOf parts pool
+    → AddsRows parts pool box (rows_with parts pool) first second start kept
+    → first.constraints ≡ [] → columns first ≡ count → count ≡ length (columns_of parts box)
     → columns second + length second.constraints + count ≤ most_indices
-ones_room parts box start kept count first second scenario rows none long count_is =
-    let all = rows_few parts scenario in
+ones_room parts pool box start kept count first second scenario cuts rows none long count_is =
+    let all = all_few parts pool cuts scenario in
     let cols = columns_few parts scenario box in
     let two = ap (λ (p : Problem). length p.constraints) rows.program in
     let three = ap columns rows.program in
-    let four = length-append first.constraints (map (kept_row parts box) (kept_of parts box)) in
-    let five = length-map (kept_of parts box) (kept_row parts box) in
-    let six = kept_few parts box (rows_of parts) in
+    let four = length-append first.constraints
+    (map (kept_row parts pool box) (kept_of parts pool box)) in
+    let five = length-map (kept_of parts pool box) (kept_row parts pool box) in
+    let six = kept_few parts pool box (rows_with parts pool) in
     let seven = ap length none in
     omega (arith, all, cols, two, three, four, five, six, seven, long, count_is)

@@ -19,11 +19,11 @@ use Rattle.bytime_model.specs.declared.left.Left.TheVariants.{Free, One, Same, Z
 use Rattle.bytime_model.specs.declared.names.RowName.{RowName}
 use Rattle.bytime_model.specs.declared.variables.Var.{Var}
 use Rattle.bytime_model.specs.declared.variables.Var.TheVariants.{By}
-use Rattle.bytime_model.specs.AllRows.{rows_of}
 use Rattle.bytime_model.specs.CostRow.{cost_row, priced_value}
 use Rattle.bytime_model.specs.Left.{Agrees, left_of}
-use Rattle.bytime_model.specs.Rows.{is_row, row_of, row_terms}
-use Rattle.valid_cuts.specs.Dual.{IsChoice, dual_at, excess, excesses}
+use Rattle.cut_rows.specs.declared.names.CutName.{CutName}
+use Rattle.cut_rows.specs.Pools.{IsPoolOf, is_row_with, row_with, rows_with}
+use Rattle.dual_sums.specs.Dual.{IsChoice, dual_at, excess, excesses}
 use Rattle.presolve.specs.Landed.{coefficient_of}
 use Rattle.presolve.specs.Leaf.{IsBelowLeaf, leaf_rows}
 use Rattle.presolve.specs.Points.{AgreesOver, turned}
@@ -34,11 +34,11 @@ use Rattle.presolve.proofs.FlipFacts.{IsPointAt, entries_within, flipped_within,
 use Rattle.presolve.proofs.PointFacts.{few, kept_over, rows_are, same_cost}
 
 -- each of the names is of a row
-pub kept_are : (parts : Parts) (box : Box)
-    → All (λ name. is_row parts name ≡ true) (kept_of parts box)
-kept_are parts box =
-    All-filter (λ name. may_exceed (row_in parts box name)) (λ name. is_row parts name ≡ true)
-    (rows_of parts) (rows_are parts)
+pub kept_are : (parts : Parts) (pool : List CutName) (box : Box) → IsPoolOf parts pool
+    → All (λ name. is_row_with parts pool name ≡ true) (kept_of parts pool box)
+kept_are parts pool box cuts =
+    All-filter (λ name. may_exceed (row_in parts pool box name))
+    (λ name. is_row_with parts pool name ≡ true) (rows_with parts pool) (rows_are parts pool cuts)
 
 -- by how much each constraint is exceeded
 module _ (above : Constraint → ℤ) where
@@ -66,26 +66,27 @@ module _ (above : Constraint → ℤ) where
           )
 
   -- the kept rows of a leaf count as their constraints
-  below_rows : (parts : Parts) (box : Box) (value : Var → ℕ) (names : List RowName)
-      (multipliers : List ℤ) (rest : List Constraint)
+  below_rows : (parts : Parts) (pool : List CutName) (box : Box) (value : Var → ℕ)
+      (names : List RowName) (multipliers : List ℤ) (rest : List Constraint)
       → All (λ multiplier. pos 0 ≤ℤ multiplier) multipliers
       → All (λ constraint. above constraint ≤ℤ pos 0) rest
-      → All (λ name. above (kept_row parts box name) ≡ excess value (row_of parts name)) names
-      → weighted above multipliers (map (kept_row parts box) names ++ rest)
-      ≤ℤ excesses parts (leaf_rows names multipliers) value
-  below_rows parts box value [] multipliers rest signs low same =
+      → All (λ name. above (kept_row parts pool box name)
+      ≡ excess value (row_with parts pool name)) names
+      → weighted above multipliers (map (kept_row parts pool box) names ++ rest)
+      ≤ℤ excesses parts pool (leaf_rows names multipliers) value
+  below_rows parts pool box value [] multipliers rest signs low same =
       low_rest multipliers rest signs low
-  below_rows parts box value (name ∷ names) [] rest signs low same = omega (arith, linear)
-  below_rows parts box value (name ∷ names) (y ∷ multipliers) rest signs low same =
-      by (int_eq y (pos 0)) refl (below_rows parts box value names multipliers rest
+  below_rows parts pool box value (name ∷ names) [] rest signs low same = omega (arith, linear)
+  below_rows parts pool box value (name ∷ names) (y ∷ multipliers) rest signs low same =
+      by (int_eq y (pos 0)) refl (below_rows parts pool box value names multipliers rest
       (All-tail (λ z. pos 0 ≤ℤ z) y multipliers signs) low
-      (All-tail (λ other. above (kept_row parts box other)
-      ≡ excess value (row_of parts other)) name names same))
+      (All-tail (λ other. above (kept_row parts pool box other)
+      ≡ excess value (row_with parts pool other)) name names same))
     where
       row : ℤ
-      row = excess value (row_of parts name)
+      row = excess value (row_with parts pool name)
 
-      here : y *ℤ above (kept_row parts box name) ≡ y *ℤ row
+      here : y *ℤ above (kept_row parts pool box name) ≡ y *ℤ row
       here = ap (λ n. y *ℤ n) (same 0 name (omega arith))
 
       size : (z : ℤ) → pos 0 ≤ℤ z → pos (unsigned_abs z) ≡ z
@@ -93,11 +94,11 @@ module _ (above : Constraint → ℤ) where
       size (negsuc n) low = absurd (omega (arith, linear, low))
 
       by : (b : Bool) → int_eq y (pos 0) ≡ b
-          → weighted above multipliers (map (kept_row parts box) names ++ rest)
-          ≤ℤ excesses parts (leaf_rows names multipliers) value
-          → ((y *ℤ above (kept_row parts box name))
-          +ℤ weighted above multipliers (map (kept_row parts box) names ++ rest))
-          ≤ℤ excesses parts ((if b then []
+          → weighted above multipliers (map (kept_row parts pool box) names ++ rest)
+          ≤ℤ excesses parts pool (leaf_rows names multipliers) value
+          → ((y *ℤ above (kept_row parts pool box name))
+          +ℤ weighted above multipliers (map (kept_row parts pool box) names ++ rest))
+          ≤ℤ excesses parts pool ((if b then []
           else record { row = name; value = unsigned_abs y } ∷ [])
           ++ leaf_rows names multipliers) value
       by true is more =
@@ -108,20 +109,20 @@ module _ (above : Constraint → ℤ) where
           omega (arith, linear, here, own, more)
 
 -- the constraints are over the columns
-module _ (parts : Parts) (box : Box) where
+module _ (parts : Parts) (pool : List CutName) (box : Box) where
   abbrev count : ℕ
-  count = columns (program_of parts box)
+  count = columns (program_of parts pool box)
 
   abbrev IsOver : Constraint → Type 0
   IsOver constraint = All (λ entry. entry.column < count) constraint.terms
 
-  kept_within : (names : List RowName) → All IsOver (map (kept_row parts box) names)
+  kept_within : (names : List RowName) → All IsOver (map (kept_row parts pool box) names)
   kept_within [] = All-nil IsOver
   kept_within (name ∷ names) =
-      All-cons IsOver (kept_row parts box name) (map (kept_row parts box) names)
-      (flipped_within (flipped_of parts box) (row_in parts box name).terms count
-      (entries_within (coefficient_of parts box (row_terms parts name)) (columns_of parts box) 0
-      count (omega (arith, few parts box))))
+      All-cons IsOver (kept_row parts pool box name) (map (kept_row parts pool box) names)
+      (flipped_within (flipped_of parts box) (row_in parts pool box name).terms count
+      (entries_within (coefficient_of parts box (row_with parts pool name).terms)
+      (columns_of parts box) 0 count (omega (arith, few parts pool box))))
       (kept_within names)
 
   ones_within : (from many : ℕ) → from + many ≤ count
@@ -134,15 +135,16 @@ module _ (parts : Parts) (box : Box) where
       (All-nil (λ (entry : Entry). entry.column < count)))
       (ones_within (from + 1) many (omega (arith, all)))
 
-  all_within : All IsOver (program_of parts box).constraints
+  all_within : All IsOver (program_of parts pool box).constraints
   all_within =
-      All-append IsOver (map (kept_row parts box) (kept_of parts box))
+      All-append IsOver (map (kept_row parts pool box) (kept_of parts pool box))
       (map at_most_one (range_with_len 0 (length (columns_of parts box))))
-      (kept_within (kept_of parts box))
-      (ones_within 0 (length (columns_of parts box)) (omega (arith, few parts box)))
+      (kept_within (kept_of parts pool box))
+      (ones_within 0 (length (columns_of parts box)) (omega (arith, few parts pool box)))
 
-module _ (parts : Parts) (scenario : IsScenario parts) (box : Box) (made : IsBoxOf parts box)
-    (tight : IsTight parts box) (value : Var → ℕ) (chosen : IsChoice parts.flights box value)
+module _ (parts : Parts) (pool : List CutName) (scenario : IsScenario parts)
+    (cuts : IsPoolOf parts pool) (box : Box) (made : IsBoxOf parts box) (tight : IsTight parts box)
+    (value : Var → ℕ) (chosen : IsChoice parts.flights box value)
   where
     abbrev all_columns : List Var
     all_columns = columns_of parts box
@@ -200,11 +202,12 @@ module _ (parts : Parts) (scenario : IsScenario parts) (box : Box) (made : IsBox
     }
 
     -- a constraint is exceeded as its row is
-    same_over : (name : RowName) → is_row parts name ≡ true
-        → over at (pos 1) (kept_row parts box name) ≡ excess value (row_of parts name)
+    same_over : (name : RowName) → is_row_with parts pool name ≡ true
+        → over at (pos 1) (kept_row parts pool box name) ≡ excess value (row_with parts pool name)
     same_over name is =
-        let same = kept_over parts scenario box made tight number (pos 1) agree at point name is in
-        let once = times_one (row_of parts name).limit in
+        let same = kept_over parts pool scenario box made tight number (pos 1) agree at point
+        name is in
+        let once = times_one (row_with parts pool name).limit in
         omega (arith, linear, same, once)
 
     ones_low : (from count : ℕ)
@@ -219,29 +222,31 @@ module _ (parts : Parts) (scenario : IsScenario parts) (box : Box) (made : IsBox
         (ones_low (from + 1) count)
 
     -- the program's cost is the cost row's value
-    same_worth : point_cost (program_of parts box) at (pos 1)
+    same_worth : point_cost (program_of parts pool box) at (pos 1)
         ≡ priced_value value (cost_row parts)
     same_worth =
-        let same = same_cost parts scenario box made tight number (pos 1) agree at point in
+        let same = same_cost parts pool scenario box made tight number (pos 1) agree at point in
         let once = times_one (cost_row parts).constant in
         omega (arith, linear, same, once)
 
     pub kept_promise : (weight : ℕ) (multipliers : List ℤ) (worth : ℤ)
-        → AreMultipliers (program_of parts box) (pos weight) multipliers worth
-        → worth ≤ℤ dual_at parts weight (leaf_rows (kept_of parts box) multipliers) value
+        → AreMultipliers (program_of parts pool box) (pos weight) multipliers worth
+        → worth ≤ℤ dual_at parts pool weight (leaf_rows (kept_of parts pool box) multipliers) value
     kept_promise weight multipliers worth are =
-        let dual = weakly_dual at (pos 1) at_low (program_of parts box) (pos weight) multipliers
-        worth are (all_within parts box) in
+        let dual = weakly_dual at (pos 1) at_low (program_of parts pool box) (pos weight)
+        multipliers worth are (all_within parts pool box) in
         let once = times_one worth in
         let cost = ap (λ n. pos weight *ℤ n) same_worth in
-        let rows = below_rows (over at (pos 1)) parts box value (kept_of parts box) multipliers
-        (map at_most_one (range_with_len 0 (length all_columns))) are.signs
+        let rows = below_rows (over at (pos 1)) parts pool box value (kept_of parts pool box)
+        multipliers (map at_most_one (range_with_len 0 (length all_columns))) are.signs
         (ones_low 0 (length all_columns))
-        (λ k d within. same_over (slice_index_or (kept_of parts box) k d)
-        (kept_are parts box k d within)) in
+        (λ k d within. same_over (slice_index_or (kept_of parts pool box) k d)
+        (kept_are parts pool box cuts k d within)) in
         omega (arith, linear, dual, once, cost, rows)
 
-pub promised : (parts : Parts) (box : Box) → IsScenario parts → IsBoxOf parts box
-    → IsTight parts box → IsBelowLeaf parts box (program_of parts box) (kept_of parts box)
-promised parts box scenario made tight weight multipliers worth are value chosen =
-    kept_promise parts scenario box made tight value chosen weight multipliers worth are
+pub promised : (parts : Parts) (pool : List CutName) (box : Box) → IsScenario parts
+    → IsPoolOf parts pool → IsBoxOf parts box → IsTight parts box
+    → IsBelowLeaf parts pool box (program_of parts pool box) (kept_of parts pool box)
+promised parts pool box scenario cuts made tight weight multipliers worth are value chosen =
+    kept_promise parts pool scenario cuts box made tight value chosen weight multipliers worth
+    are

@@ -17,10 +17,12 @@ use Rattle.scaled_simplex.specs.Program.{Constraint, IsConstraint, Problem, colu
 use Rattle.time_windows.specs.Boxes.{Box}
 use Rattle.bytime_model.specs.declared.names.RowName.{RowName}
 use Rattle.bytime_model.specs.declared.variables.Var.{Var}
-use Rattle.bytime_model.specs.Rows.{AtMost, is_row, row_of, row_terms}
-use Rattle.bytime_model.proofs.RowLaws.{row_few, row_limit_small, row_there}
+use Rattle.bytime_model.specs.Rows.{AtMost}
 use Rattle.bytime_model.specs.Columns.{IsThere}
-use Rattle.valid_cuts.proofs.RowGrowFacts.{row_small}
+use Rattle.cut_rows.specs.declared.names.CutName.{CutName}
+use Rattle.cut_rows.specs.Pools.{is_row_with, row_with}
+use Rattle.cut_rows.proofs.PoolRows.{few_with, limit_with, there_with}
+use Rattle.dual_sums.proofs.RowGrowFacts.{row_small}
 use Rattle.presolve.specs.Gathering.{Gathered, IsLanded, most_factor, most_gathered, size_of}
 use Rattle.presolve.specs.Landed.{coefficient_of, entries_from, fixed_of}
 use Rattle.presolve.specs.Listing.{AddsRow, AddsRows, IsLandedRow, kept_among, kept_if, most_size, with_rows}
@@ -34,39 +36,42 @@ abs_less : (a b : ℤ) → unsigned_abs (a -ℤ b) ≤ unsigned_abs a + unsigned
 abs_less a b = omega (arith, ints)
 
 -- what landing asks of a row's terms
-module _ (parts : Parts) (name : RowName) (row : AtMost) (is : row ≡ row_of parts name) where
-  pub row_there_at : IsScenario parts → is_row parts name ≡ true
+module _ (parts : Parts) (pool : List CutName) (name : RowName) (row : AtMost)
+    (is : row ≡ row_with parts pool name) where
+  pub row_there_at : IsScenario parts → is_row_with parts pool name ≡ true
       → All (λ term. IsThere parts.flights term.variable) row.terms
   row_there_at scenario told =
       subst (λ (r : AtMost). All (λ term. IsThere parts.flights term.variable) r.terms) (sym is)
-      (row_there parts scenario name told)
+      (there_with parts pool name scenario told)
 
   pub factors_small : All (λ term. unsigned_abs term.factor ≤ most_factor) row.terms
   factors_small =
       subst (λ (r : AtMost). All (λ term. unsigned_abs term.factor ≤ most_factor) r.terms) (sym is)
-      (λ k d within. let one = row_small parts name k d within in omega (arith, one))
+      (λ k d within. let one = row_small parts pool name k d within in omega (arith, one))
 
-  pub few_landed : IsScenario parts → length row.terms ≤ most_gathered
-  few_landed scenario =
-      let few = row_few parts name scenario in
+  pub few_landed : IsScenario parts → is_row_with parts pool name ≡ true
+      → length row.terms ≤ most_gathered
+  few_landed scenario told =
+      let few = few_with parts pool name scenario told in
       let same = ap (λ (r : AtMost). length r.terms) is in
       omega (arith, few, same)
 
   pub limit_near : (box : Box) (gathered : Gathered) → IsScenario parts
-      → IsLanded parts box row.terms gathered
+      → is_row_with parts pool name ≡ true → IsLanded parts box row.terms gathered
       → unsigned_abs row.limit + unsigned_abs gathered.fixed < 2 ^ 62
-  limit_near box gathered scenario landed =
-      let most = row_limit_small parts name scenario in
+  limit_near box gathered scenario told landed =
+      let most = limit_with parts pool name scenario in
       let same = ap (λ (r : AtMost). unsigned_abs r.limit) is in
       let size = landed.size in
-      let few = row_few parts name scenario in
+      let few = few_with parts pool name scenario told in
       let terms = ap (λ (r : AtMost). length r.terms) is in
       omega (arith, most, same, size, few, terms)
 
   pub landed : (box : Box) (gathered : Gathered) (limit : ℤ) → IsScenario parts
-      → IsLanded parts box row.terms gathered → limit ≡ row.limit -ℤ gathered.fixed
-      → IsLandedRow parts box name gathered.entries limit
-  landed box gathered limit scenario lands less = record {
+      → is_row_with parts pool name ≡ true → IsLanded parts box row.terms gathered
+      → limit ≡ row.limit -ℤ gathered.fixed
+      → IsLandedRow parts pool box name gathered.entries limit
+  landed box gathered limit scenario told lands less = record {
     terms = lands.entries
         ∙ ap (λ (r : AtMost). entries_from (coefficient_of parts box r.terms) 0
         (columns_of parts box)) is;
@@ -74,14 +79,14 @@ module _ (parts : Parts) (name : RowName) (row : AtMost) (is : row ≡ row_of pa
         ∙ ap (λ (r : AtMost). r.limit -ℤ fixed_of parts box r.terms) is;
     size =
         let size = lands.size in
-        let few = row_few parts name scenario in
+        let few = few_with parts pool name scenario told in
         let terms = ap (λ (r : AtMost). length r.terms) is in
         omega (arith, size, few, terms);
     near =
         let size = lands.size in
-        let few = row_few parts name scenario in
+        let few = few_with parts pool name scenario told in
         let terms = ap (λ (r : AtMost). length r.terms) is in
-        let most = row_limit_small parts name scenario in
+        let most = limit_with parts pool name scenario in
         let same = ap (λ (r : AtMost). unsigned_abs r.limit) is in
         let both = abs_less row.limit gathered.fixed in
         let now = ap unsigned_abs less in
@@ -154,19 +159,20 @@ row_made factor columns entries are small = record {
   near = λ k d below. let one = item_size entries k d below in omega (arith, one, small);
 }
 
-pub landed_row_is : (parts : Parts) (box : Box) (name : RowName) (entries : List Entry)
-    (limit : ℤ) → IsLandedRow parts box name entries limit → IsRow entries
-landed_row_is parts box name entries limit row =
-    row_made (coefficient_of parts box (row_terms parts name)) (columns_of parts box) entries
-    row.terms (let size = row.size in omega (arith, size))
+pub landed_row_is : (parts : Parts) (pool : List CutName) (box : Box) (name : RowName)
+    (entries : List Entry) (limit : ℤ) → IsLandedRow parts pool box name entries limit
+    → IsRow entries
+landed_row_is parts pool box name entries limit row =
+    row_made (coefficient_of parts box (row_with parts pool name).terms) (columns_of parts box)
+    entries row.terms (let size = row.size in omega (arith, size))
 
-pub landed_within : (parts : Parts) (box : Box) (name : RowName) (entries : List Entry)
-    (limit : ℤ) (count : ℕ) → IsLandedRow parts box name entries limit
+pub landed_within : (parts : Parts) (pool : List CutName) (box : Box) (name : RowName)
+    (entries : List Entry) (limit : ℤ) (count : ℕ) → IsLandedRow parts pool box name entries limit
     → count ≡ length (columns_of parts box) → All (λ entry. entry.column < count) entries
-landed_within parts box name entries limit count row same =
+landed_within parts pool box name entries limit count row same =
     subst (λ list. All (λ (entry : Entry). entry.column < count) list) (sym row.terms)
-    (entries_within (coefficient_of parts box (row_terms parts name)) (columns_of parts box) 0 count
-    (omega (arith, same)))
+    (entries_within (coefficient_of parts box (row_with parts pool name).terms)
+    (columns_of parts box) 0 count (omega (arith, same)))
 
 -- a row with flipped columns is one
 abs_neg : (z : ℤ) → unsigned_abs (neg_ℤ z) ≡ unsigned_abs z
@@ -251,28 +257,28 @@ entries_small entries size k d below =
     let one = item_size entries k d below in omega (arith, one, size)
 
 -- a row more, or none
-module _ (parts : Parts) (box : Box) (name : RowName) where
-  told_by : (entries : List Entry) (limit : ℤ) → IsLandedRow parts box name entries limit
-      → int_lt limit (greatest entries) ≡ may_exceed (row_in parts box name)
+module _ (parts : Parts) (pool : List CutName) (box : Box) (name : RowName) where
+  told_by : (entries : List Entry) (limit : ℤ) → IsLandedRow parts pool box name entries limit
+      → int_lt limit (greatest entries) ≡ may_exceed (row_in parts pool box name)
   told_by entries limit row =
       ap (λ n. int_lt n (greatest entries)) row.limit
-      ∙ ap (λ list. int_lt (row_in parts box name).limit (greatest list)) row.terms
+      ∙ ap (λ list. int_lt (row_in parts pool box name).limit (greatest list)) row.terms
 
-  pub kept_one : (entries : List Entry) (limit : ℤ) → IsLandedRow parts box name entries limit
-      → int_lt limit (greatest entries) ≡ true → kept_if parts box name ≡ name ∷ []
+  pub kept_one : (entries : List Entry) (limit : ℤ) → IsLandedRow parts pool box name entries limit
+      → int_lt limit (greatest entries) ≡ true → kept_if parts pool box name ≡ name ∷ []
   kept_one entries limit row exceeds =
       ap (λ b. if b then name ∷ [] else []) (sym (told_by entries limit row) ∙ exceeds)
 
-  pub kept_none : (entries : List Entry) (limit : ℤ) → IsLandedRow parts box name entries limit
-      → int_lt limit (greatest entries) ≡ false → kept_if parts box name ≡ []
+  pub kept_none : (entries : List Entry) (limit : ℤ) → IsLandedRow parts pool box name entries limit
+      → int_lt limit (greatest entries) ≡ false → kept_if parts pool box name ≡ []
   kept_none entries limit row below =
       ap (λ b. if b then name ∷ [] else []) (sym (told_by entries limit row) ∙ below)
 
   pub adds_kept : (entries : List Entry) (limit : ℤ) (flips : List Bool) (old new : Problem)
-      (before after : List RowName) → IsLandedRow parts box name entries limit
+      (before after : List RowName) → IsLandedRow parts pool box name entries limit
       → int_lt limit (greatest entries) ≡ true → flips ≡ flipped_of parts box
       → new ≡ with_rows old (flipped_row flips (record { terms = entries; limit = limit }) ∷ [])
-      → after ≡ before ++ name ∷ [] → AddsRow parts box name old new before after
+      → after ≡ before ++ name ∷ [] → AddsRow parts pool box name old new before after
   adds_kept entries limit flips old new before after row exceeds are added named =
       let one = kept_one entries limit row exceeds in
       record {
@@ -282,19 +288,19 @@ module _ (parts : Parts) (box : Box) (name : RowName) where
             ∙ ap (λ list. with_rows old (flipped_row (flipped_of parts box)
             (record { terms = list; limit = limit }) ∷ [])) row.terms
             ∙ ap (λ n. with_rows old (flipped_row (flipped_of parts box)
-            (record { terms = (row_in parts box name).terms; limit = n }) ∷ [])) row.limit
-            ∙ ap (λ names. with_rows old (map (kept_row parts box) names)) (sym one);
+            (record { terms = (row_in parts pool box name).terms; limit = n }) ∷ [])) row.limit
+            ∙ ap (λ names. with_rows old (map (kept_row parts pool box) names)) (sym one);
         kept = named ∙ ap (λ names. before ++ names) (sym one);
       }
 
   pub adds_none : (entries : List Entry) (limit : ℤ) (problem : Problem) (names : List RowName)
-      → IsLandedRow parts box name entries limit → int_lt limit (greatest entries) ≡ false
-      → AddsRow parts box name problem problem names names
+      → IsLandedRow parts pool box name entries limit → int_lt limit (greatest entries) ≡ false
+      → AddsRow parts pool box name problem problem names names
   adds_none entries limit problem names row below =
       let none = kept_none entries limit row below in
       record {
         program = sym (ap (λ (rows : List Constraint). with_rows problem rows)
-            (ap (map (kept_row parts box)) none) ∙ no_rows problem);
+            (ap (map (kept_row parts pool box)) none) ∙ no_rows problem);
         kept = sym (ap (λ more. names ++ more) none ∙ append-nil names);
       }
     where
@@ -306,9 +312,9 @@ module _ (parts : Parts) (box : Box) (name : RowName) where
       }) (append-nil p.constraints)
 
 -- the rows of the first so many names
-module _ (parts : Parts) (box : Box) where
+module _ (parts : Parts) (pool : List CutName) (box : Box) where
   pub rows_none : (problem : Problem) (names : List RowName)
-      → AddsRows parts box [] problem problem names names
+      → AddsRows parts pool box [] problem problem names names
   rows_none problem names = record {
     program = sym (ap (λ rows. record {
       costs = problem.costs;
@@ -319,74 +325,76 @@ module _ (parts : Parts) (box : Box) where
   }
 
   kept_more : (names : List RowName) (i : ℕ) (d : RowName) → i < length names
-      → kept_among parts box (take (i + 1) names)
-      ≡ kept_among parts box (take i names) ++ kept_if parts box (get_or names i d)
+      → kept_among parts pool box (take (i + 1) names)
+      ≡ kept_among parts pool box (take i names) ++ kept_if parts pool box (get_or names i d)
   kept_more names i d within =
-      filter_more (λ name. may_exceed (row_in parts box name)) names i d within
+      filter_more (λ name. may_exceed (row_in parts pool box name)) names i d within
 
   pub rows_more : (names : List RowName) (i : ℕ) (d : RowName) (first old new : Problem)
       (start before after : List RowName) → i < length names
-      → AddsRows parts box (take i names) first old start before
-      → AddsRow parts box (get_or names i d) old new before after
-      → AddsRows parts box (take (i + 1) names) first new start after
+      → AddsRows parts pool box (take i names) first old start before
+      → AddsRow parts pool box (get_or names i d) old new before after
+      → AddsRows parts pool box (take (i + 1) names) first new start after
   rows_more names i d first old new start before after within rows one = record {
     program = one.program
-        ∙ ap (λ (p : Problem). with_rows p (map (kept_row parts box) more)) rows.program
+        ∙ ap (λ (p : Problem). with_rows p (map (kept_row parts pool box) more)) rows.program
         ∙ ap (λ list. record {
           costs = first.costs;
           constant = first.constant;
           constraints = list;
-        }) (append_assoc first.constraints (map (kept_row parts box) some)
-        (map (kept_row parts box) more)
-        ∙ ap (λ list. first.constraints ++ list) (sym (map-append (kept_row parts box) some more))
-        ∙ ap (λ list. first.constraints ++ map (kept_row parts box) list)
+        }) (append_assoc first.constraints (map (kept_row parts pool box) some)
+        (map (kept_row parts pool box) more)
+        ∙ ap (λ list. first.constraints ++ list)
+        (sym (map-append (kept_row parts pool box) some more))
+        ∙ ap (λ list. first.constraints ++ map (kept_row parts pool box) list)
         (sym (kept_more names i d within)));
     kept = one.kept ∙ ap (λ list. list ++ more) rows.kept ∙ append_assoc start some more
         ∙ ap (λ list. start ++ list) (sym (kept_more names i d within));
   }
     where
       some : List RowName
-      some = kept_among parts box (take i names)
+      some = kept_among parts pool box (take i names)
 
       more : List RowName
-      more = kept_if parts box (get_or names i d)
+      more = kept_if parts pool box (get_or names i d)
 
-  if_few : (name : RowName) → length (kept_if parts box name) ≤ 1
-  if_few name = by (may_exceed (row_in parts box name))
+  if_few : (name : RowName) → length (kept_if parts pool box name) ≤ 1
+  if_few name = by (may_exceed (row_in parts pool box name))
     where
       by : (b : Bool) → length (if b then name ∷ [] else []) ≤ 1
       by true = omega arith
       by false = omega arith
 
-  pub kept_few : (names : List RowName) → length (kept_among parts box names) ≤ length names
+  pub kept_few : (names : List RowName) → length (kept_among parts pool box names) ≤ length names
   kept_few [] = omega arith
-  kept_few (name ∷ names) = by (may_exceed (row_in parts box name)) (kept_few names)
+  kept_few (name ∷ names) = by (may_exceed (row_in parts pool box name)) (kept_few names)
     where
-      by : (b : Bool) → length (kept_among parts box names) ≤ length names
-          → length (if b then name ∷ kept_among parts box names else kept_among parts box names)
-          ≤ suc (length names)
+      by : (b : Bool) → length (kept_among parts pool box names) ≤ length names
+          → length (if b then name ∷ kept_among parts pool box names
+          else kept_among parts pool box names) ≤ suc (length names)
       by true more = omega (arith, more)
       by false more = omega (arith, more)
 
   -- there is room for a row more
   pub rows_room : (names : List RowName) (i : ℕ) (first old : Problem)
       (start before : List RowName) (most : ℕ) → i < length names
-      → AddsRows parts box (take i names) first old start before
+      → AddsRows parts pool box (take i names) first old start before
       → columns first + length first.constraints + length names ≤ most
       → columns old + length old.constraints < most
   rows_room names i first old start before most within rows few =
       let cols = ap columns rows.program in
       let long = ap (λ (p : Problem). length p.constraints) rows.program in
       let sum = length-append first.constraints
-      (map (kept_row parts box) (kept_among parts box (take i names))) in
-      let mapped = length-map (kept_among parts box (take i names)) (kept_row parts box) in
+      (map (kept_row parts pool box) (kept_among parts pool box (take i names))) in
+      let mapped = length-map (kept_among parts pool box (take i names))
+      (kept_row parts pool box) in
       let less = kept_few (take i names) in
       let taken = length-take-le i names (omega (arith, within)) in
       omega (arith, cols, long, sum, mapped, less, taken, few, within)
 
   pub rows_columns : (names : List RowName) (i : ℕ) (first old : Problem)
       (start before : List RowName) (count : ℕ)
-      → AddsRows parts box (take i names) first old start before → columns first ≡ count
+      → AddsRows parts pool box (take i names) first old start before → columns first ≡ count
       → columns old ≡ count
   rows_columns names i first old start before count rows same = ap columns rows.program ∙ same
 
@@ -451,6 +459,8 @@ pub ones_within : (count all : ℕ) (first old : Problem) → AreOnes count firs
 ones_within count all first old ones less same =
     let cols = ap columns ones.are in omega (arith, cols, less, same)
 
-pub greatest_room : (parts : Parts) (box : Box) (name : RowName) (entries : List Entry)
-    (limit : ℤ) → IsLandedRow parts box name entries limit → size_of entries < 2 ^ 62
-greatest_room parts box name entries limit row = let size = row.size in omega (arith, size)
+pub greatest_room : (parts : Parts) (pool : List CutName) (box : Box) (name : RowName)
+    (entries : List Entry) (limit : ℤ) → IsLandedRow parts pool box name entries limit
+    → size_of entries < 2 ^ 62
+greatest_room parts pool box name entries limit row =
+    let size = row.size in omega (arith, size)

@@ -1,6 +1,6 @@
 -- The program of a narrow box of the day of two flights: each departs in one of two periods and
 -- arrives in one of two. And a point of it, at which each departs half by the first period.
-use Rattle.std.proofs.Common.{◌≡◌, ℕ, ◌+◌, ◌==◌, ◌≤◌, Bool, true, false, not, nat_le, nat_lt, Option, None, Some, [], ◌∷◌, length, slice_get, slice_index_or, int_lt, if◌then◌else◌, ℤ, pos, neg_ℤ, ◌*ℤ◌, ◌≤ℤ◌, refl, sym, ap, ◌∙◌, arith}
+use Rattle.std.proofs.Common.{◌≡◌, ℕ, ◌+◌, ◌==◌, ◌≤◌, Bool, true, false, not, nat_le, nat_lt, Option, None, Some, List, [], ◌∷◌, length, slice_get, slice_index_or, int_lt, if◌then◌else◌, ℤ, pos, neg_ℤ, ◌*ℤ◌, ◌≤ℤ◌, refl, sym, ap, ◌∙◌, arith}
 use Rattle.std.proofs.lemmas.Bool.Decides.{nat_tests}
 use Rattle.std.proofs.lemmas.List.Sums.{AllPass-from_list_all}
 use Rattle.flow_types.specs.declared.parts.Parts.{Parts}
@@ -12,12 +12,13 @@ use Rattle.time_windows.specs.declared.access.Window.{Window}
 use Rattle.time_windows.specs.Boxes.{Box}
 use Rattle.bytime_model.specs.declared.left.Left.TheVariants.{Free, One, Same, Zero}
 use Rattle.bytime_model.specs.declared.names.RowName.{RowName}
-use Rattle.bytime_model.specs.declared.names.RowName.TheVariants.{Dep, Enter, Leave, Mono, Sector, Top}
+use Rattle.bytime_model.specs.declared.names.RowName.TheVariants.{Cut, Dep, Enter, Leave, Mono, Sector, Top}
 use Rattle.bytime_model.specs.declared.variables.Var.{Var}
 use Rattle.bytime_model.specs.declared.variables.Var.TheVariants.{By, Inside}
-use Rattle.bytime_model.specs.AllRows.{rows_of}
 use Rattle.bytime_model.specs.Left.{by_left, inside_left, left_of, may_stay}
-use Rattle.bytime_model.specs.Rows.{row_of}
+use Rattle.cut_rows.specs.declared.names.CutName.{CutName}
+use Rattle.cut_rows.specs.declared.names.CutName.TheVariants.{Departed}
+use Rattle.cut_rows.specs.Pools.{row_with, rows_with}
 use Rattle.presolve.specs.Leaf.{leaf_rows}
 use Rattle.presolve.specs.Points.{AgreesOver, IsNumerator, IsRelaxationPoint, IsRowKept, form_at, relaxation_cost, value_of_point}
 use Rattle.presolve.specs.Relaxed.{kept_of, kept_row, flipped_of, may_exceed, program_of, row_in}
@@ -26,6 +27,10 @@ use Rattle.worked_days.specs.Days.{two_flights}
 
 abbrev two : Parts
 two = two_flights 1 9 9
+
+-- no cuts
+abbrev none : List CutName
+none = []
 
 abbrev opened : ℕ → ℕ → Bool → Access
 opened lo hi must = record { window = Some (record { lo = lo; hi = hi }); must = must }
@@ -46,15 +51,15 @@ flips : flipped_of two narrow
     ≡ false ∷ false ∷ false ∷ true ∷ false ∷ false ∷ false ∷ true ∷ []
 flips = refl
 
-costs : (program_of two narrow).costs
+costs : (program_of two none narrow).costs
     ≡ pos 1 ∷ pos 0 ∷ pos 0 ∷ pos 2 ∷ pos 1 ∷ pos 0 ∷ pos 0 ∷ pos 2 ∷ []
 costs = refl
 
-constant : (program_of two narrow).constant ≡ neg_ℤ (pos 2)
+constant : (program_of two none narrow).constant ≡ neg_ℤ (pos 2)
 constant = refl
 
 -- at most one departs in the second period: both are open by then, so at least one has left
-departures : kept_row two narrow (Dep 0 1) ≡ record {
+departures : kept_row two none narrow (Dep 0 1) ≡ record {
   terms = record { column = 0; value = neg_ℤ (pos 1) } ∷ record {
     column = 4;
     value = neg_ℤ (pos 1);
@@ -64,7 +69,7 @@ departures : kept_row two narrow (Dep 0 1) ≡ record {
 departures = refl
 
 -- an arrival is flipped, in its factor and in the limit
-arrival : kept_row two narrow (Enter 0 2 2) ≡ record {
+arrival : kept_row two none narrow (Enter 0 2 2) ≡ record {
   terms = record { column = 1; value = neg_ℤ (pos 1) } ∷ record {
     column = 3;
     value = neg_ℤ (pos 1);
@@ -74,17 +79,17 @@ arrival : kept_row two narrow (Enter 0 2 2) ≡ record {
 arrival = refl
 
 -- what is the same as a column by now counts there
-merged : kept_row two narrow (Enter 0 2 5) ≡ record {
+merged : kept_row two none narrow (Enter 0 2 5) ≡ record {
   terms = record { column = 2; value = neg_ℤ (pos 1) } ∷ [];
   limit = neg_ℤ (pos 1);
 }
 merged = refl
 
 -- a node that must be entered is entered once at the most, and nine have room
-never : may_exceed (row_in two narrow (Top 0 0)) ≡ false
+never : may_exceed (row_in two none narrow (Top 0 0)) ≡ false
 never = refl
 
-room : may_exceed (row_in two narrow (Sector 2 3)) ≡ false
+room : may_exceed (row_in two none narrow (Sector 2 3)) ≡ false
 room = refl
 
 -- a multiplier of 0 has no place in a leaf, nor has one past the names
@@ -93,15 +98,34 @@ leaf : leaf_rows (Dep 0 1 ∷ Leave 0 0 ∷ []) (pos 3 ∷ pos 0 ∷ pos 5 ∷ [
 leaf = refl
 
 -- of 124 rows 20 are kept; after them stand those of the columns
-kept : kept_of two narrow
+kept : kept_of two none narrow
     ≡ Mono 0 1 1 ∷ Mono 1 1 1 ∷ Dep 0 0 ∷ Dep 0 1 ∷ Enter 0 1 0 ∷ Enter 0 2 2 ∷ Enter 0 2 3
     ∷ Enter 0 2 4 ∷ Enter 0 2 5 ∷ Enter 0 2 6 ∷ Enter 0 2 7 ∷ Enter 1 1 0 ∷ Enter 1 2 2
     ∷ Enter 1 2 3 ∷ Enter 1 2 4 ∷ Enter 1 2 5 ∷ Enter 1 2 6 ∷ Enter 1 2 7 ∷ Leave 0 0
     ∷ Leave 1 0 ∷ []
 kept = refl
 
-rows : length (program_of two narrow).constraints ≡ 28
+rows : length (program_of two none narrow).constraints ≡ 28
 rows = refl
+
+-- with a cut there is a row more, behind those of the day: who arrives first has departed first
+abbrev pool : List CutName
+pool = Departed 0 2 2 ∷ []
+
+cut : kept_row two pool narrow (Cut 0) ≡ record {
+  terms = record { column = 0; value = neg_ℤ (pos 1) } ∷ record {
+    column = 3;
+    value = neg_ℤ (pos 1);
+  } ∷ [];
+  limit = neg_ℤ (pos 1);
+}
+cut = refl
+
+last_kept : slice_get (kept_of two pool narrow) 20 ≡ Some (Cut 0)
+last_kept = refl
+
+more_rows : length (program_of two pool narrow).constraints ≡ 29
+more_rows = refl
 
 -- numerators over 2 of the columns: the arrivals are flipped
 abbrev halves : ℕ → ℤ
@@ -123,7 +147,8 @@ spread (Inside flight node time) = pos 0
 
 abbrev keeps : RowName → Bool
 keeps name =
-    not (int_lt ((row_of two name).limit *ℤ pos 2) (form_at spread (row_of two name).terms))
+    not (int_lt ((row_with two none name).limit *ℤ pos 2)
+    (form_at spread (row_with two none name).terms))
 
 not_less : (a b : ℤ) → not (int_lt a b) ≡ true → b ≤ℤ a
 not_less a b is = less_isnt a b (by (int_lt a b) is)
@@ -132,14 +157,14 @@ not_less a b is = less_isnt a b (by (int_lt a b) is)
     by true is = absurd (let e : ⊥ = cc in e)
     by false is = refl
 
-program_point : IsProgramPoint (program_of two narrow) halves (pos 2)
+program_point : IsProgramPoint (program_of two none narrow) halves (pos 2)
 program_point = record {
   positive = omega (arith, linear);
   least = λ k within. omega (arith, linear);
   kept = λ k d within.
-      let constraint = slice_index_or (program_of two narrow).constraints k d in
+      let constraint = slice_index_or (program_of two none narrow).constraints k d in
       not_less (constraint.limit *ℤ pos 2) (terms_at constraint.terms halves)
-      (AllPass-from_list_all holds (program_of two narrow).constraints refl k d within);
+      (AllPass-from_list_all holds (program_of two none narrow).constraints refl k d within);
 }
 
 risen_within : (first time : ℕ) → IsNumerator (pos 2) (risen first time)
@@ -229,15 +254,15 @@ spread_agrees (Inside f n t) =
         at false true = tt
         at false false = refl
 
-relaxation_point : IsRelaxationPoint two narrow spread (pos 2)
+relaxation_point : IsRelaxationPoint two none narrow spread (pos 2)
 relaxation_point = record {
   positive = omega (arith, linear);
   within = λ variable free. spread_within variable;
   agree = spread_agrees;
   kept = λ k d within.
-      let row = row_of two (slice_index_or (rows_of two) k d) in
+      let row = row_with two none (slice_index_or (rows_with two none) k d) in
       not_less (row.limit *ℤ pos 2) (form_at spread row.terms)
-      (AllPass-from_list_all keeps (rows_of two) refl k d within);
+      (AllPass-from_list_all keeps (rows_with two none) refl k d within);
 }
 
 -- it is what the columns make, and costs 1 by both
@@ -253,12 +278,12 @@ early = refl
 later : value_of_point two narrow halves (pos 2) (By 1 1 6) ≡ spread (By 1 1 6)
 later = refl
 
-cost_by_columns : point_cost (program_of two narrow) halves (pos 2) ≡ pos 2
+cost_by_columns : point_cost (program_of two none narrow) halves (pos 2) ≡ pos 2
 cost_by_columns = refl
 
 cost_by_variables : relaxation_cost two spread (pos 2) ≡ pos 2
 cost_by_variables = refl
 
 -- both can't depart at once
-crowded : IsRowKept (λ variable. pos 2) (pos 2) (row_of two (Dep 0 0)) → ⊥
+crowded : IsRowKept (λ variable. pos 2) (pos 2) (row_with two none (Dep 0 0)) → ⊥
 crowded kept = let e : pos 4 ≤ℤ pos 2 = kept in omega (arith, linear, e)

@@ -1,9 +1,10 @@
 -- Counting the entries of the program's first tableau, as far as there is room for them.
-use Rattle.std.specs.Prelude.{◌≡◌, ℕ, ◌+◌, ◌*◌, ◌<◌, ◌≤◌, length, sum_by, Option, None, Some, if◌then◌else◌}
+use Rattle.std.specs.Prelude.{◌≡◌, ℕ, ◌+◌, ◌*◌, ◌<◌, ◌≤◌, List, length, sum_by, Option, None, Some, if◌then◌else◌}
 use Rattle.std.specs.List.{range_with_len}
 use Rattle.flow_types.specs.declared.parts.Parts.{Parts}
 use Rattle.time_windows.specs.Boxes.{Box}
 use Rattle.bytime_model.specs.declared.names.RowName.{RowName}
+use Rattle.cut_rows.specs.declared.names.CutName.{CutName}
 use Rattle.presolve.specs.declared.tally.Refused.{Refused}
 use Rattle.presolve.specs.declared.tally.Refused.TheVariants as refused
 use Rattle.presolve.specs.declared.tally.Tally.{Tally}
@@ -34,6 +35,7 @@ column_entries parts box =
     sum_by (flight_entries parts box) (range_with_len 0 (length parts.flights))
 
 -- a row that values of the columns may exceed has its terms, and what is left of the limit
-abbrev pub row_entries : Parts → Box → RowName → ℕ
-row_entries parts box name =
-    if may_exceed (row_in parts box name) then length (row_in parts box name).terms + 1 else 0
+abbrev pub row_entries : Parts → List CutName → Box → RowName → ℕ
+row_entries parts pool box name =
+    if may_exceed (row_in parts pool box name) then length (row_in parts pool box name).terms + 1
+    else 0

@@ -8,7 +8,8 @@ use Rattle.time_windows.specs.Boxes.{Box}
 use Rattle.bytime_model.specs.declared.names.RowName.{RowName}
 use Rattle.bytime_model.specs.declared.variables.Var.{Var}
 use Rattle.bytime_model.specs.declared.multiplier.Multiplier.{Multiplier}
-use Rattle.valid_cuts.specs.Dual.{IsChoice, dual_at}
+use Rattle.cut_rows.specs.declared.names.CutName.{CutName}
+use Rattle.dual_sums.specs.Dual.{IsChoice, dual_at}
 
 -- the multipliers of the named rows that aren't 0; those of the rows after them are left out
 abbrev pub unless_never : RowName → ℤ → List Multiplier
@@ -24,9 +25,9 @@ leaf_rows (name ∷ names) (multiplier ∷ multipliers) =
 
 -- Whatever multipliers of the program there are: with its weight and these rows, the Dual leaf
 -- comes to no less than their value, whatever values 0 or 1 the box leaves the variables.
-abbrev pub IsBelowLeaf : Parts → Box → Problem → List RowName → Type 0
-IsBelowLeaf parts box program kept =
+abbrev pub IsBelowLeaf : Parts → List CutName → Box → Problem → List RowName → Type 0
+IsBelowLeaf parts pool box program kept =
     (weight : ℕ) (multipliers : List ℤ) (value : ℤ)
     → AreMultipliers program (pos weight) multipliers value
     → (choice : Var → ℕ) → IsChoice parts.flights box choice
-    → value ≤ℤ dual_at parts weight (leaf_rows kept multipliers) choice
+    → value ≤ℤ dual_at parts pool weight (leaf_rows kept multipliers) choice

@@ -7,7 +7,9 @@ use Rattle.scaled_simplex.specs.Program.{Constraint, Problem}
 use Rattle.time_windows.specs.Boxes.{Box}
 use Rattle.time_windows.specs.Held.{Held, box_of}
 use Rattle.bytime_model.specs.declared.names.RowName.{RowName}
-use Rattle.bytime_model.specs.Visits.{AreVisitsOf}
+use Rattle.cut_rows.specs.declared.names.CutName.{CutName}
+use Rattle.cut_rows.specs.Pools.{IsPoolOf}
+use Rattle.cut_rows.specs.Table.{IsTableFor}
 use Rattle.presolve.specs.declared.frame.Frame.{Frame}
 use Rattle.presolve.specs.declared.rows.ProgramDraft.{ProgramDraft}
 use Rattle.presolve.specs.Counting.{IsCounted, row_entries}
@@ -15,11 +17,12 @@ use Rattle.presolve.specs.Gathering.{IsNumberedFor, size_of}
 use Rattle.presolve.specs.Relaxed.{constant_of, cost_in, flipped_of, kept_row, may_exceed, row_in}
 use Rattle.presolve.specs.Variables.{columns_of}
 
--- What rows are made by: the numbers of the box's columns, the visits, and which columns are
--- flipped.
+-- What rows are made by: the numbers of the box's columns, the table, the pool of cuts, and which
+-- columns are flipped.
 pub record IsFramed (parts : Parts) (held : Held) (frame : Frame) : Type 0 where
   pub numbers : IsNumberedFor parts held frame.numbers
-  pub visits : AreVisitsOf parts frame.visits.now
+  pub table : IsTableFor parts frame.table.now
+  pub cuts : IsPoolOf parts frame.pool.now
   pub flips : frame.flips.items ≡ flipped_of parts (box_of held)
 
 -- how large the factors of a row are together, and how far its limit may be from 0
@@ -27,16 +30,16 @@ abbrev pub most_size : ℕ
 most_size = 2 ^ 52
 
 -- a row that has landed
-pub record IsLandedRow (parts : Parts) (box : Box) (name : RowName) (entries : List Entry)
-    (most : ℤ) : Type 0 where
-  pub terms : entries ≡ (row_in parts box name).terms
-  pub limit : most ≡ (row_in parts box name).limit
+pub record IsLandedRow (parts : Parts) (pool : List CutName) (box : Box) (name : RowName)
+    (entries : List Entry) (most : ℤ) : Type 0 where
+  pub terms : entries ≡ (row_in parts pool box name).terms
+  pub limit : most ≡ (row_in parts pool box name).limit
   pub size : size_of entries ≤ most_size
   pub near : unsigned_abs most ≤ most_size
 
 -- the name, where its row may be exceeded
-abbrev pub kept_if : Parts → Box → RowName → List RowName
-kept_if parts box name = if may_exceed (row_in parts box name) then name ∷ [] else []
+abbrev pub kept_if : Parts → List CutName → Box → RowName → List RowName
+kept_if parts pool box name = if may_exceed (row_in parts pool box name) then name ∷ [] else []
 
 -- a program with more rows
 abbrev pub with_rows : Problem → List Constraint → Problem
@@ -47,25 +50,27 @@ with_rows problem rows = record {
 }
 
 -- at most one row more
-pub record AddsRow (parts : Parts) (box : Box) (name : RowName) (old new : Problem)
-    (before after : List RowName) : Type 0 where
-  pub program : new ≡ with_rows old (map (kept_row parts box) (kept_if parts box name))
-  pub kept : after ≡ before ++ kept_if parts box name
+pub record AddsRow (parts : Parts) (pool : List CutName) (box : Box) (name : RowName)
+    (old new : Problem) (before after : List RowName) : Type 0 where
+  pub program : new ≡ with_rows old (map (kept_row parts pool box) (kept_if parts pool box name))
+  pub kept : after ≡ before ++ kept_if parts pool box name
 
 -- the rows of names
-abbrev pub kept_among : Parts → Box → List RowName → List RowName
-kept_among parts box names = filter (λ name. may_exceed (row_in parts box name)) names
+abbrev pub kept_among : Parts → List CutName → Box → List RowName → List RowName
+kept_among parts pool box names =
+    filter (λ name. may_exceed (row_in parts pool box name)) names
 
-pub record AddsRows (parts : Parts) (box : Box) (names : List RowName) (old new : Problem)
-    (before after : List RowName) : Type 0 where
-  pub program : new ≡ with_rows old (map (kept_row parts box) (kept_among parts box names))
-  pub kept : after ≡ before ++ kept_among parts box names
+pub record AddsRows (parts : Parts) (pool : List CutName) (box : Box) (names : List RowName)
+    (old new : Problem) (before after : List RowName) : Type 0 where
+  pub program : new
+      ≡ with_rows old (map (kept_row parts pool box) (kept_among parts pool box names))
+  pub kept : after ≡ before ++ kept_among parts pool box names
 
 -- the same of a draft, whose entries are counted
-pub record AddsNames (parts : Parts) (box : Box) (names : List RowName) (old new : ProgramDraft)
-    : Type 0 where
-  pub rows : AddsRows parts box names old.program new.program old.kept new.kept
-  pub counted : IsCounted (sum_by (row_entries parts box) names) old.tally new.tally
+pub record AddsNames (parts : Parts) (pool : List CutName) (box : Box) (names : List RowName)
+    (old new : ProgramDraft) : Type 0 where
+  pub rows : AddsRows parts pool box names old.program new.program old.kept new.kept
+  pub counted : IsCounted (sum_by (row_entries parts pool box) names) old.tally new.tally
 
 -- how many columns there may be
 abbrev pub most_columns : ℕ

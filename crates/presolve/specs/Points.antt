@@ -1,6 +1,6 @@
 -- Points of the relaxation on a box: a number from 0 to 1 for each variable of the by-time program
--- that the box leaves free, with which every row is kept. The numbers are numerators over one
--- denominator.
+-- that the box leaves free, with which every row is kept, those of a pool's cuts among them. The
+-- numbers are numerators over one denominator.
 use Rattle.std.specs.Prelude.{◌≡◌, ℕ, Bool, false, List, slice_index_or, All, Option, None, Some, ℤ, pos, ◌+ℤ◌, ◌-ℤ◌, ◌*ℤ◌, ◌≤ℤ◌, ◌<ℤ◌, if◌then◌else◌}
 use Rattle.std.specs.List.{position_from}
 use Rattle.exact_sums.specs.Sums.{total}
@@ -10,10 +10,11 @@ use Rattle.bytime_model.specs.declared.left.Left.{Left}
 use Rattle.bytime_model.specs.declared.left.Left.TheVariants.{Free, One, Same, Zero}
 use Rattle.bytime_model.specs.declared.variables.Term.{Term}
 use Rattle.bytime_model.specs.declared.variables.Var.{Var}
-use Rattle.bytime_model.specs.AllRows.{rows_of}
 use Rattle.bytime_model.specs.CostRow.{cost_row}
 use Rattle.bytime_model.specs.Left.{left_of}
-use Rattle.bytime_model.specs.Rows.{AtMost, row_of}
+use Rattle.bytime_model.specs.Rows.{AtMost}
+use Rattle.cut_rows.specs.declared.names.CutName.{CutName}
+use Rattle.cut_rows.specs.Pools.{row_with, rows_with}
 use Rattle.presolve.specs.Relaxed.{flipped_of}
 use Rattle.presolve.specs.Variables.{columns_of, is_same}
 
@@ -36,14 +37,15 @@ form_at value terms = total (λ term. term.factor *ℤ value term.variable) term
 abbrev pub IsRowKept : (Var → ℤ) → ℤ → AtMost → Type 0
 IsRowKept value denominator row = form_at value row.terms ≤ℤ (row.limit *ℤ denominator)
 
-pub record IsRelaxationPoint (parts : Parts) (box : Box) (value : Var → ℤ) (denominator : ℤ)
-    : Type 0 where
+pub record IsRelaxationPoint (parts : Parts) (pool : List CutName) (box : Box) (value : Var → ℤ)
+    (denominator : ℤ) : Type 0 where
   pub positive : pos 0 <ℤ denominator
   pub within : (variable : Var) → left_of parts.flights box variable ≡ Free
       → IsNumerator denominator (value variable)
   pub agree : (variable : Var)
       → AgreesOver denominator value variable (left_of parts.flights box variable)
-  pub kept : All (λ name. IsRowKept value denominator (row_of parts name)) (rows_of parts)
+  pub kept : All (λ name. IsRowKept value denominator (row_with parts pool name))
+      (rows_with parts pool)
 
 -- what it costs by the cost row, times the denominator
 abbrev pub relaxation_cost : Parts → (Var → ℤ) → ℤ → ℤ

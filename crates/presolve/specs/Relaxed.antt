@@ -1,6 +1,7 @@
--- The linear program of a box: the relaxation of the by-time program over the columns of the box. A
--- column stands for its variable, or for 1 less the variable where that one's cost is negative: it
--- is flipped. So no cost is negative, and each column is from 0 to 1.
+-- The linear program of a box: the relaxation of the by-time program, with the rows of a pool of
+-- cuts, over the columns of the box. A column stands for its variable, or for 1 less the variable
+-- where that one's cost is negative: it is flipped. So no cost is negative, and each column is from
+-- 0 to 1.
 use Rattle.std.specs.Prelude.{ℕ, Bool, false, List, [], ◌∷◌, ◌++◌, length, map, slice_index_or, ℤ, pos, neg_ℤ, ◌+ℤ◌, ◌-ℤ◌, int_lt, unsigned_abs, if◌then◌else◌}
 use Rattle.std.specs.Int.{int_max, int_min}
 use Rattle.std.specs.List.{filter, range_with_len}
@@ -11,9 +12,10 @@ use Rattle.scaled_simplex.specs.Program.{Constraint, Problem}
 use Rattle.time_windows.specs.Boxes.{Box}
 use Rattle.bytime_model.specs.declared.names.RowName.{RowName}
 use Rattle.bytime_model.specs.declared.variables.Var.{Var}
-use Rattle.bytime_model.specs.AllRows.{rows_of}
 use Rattle.bytime_model.specs.CostRow.{cost_row}
-use Rattle.bytime_model.specs.Rows.{AtMost, row_of}
+use Rattle.bytime_model.specs.Rows.{AtMost}
+use Rattle.cut_rows.specs.declared.names.CutName.{CutName}
+use Rattle.cut_rows.specs.Pools.{row_with, rows_with}
 use Rattle.presolve.specs.Landed.{coefficient_of, entries_from, fixed_of}
 use Rattle.presolve.specs.Variables.{columns_of}
 
@@ -62,14 +64,16 @@ flipped_row flips row = record {
 }
 
 -- the rows that values of the columns may exceed, by their names
-abbrev pub row_in : Parts → Box → RowName → Constraint
-row_in parts box name = landed_row parts box (row_of parts name)
+abbrev pub row_in : Parts → List CutName → Box → RowName → Constraint
+row_in parts pool box name = landed_row parts box (row_with parts pool name)
 
-abbrev pub kept_of : Parts → Box → List RowName
-kept_of parts box = filter (λ name. may_exceed (row_in parts box name)) (rows_of parts)
+abbrev pub kept_of : Parts → List CutName → Box → List RowName
+kept_of parts pool box =
+    filter (λ name. may_exceed (row_in parts pool box name)) (rows_with parts pool)
 
-abbrev pub kept_row : Parts → Box → RowName → Constraint
-kept_row parts box name = flipped_row (flipped_of parts box) (row_in parts box name)
+abbrev pub kept_row : Parts → List CutName → Box → RowName → Constraint
+kept_row parts pool box name =
+    flipped_row (flipped_of parts box) (row_in parts pool box name)
 
 -- a column is at most 1
 abbrev pub at_most_one : ℕ → Constraint
@@ -84,10 +88,10 @@ constant_of parts box =
     ((cost_row parts).constant +ℤ fixed_of parts box (cost_row parts).terms)
     +ℤ total (λ column. int_min (pos 0) (cost_in parts box column)) (columns_of parts box)
 
-abbrev pub program_of : Parts → Box → Problem
-program_of parts box = record {
+abbrev pub program_of : Parts → List CutName → Box → Problem
+program_of parts pool box = record {
   costs = map (λ column. pos (unsigned_abs (cost_in parts box column))) (columns_of parts box);
   constant = constant_of parts box;
-  constraints = map (kept_row parts box) (kept_of parts box)
+  constraints = map (kept_row parts pool box) (kept_of parts pool box)
       ++ map at_most_one (range_with_len 0 (length (columns_of parts box)));
 }

@@ -2,15 +2,17 @@
 
 use crate::gather::Gathering;
 use crate::numbers::Numbers;
-use bytime_model::{RowBuffer, Visits};
+use bytime_model::RowBuffer;
+use cut_rows::{Pool, Table};
 use flow_types::OutOfMemory;
 use std::alloc::Global;
 
-/// The numbers of the columns, the visits to each place, and which columns are flipped.
+/// The numbers of the columns, the table, the pool of cuts, and which columns are flipped.
 #[derive(Drop)]
 pub struct Frame<'a> {
     pub numbers: Numbers<'a>,
-    pub visits: &'a Visits,
+    pub table: &'a Table,
+    pub pool: &'a Pool,
     pub flips: Vec<bool>,
 }
 

@@ -1,6 +1,7 @@
-//! The rows of all names, kind by kind, and part by part.
+//! The rows of all names: those of the day, kind by kind and part by part, and those of the cuts.
 ghost use Rattle.std.specs.Prelude.{◌≡◌, ◌≤◌, ◌+◌, IfErr, OnOk, length, sum_by};
-ghost use Rattle.bytime_model.specs.AllRows.{kind_rows, kinds_rows, rows_of};
+ghost use Rattle.bytime_model.specs.AllRows.{kind_rows, kinds_rows};
+ghost use Rattle.cut_rows.specs.Pools.{cut_names, rows_with};
 ghost use Rattle.flow_types.specs.Scenario.{parts_of};
 ghost use Rattle.presolve.specs.Counting.{IfWide, IsPast, row_entries};
 ghost use Rattle.presolve.specs.Listing.{AddsNames, IsFramed};
@@ -12,6 +13,7 @@ use crate::frame::{Frame, Room};
 use crate::rows::{ProgramDraft, add_rows};
 use crate::tally::Refused;
 use bytime_model::{RowKind, part_count, part_rows, row_kinds};
+use cut_rows::cut_names;
 use flow_types::Scenario;
 use std::alloc::Global;
 use time_windows::Boxes;
@@ -33,10 +35,11 @@ fn add_kind(
         ≡ length (columns_of (parts_of s.now) (box_of boxes.now)) }
     requires few { columns draft.old.program + length draft.old.program.constraints
         + length (kind_rows (parts_of s.now) kind) ≤ most_indices }
-    ensures adds { OnOk result (AddsNames (parts_of s.now) (box_of boxes.now)
+    ensures adds { OnOk result (AddsNames (parts_of s.now) frame.now.pool.now (box_of boxes.now)
         (kind_rows (parts_of s.now) kind) draft.old draft.new) }
     ensures wide { IfErr result (λ refused. IfWide refused (IsPast draft.old.tally.cells
-        (draft.old.tally.entries + sum_by (row_entries (parts_of s.now) (box_of boxes.now))
+        (draft.old.tally.entries
+        + sum_by (row_entries (parts_of s.now) frame.now.pool.now (box_of boxes.now))
         (kind_rows (parts_of s.now) kind)))) }
 {
     for position in 0..part_count(s, kind) {
@@ -62,10 +65,11 @@ fn add_kinds(
         ≡ length (columns_of (parts_of s.now) (box_of boxes.now)) }
     requires few { columns draft.old.program + length draft.old.program.constraints
         + length (kinds_rows (parts_of s.now) kinds.now) ≤ most_indices }
-    ensures adds { OnOk result (AddsNames (parts_of s.now) (box_of boxes.now)
+    ensures adds { OnOk result (AddsNames (parts_of s.now) frame.now.pool.now (box_of boxes.now)
         (kinds_rows (parts_of s.now) kinds.now) draft.old draft.new) }
     ensures wide { IfErr result (λ refused. IfWide refused (IsPast draft.old.tally.cells
-        (draft.old.tally.entries + sum_by (row_entries (parts_of s.now) (box_of boxes.now))
+        (draft.old.tally.entries
+        + sum_by (row_entries (parts_of s.now) frame.now.pool.now (box_of boxes.now))
         (kinds_rows (parts_of s.now) kinds.now)))) }
 {
     for kind in kinds {
@@ -74,10 +78,37 @@ fn add_kinds(
     Ok(())
 }
 
-/// Adds the rows of the day that values of the columns may exceed. While it runs it takes a `Room`,
-/// and 12 bytes for each name of one flight and kind, one place or one connection at a time, or up
-/// to twice that.
-pub fn add_all_kinds(
+// Adds those of the cuts of the pool.
+#[tactic(auto, using(crate::proofs::PoolFacts::cuts_few, crate::proofs::PoolFacts::names_there))]
+fn add_cuts(
+    draft: &mut ProgramDraft,
+    alloc: Global,
+    room: &mut Room,
+    frame: &Frame<'_>,
+    s: &Scenario,
+    boxes: &Boxes,
+) -> Result<(), Refused>
+    requires framed { IsFramed (parts_of s.now) boxes.now frame.now }
+    requires columns { columns draft.old.program
+        ≡ length (columns_of (parts_of s.now) (box_of boxes.now)) }
+    requires few { columns draft.old.program + length draft.old.program.constraints
+        + length (cut_names frame.now.pool.now) ≤ most_indices }
+    ensures adds { OnOk result (AddsNames (parts_of s.now) frame.now.pool.now (box_of boxes.now)
+        (cut_names frame.now.pool.now) draft.old draft.new) }
+    ensures wide { IfErr result (λ refused. IfWide refused (IsPast draft.old.tally.cells
+        (draft.old.tally.entries
+        + sum_by (row_entries (parts_of s.now) frame.now.pool.now (box_of boxes.now))
+        (cut_names frame.now.pool.now)))) }
+{
+    let cuts = cut_names(alloc, frame.pool)?;
+    add_rows(draft, alloc, room, frame, s, boxes, cuts.items())
+}
+
+/// Adds the rows that values of the columns may exceed: those of the day, and after them those of
+/// the pool's cuts. While it runs it takes a `Room`, and 12 bytes for each name of one flight and
+/// kind, one place or one connection at a time, and then for each cut, or up to twice that.
+#[tactic(auto, using(crate::proofs::NamesFacts::day_room, crate::proofs::NamesFacts::day_wide, crate::proofs::NamesFacts::cuts_room, crate::proofs::NamesFacts::cuts_wide, crate::proofs::NamesFacts::adds_all, crate::proofs::NamesFacts::adds_columns))]
+pub fn add_all_names(
     draft: &mut ProgramDraft,
     alloc: Global,
     frame: &Frame<'_>,
@@ -88,14 +119,17 @@ pub fn add_all_kinds(
     requires columns { columns draft.old.program
         ≡ length (columns_of (parts_of s.now) (box_of boxes.now)) }
     requires few { columns draft.old.program + length draft.old.program.constraints
-        + length (rows_of (parts_of s.now)) ≤ most_indices }
-    ensures adds { OnOk result (AddsNames (parts_of s.now) (box_of boxes.now)
-        (rows_of (parts_of s.now)) draft.old draft.new) }
+        + length (rows_with (parts_of s.now) frame.now.pool.now) ≤ most_indices }
+    ensures adds { OnOk result (AddsNames (parts_of s.now) frame.now.pool.now (box_of boxes.now)
+        (rows_with (parts_of s.now) frame.now.pool.now) draft.old draft.new) }
     ensures wide { IfErr result (λ refused. IfWide refused (IsPast draft.old.tally.cells
         (draft.old.tally.entries
-        + sum_by (row_entries (parts_of s.now) (box_of boxes.now)) (rows_of (parts_of s.now))))) }
+        + sum_by (row_entries (parts_of s.now) frame.now.pool.now (box_of boxes.now))
+        (rows_with (parts_of s.now) frame.now.pool.now)))) }
 {
     let mut room = Room::new(alloc)?;
     let kinds = row_kinds();
-    add_kinds(draft, alloc, &mut room, frame, s, boxes, &kinds)
+    add_kinds(draft, alloc, &mut room, frame, s, boxes, &kinds)?;
+    add_cuts(draft, alloc, &mut room, frame, s, boxes)?;
+    Ok(())
 }

@@ -1,13 +1,14 @@
 //! The linear program of a box, for the dual simplex: the relaxation of the by-time program, with
-//! what the box fixes replaced.
+//! the rows of a pool of cuts, and what the box fixes replaced.
 //!
-//! A caller makes it of a tight box, by the scenario's table, and hands it on. What the run gives
-//! back, a weight and a multiplier for each row, becomes a Dual leaf:
+//! A caller makes it of a tight box, by the scenario's table and a pool of its cuts, and hands it
+//! on. What the run gives back, a weight and a multiplier for each row, becomes a Dual leaf:
 //!
 //!     let mut boxes = Boxes::root(alloc, &s)?;
 //!     boxes.tighten(&s);
 //!     let table = table_for(alloc, &s)?;
-//!     let made = program(alloc, &s, &Pool::empty(alloc), &boxes, &table)?;
+//!     let pool = Pool::empty(alloc);
+//!     let made = program(alloc, &s, &pool, &boxes, &table)?;
 //!     for k in 0..made.columns.items().len() {
 //!         println!("{:?} costs {}", made.columns.items()[k], made.program.costs()[k]);
 //!     }
@@ -17,9 +18,10 @@
 //!
 //! The columns are the variables that the box leaves free, flight by flight, node by node. A column
 //! stands for its variable, or for 1 less the variable where the variable's cost is negative, so no
-//! cost of the program is. A row of the by-time program has the factors of what lands on a column
-//! added up, and what is fixed taken from its limit; rows that no values from 0 to 1 exceed are
-//! left out. After them stands a row for each column that says that it is at most 1.
+//! cost of the program is. The rows are those of the by-time program, and after them those of the
+//! pool's cuts, in its order. Each has the factors of what lands on a column added up, and what is
+//! fixed taken from its limit; rows that no values from 0 to 1 exceed are left out. After them
+//! stands a row for each column that says that it is at most 1.
 //!
 //! Where a run has room for so many entries, `program_within` gives the program up as soon as its
 //! first tableau is known to have more.
@@ -39,16 +41,16 @@
 //! value of no less than theirs (in `presolved`, `promise`). `leaf_of` gives exactly the
 //! definition's rows. Whatever point of a tight box's program there is, of the run or of anyone
 //! else: with flipped columns turned back, and what the box fixes as the box leaves it, it is a
-//! point of the relaxation, so it keeps all rows of the by-time program
+//! point of the relaxation, so it keeps all rows of the by-time program and of the pool's cuts
 //! (`program_points_are_points`, `point`), and it costs as much (`cost`).
 //!
 //! Memory: 4 bytes for each variable that the tight root box leaves free, 25 for each column, and
 //! what the program takes: 16 bytes for each factor and some 40 for each row; lists take up to
 //! twice that, since they grow. The table is lent, once made for all boxes of a scenario. While it
 //! runs, it takes room for one row (0.2 MB), and 12 bytes for each row's name of one flight and
-//! kind, one place or one connection at a time (0.2 MB at the most). A program that is given up
-//! takes no more of this than one that has just room. Time: for each variable of the day what the
-//! box leaves of it, and for each row its terms.
+//! kind, one place or one connection at a time (0.2 MB at the most), and then for each cut of the
+//! pool. A program that is given up takes no more of this than one that has just room. Time: for
+//! each variable of the day what the box leaves of it, and for each row its terms.
 #![tactic(auto)]
 
 mod columns;

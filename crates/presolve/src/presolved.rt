@@ -1,7 +1,7 @@
 //! The program of a box.
 ghost use Rattle.std.specs.Prelude.{◌≡◌, ◌<◌, ◌+◌, [], IfErr, IfOk, OnOk, length, map, pos, sum_by, unsigned_abs};
-ghost use Rattle.bytime_model.specs.AllRows.{rows_of};
-ghost use Rattle.bytime_model.specs.Table.{IsTableFor};
+ghost use Rattle.cut_rows.specs.Pools.{IsPoolOf, rows_with};
+ghost use Rattle.cut_rows.specs.Table.{IsTableFor};
 ghost use Rattle.flow_types.specs.Scenario.{parts_of};
 ghost use Rattle.presolve.specs.Counting.{IfWide, IsPast, row_entries};
 ghost use Rattle.presolve.specs.Listing.{HaveCosts, IsFramed, with_rows};
@@ -15,16 +15,16 @@ ghost use Rattle.time_windows.specs.Tight.{IsTight};
 use crate::columns::columns_of;
 use crate::costs::{Costs, costs_of, negatives_of, sizes_of};
 use crate::frame::Frame;
-use crate::kinds::add_all_kinds;
+use crate::kinds::add_all_names;
 use crate::numbers::Numbers;
 use crate::rows::{ProgramDraft, add_ones};
 use crate::tally::{Refused, Tally};
-use bytime_model::{RowNames, Table, Var, Vars};
+use bytime_model::{RowNames, Var, Vars};
+use cut_rows::{Pool, Table};
 use flow_types::{OutOfMemory, Scenario, Sequence};
 use scaled_simplex::Program;
 use std::alloc::Global;
 use time_windows::Boxes;
-use valid_cuts::Pool;
 
 /// A list of marks.
 pub type Flags = Sequence<bool>;
@@ -54,15 +54,18 @@ struct Base<'a> {
 fn base_of<'a>(
     alloc: Global,
     s: &Scenario,
+    pool: &'a Pool,
     boxes: &Boxes,
     table: &'a Table,
     columns: &[Var],
 ) -> Result<Base<'a>, OutOfMemory>
     requires table { IsTableFor (parts_of s.now) table.now }
+    requires pool { IsPoolOf (parts_of s.now) pool.now }
     requires made { IsMadeFor (parts_of s.now) boxes.now }
     requires tight { IsTight (parts_of s.now) (box_of boxes.now) }
     requires columns { columns.now ≡ columns_of (parts_of s.now) (box_of boxes.now) }
     ensures frame { IfOk result (λ base. IsFramed (parts_of s.now) boxes.now base.frame) }
+    ensures pool { IfOk result (λ base. base.frame.pool.now ≡ pool.now) }
     ensures costs { IfOk result (λ base. HaveCosts (parts_of s.now) (box_of boxes.now)
         base.costs.values.items base.costs.constant) }
 {
@@ -72,7 +75,8 @@ fn base_of<'a>(
     Ok(Base {
         frame: Frame {
             numbers,
-            visits: &table.visits,
+            table,
+            pool,
             flips,
         },
         costs,
@@ -109,13 +113,15 @@ fn add_all(
     requires columns { columns draft.old.program ≡ count }
     requires count { count ≡ length (columns_of (parts_of s.now) (box_of boxes.now)) }
     ensures program { OnOk result (draft.new.program ≡ with_rows draft.old.program
-        (program_of (parts_of s.now) (box_of boxes.now)).constraints) }
-    ensures kept { OnOk result (draft.new.kept ≡ kept_of (parts_of s.now) (box_of boxes.now)) }
+        (program_of (parts_of s.now) frame.now.pool.now (box_of boxes.now)).constraints) }
+    ensures kept { OnOk result (draft.new.kept
+        ≡ kept_of (parts_of s.now) frame.now.pool.now (box_of boxes.now)) }
     ensures wide { IfErr result (λ refused. IfWide refused (IsPast draft.old.tally.cells
         (draft.old.tally.entries
-        + sum_by (row_entries (parts_of s.now) (box_of boxes.now)) (rows_of (parts_of s.now))))) }
+        + sum_by (row_entries (parts_of s.now) frame.now.pool.now (box_of boxes.now))
+        (rows_with (parts_of s.now) frame.now.pool.now)))) }
 {
-    add_all_kinds(draft, alloc, frame, s, boxes)?;
+    add_all_names(draft, alloc, frame, s, boxes)?;
     add_ones(&mut draft.program, alloc, count)?;
     Ok(())
 }
@@ -124,20 +130,22 @@ fn add_all(
 fn tallied(
     alloc: Global,
     s: &Scenario,
+    pool: &Pool,
     boxes: &Boxes,
     table: &Table,
     cells: Option<u32>,
 ) -> Result<Presolved, Refused>
     requires table { IsTableFor (parts_of s.now) table.now }
+    requires pool { IsPoolOf (parts_of s.now) pool.now }
     requires made { IsMadeFor (parts_of s.now) boxes.now }
     requires tight { IsTight (parts_of s.now) (box_of boxes.now) }
-    ensures presolved { IfOk result (IsPresolved (parts_of s.now) (box_of boxes.now)) }
+    ensures presolved { IfOk result (IsPresolved (parts_of s.now) pool.now (box_of boxes.now)) }
     ensures wide { IfErr result (λ refused. IfWide refused (IsPast cells
-        (entries_of (parts_of s.now) (box_of boxes.now)))) }
+        (entries_of (parts_of s.now) pool.now (box_of boxes.now)))) }
 {
     let mut tally = Tally::new(cells);
     let columns = columns_of(alloc, s, boxes, &mut tally)?;
-    let Base { frame, costs } = base_of(alloc, s, boxes, table, columns.items())?;
+    let Base { frame, costs } = base_of(alloc, s, pool, boxes, table, columns.items())?;
     let mut draft = ProgramDraft {
         program: begun(alloc, s, boxes, &costs)?,
         kept: RowNames::empty(alloc),
@@ -151,7 +159,8 @@ fn tallied(
     } = draft;
     let Frame {
         numbers: _,
-        visits: _,
+        table: _,
+        pool: _,
         flips,
     } = frame;
     Ok(Presolved {
@@ -162,8 +171,8 @@ fn tallied(
     })
 }
 
-/// The program of the box, which is a tight one of the scenario, as the table is. No cut has a row
-/// yet, whatever the pool.
+/// The program of the box, which is a tight one of the scenario, as the table is. The rows of the
+/// pool's cuts, which are cuts of the scenario, stand after those of the day.
 ///
 /// Its multipliers, with any weight, are bounds: where each is 0 or more, and for each column the
 /// weight times its cost plus each multiplier times the row's factor is 0 or more, the weight times
@@ -172,20 +181,21 @@ fn tallied(
 ///
 /// While it runs it takes 4 bytes for each variable that the tight root box leaves free, room for
 /// one row, and the names of the rows of one flight and kind, one place or one connection at a
-/// time.
+/// time, and then those of all cuts of the pool: 12 bytes each, or up to twice that.
 pub fn program(
     alloc: Global,
     s: &Scenario,
-    _pool: &Pool,
+    pool: &Pool,
     boxes: &Boxes,
     table: &Table,
 ) -> Result<Presolved, OutOfMemory>
     requires table { IsTableFor (parts_of s.now) table.now }
+    requires pool { IsPoolOf (parts_of s.now) pool.now }
     requires made { IsMadeFor (parts_of s.now) boxes.now }
     requires tight { IsTight (parts_of s.now) (box_of boxes.now) }
-    ensures presolved { IfOk result (IsPresolved (parts_of s.now) (box_of boxes.now)) }
+    ensures presolved { IfOk result (IsPresolved (parts_of s.now) pool.now (box_of boxes.now)) }
 {
-    match tallied(alloc, s, boxes, table, None) {
+    match tallied(alloc, s, pool, boxes, table, None) {
         Ok(presolved) => Ok(presolved),
         Err(Refused::OutOfMemory) => Err(OutOfMemory),
         Err(Refused::Wide) => unreachable!(),
@@ -198,17 +208,18 @@ pub fn program(
 pub fn program_within(
     alloc: Global,
     s: &Scenario,
-    _pool: &Pool,
+    pool: &Pool,
     boxes: &Boxes,
     table: &Table,
     cells: u32,
 ) -> Result<Presolved, Refused>
     requires table { IsTableFor (parts_of s.now) table.now }
+    requires pool { IsPoolOf (parts_of s.now) pool.now }
     requires made { IsMadeFor (parts_of s.now) boxes.now }
     requires tight { IsTight (parts_of s.now) (box_of boxes.now) }
-    ensures presolved { IfOk result (IsPresolved (parts_of s.now) (box_of boxes.now)) }
+    ensures presolved { IfOk result (IsPresolved (parts_of s.now) pool.now (box_of boxes.now)) }
     ensures wide { IfErr result (λ refused. IfWide refused
-        (cells < entries_of (parts_of s.now) (box_of boxes.now))) }
+        (cells < entries_of (parts_of s.now) pool.now (box_of boxes.now))) }
 {
-    tallied(alloc, s, boxes, table, Some(cells))
+    tallied(alloc, s, pool, boxes, table, Some(cells))
 }

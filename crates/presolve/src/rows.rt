@@ -1,7 +1,7 @@
 //! The rows of the program.
 ghost use Rattle.std.specs.Prelude.{◌≡◌, ◌<◌, ◌≤◌, ◌+◌, ◌^◌, ◌-ℤ◌, ◌∷◌, [], All, IfErr, IfOk, OnOk, length, map, sum_by, true, unsigned_abs};
 ghost use Rattle.std.specs.List.{range_with_len};
-ghost use Rattle.bytime_model.specs.Rows.{is_row};
+ghost use Rattle.cut_rows.specs.Pools.{is_row_with};
 ghost use Rattle.flow_types.specs.Scenario.{parts_of};
 ghost use Rattle.presolve.specs.Counting.{IfWide, IsCounted, IsPast, row_entries};
 ghost use Rattle.presolve.specs.Gathering.{size_of};
@@ -17,6 +17,7 @@ use crate::frame::{Frame, Room};
 use crate::gather::Gathering;
 use crate::tally::{Refused, Tally};
 use bytime_model::{RowName, RowNames};
+use cut_rows::fill_row;
 use flow_types::{OutOfMemory, Scenario};
 use row_arena::Entry;
 use scaled_simplex::Program;
@@ -41,11 +42,11 @@ fn land_row(
     name: RowName,
 ) -> Result<i64, OutOfMemory>
     requires framed { IsFramed (parts_of s.now) boxes.now frame.now }
-    requires row { is_row (parts_of s.now) name ≡ true }
-    ensures { IfOk result (IsLandedRow (parts_of s.now) (box_of boxes.now) name
-        room.new.gathering.entries) }
+    requires row { is_row_with (parts_of s.now) frame.now.pool.now name ≡ true }
+    ensures { IfOk result (IsLandedRow (parts_of s.now) frame.now.pool.now (box_of boxes.now)
+        name room.new.gathering.entries) }
 {
-    room.buffer.fill_with(s, frame.visits, name);
+    fill_row(&mut room.buffer, s, frame.table, frame.pool, name);
     room.gathering
         .land(&frame.numbers, s, boxes, room.buffer.terms())?;
     Ok(less(room.buffer.limit(), room.gathering.fixed()))
@@ -94,17 +95,19 @@ fn add_row(
     name: RowName,
 ) -> Result<(), Refused>
     requires framed { IsFramed (parts_of s.now) boxes.now frame.now }
-    requires row { is_row (parts_of s.now) name ≡ true }
+    requires row { is_row_with (parts_of s.now) frame.now.pool.now name ≡ true }
     requires columns { columns draft.old.program
         ≡ length (columns_of (parts_of s.now) (box_of boxes.now)) }
     requires few { columns draft.old.program + length draft.old.program.constraints
         < most_indices }
-    ensures row { OnOk result (AddsRow (parts_of s.now) (box_of boxes.now) name draft.old.program
-        draft.new.program draft.old.kept draft.new.kept) }
-    ensures counted { OnOk result (IsCounted (row_entries (parts_of s.now) (box_of boxes.now) name)
+    ensures row { OnOk result (AddsRow (parts_of s.now) frame.now.pool.now (box_of boxes.now)
+        name draft.old.program draft.new.program draft.old.kept draft.new.kept) }
+    ensures counted { OnOk result (IsCounted
+        (row_entries (parts_of s.now) frame.now.pool.now (box_of boxes.now) name)
         draft.old.tally draft.new.tally) }
     ensures wide { IfErr result (λ refused. IfWide refused (IsPast draft.old.tally.cells
-        (draft.old.tally.entries + row_entries (parts_of s.now) (box_of boxes.now) name))) }
+        (draft.old.tally.entries
+        + row_entries (parts_of s.now) frame.now.pool.now (box_of boxes.now) name))) }
 {
     let limit = land_row(room, frame, s, boxes, name)?;
     if limit < greatest(room.gathering.entries()) {
@@ -133,16 +136,18 @@ pub fn add_rows(
     names: &[RowName],
 ) -> Result<(), Refused>
     requires framed { IsFramed (parts_of s.now) boxes.now frame.now }
-    requires rows { All (λ name. is_row (parts_of s.now) name ≡ true) names.now }
+    requires rows { All (λ name. is_row_with (parts_of s.now) frame.now.pool.now name ≡ true)
+        names.now }
     requires columns { columns draft.old.program
         ≡ length (columns_of (parts_of s.now) (box_of boxes.now)) }
     requires few { columns draft.old.program + length draft.old.program.constraints
         + length names.now ≤ most_indices }
-    ensures adds { OnOk result (AddsNames (parts_of s.now) (box_of boxes.now) names.now
-        draft.old draft.new) }
+    ensures adds { OnOk result (AddsNames (parts_of s.now) frame.now.pool.now (box_of boxes.now)
+        names.now draft.old draft.new) }
     ensures wide { IfErr result (λ refused. IfWide refused (IsPast draft.old.tally.cells
         (draft.old.tally.entries
-        + sum_by (row_entries (parts_of s.now) (box_of boxes.now)) names.now))) }
+        + sum_by (row_entries (parts_of s.now) frame.now.pool.now (box_of boxes.now))
+        names.now))) }
 {
     for name in names {
         add_row(draft, alloc, room, frame, s, boxes, *name)?;

@@ -19,6 +19,7 @@ use Rattle.branch_tree.specs.Leaves.{IsInRange}
 use Rattle.presolve.specs.Leaf.{leaf_rows, unless_never}
 use Rattle.presolve.specs.Presolved.{entries_of}
 use Rattle.presolve.specs.Relaxed.{kept_of, program_of}
+use Rattle.cut_rows.specs.declared.names.CutName.{CutName}
 use Rattle.relaxed_bound.specs.declared.limits.Limits.{Limits}
 use Rattle.relaxed_bound.specs.Licence.{IsLicensed, end_of}
 use Rattle.relaxed_bound.specs.Relaxed.{HasBound, outcome_leaf, relaxed_leaf}
@@ -38,9 +39,9 @@ zeros_none (name ∷ names) multiplier from (suc count) zeros =
     (zeros from (omega arith))
     ∙ zeros_none names multiplier (from + 1) count (λ k below. zeros k (omega (arith, below)))
 
-module _ (parts : Parts) (box : Box) where
+module _ (parts : Parts) (pool : List CutName) (box : Box) where
   abbrev program : Problem
-  program = program_of parts box
+  program = program_of parts pool box
 
   abbrev wide : Outcome
   wide = record { end = Wide; row = bare_row program }
@@ -50,44 +51,45 @@ module _ (parts : Parts) (box : Box) where
   no_multiplier k below =
       ap neg_ℤ (bare_below program (columns program + k) (omega (arith, below)))
 
-  no_rows : leaf_rows (kept_of parts box) (multipliers_of program wide) ≡ []
+  no_rows : leaf_rows (kept_of parts pool box) (multipliers_of program wide) ≡ []
   no_rows =
-      zeros_none (kept_of parts box) (multiplier_in program wide) 0 (length program.constraints)
+      zeros_none (kept_of parts pool box) (multiplier_in program wide) 0
+      (length program.constraints)
       no_multiplier
 
-  wide_leaf : Dual 1 [] ≡ outcome_leaf parts box wide
+  wide_leaf : Dual 1 [] ≡ outcome_leaf parts pool box wide
   wide_leaf =
       ap (λ w. Dual (unsigned_abs w) []) (sym (bare_weight program))
       ∙ ap (λ rows. Dual (unsigned_abs (weight_in program wide)) rows) (sym no_rows)
 
   pub bare_is : (limits : Limits) (cutoff : Option ℤ) (leaf : Leaf) → leaf ≡ Dual 1 []
-      → limits.cells < entries_of parts box → leaf ≡ relaxed_leaf parts box limits cutoff
+      → limits.cells < entries_of parts pool box → leaf ≡ relaxed_leaf parts pool box limits cutoff
   bare_is limits cutoff leaf is past =
       is ∙ wide_leaf
-      ∙ ap (λ b. outcome_leaf parts box (if b then wide
+      ∙ ap (λ b. outcome_leaf parts pool box (if b then wide
       else run_from program limits.cells cutoff limits.pivots (first_tableau program)))
-      (sym (lt-ltb limits.cells (entries_of parts box) past))
+      (sym (lt-ltb limits.cells (entries_of parts pool box) past))
 
   -- the run ends at once, and so the box may be split
-  pub bare_end : (limits : Limits) (cutoff : Option ℤ) → limits.cells < entries_of parts box
-      → Wide ≡ end_of parts box limits cutoff
+  pub bare_end : (limits : Limits) (cutoff : Option ℤ) → limits.cells < entries_of parts pool box
+      → Wide ≡ end_of parts pool box limits cutoff
   bare_end limits cutoff past =
       ap (λ b. (if b then wide
       else run_from program limits.cells cutoff limits.pivots (first_tableau program)).end)
-      (sym (lt-ltb limits.cells (entries_of parts box) past))
+      (sym (lt-ltb limits.cells (entries_of parts pool box) past))
 
   pub bare_licensed : (limits : Limits) (cutoff : Option ℤ)
-      → limits.cells < entries_of parts box → IsLicensed parts box limits cutoff
+      → limits.cells < entries_of parts pool box → IsLicensed parts pool box limits cutoff
   bare_licensed limits cutoff past = inr (inr (sym (bare_end limits cutoff past)))
 
-  bare_bound : HasBound parts box (Dual 1 [])
+  bare_bound : HasBound parts pool box (Dual 1 [])
   bare_bound = record {
     known = λ position multiplier at. absurd (no_item position multiplier at);
     positive = λ none. absurd (omega (arith, none));
   }
 
-  pub bare_has : (leaf : Leaf) → leaf ≡ Dual 1 [] → HasBound parts box leaf
-  bare_has leaf is = subst (HasBound parts box) (sym is) bare_bound
+  pub bare_has : (leaf : Leaf) → leaf ≡ Dual 1 [] → HasBound parts pool box leaf
+  bare_has leaf is = subst (HasBound parts pool box) (sym is) bare_bound
 
 pub bare_range : (leaf : Leaf) → leaf ≡ Dual 1 [] → IsInRange leaf
 bare_range leaf is = subst IsInRange (sym is) (record {

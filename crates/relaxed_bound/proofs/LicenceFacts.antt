@@ -21,6 +21,8 @@ use Rattle.presolve.specs.Leaf.{IsBelowLeaf, leaf_rows}
 use Rattle.presolve.specs.Points.{value_of_point}
 use Rattle.presolve.specs.Relaxed.{kept_of, program_of}
 use Rattle.presolve.proofs.PointLaws.{costs_alike, relaxation_point}
+use Rattle.cut_rows.specs.declared.names.CutName.{CutName}
+use Rattle.cut_rows.specs.Pools.{IsPoolOf}
 use Rattle.relaxed_bound.specs.declared.limits.Limits.{Limits}
 use Rattle.relaxed_bound.specs.Licence.{IsBelowCutoff, IsCheapPoint, IsLicensed, IsUnreached, StaysBelow}
 use Rattle.relaxed_bound.specs.Relaxed.{outcome_leaf}
@@ -53,25 +55,28 @@ pub positive_is : (z : ℤ) → pos 0 <ℤ z → pos (unsigned_abs z) ≡ z
 positive_is (pos n) above = refl
 positive_is (negsuc n) above = absurd (omega (arith, ints, above))
 
-module _ (parts : Parts) (box : Box) (cutoff : Option ℤ) (outcome : Outcome) where
+module _ (parts : Parts) (pool : List CutName) (box : Box) (cutoff : Option ℤ)
+    (outcome : Outcome) where
   abbrev program : Problem
-  program = program_of parts box
+  program = program_of parts pool box
 
   abbrev rows : List Multiplier
-  rows = leaf_rows (kept_of parts box) (multipliers_of program outcome)
+  rows = leaf_rows (kept_of parts pool box) (multipliers_of program outcome)
 
   -- the run's point is one of the relaxation, and cheap
-  cheap_point : IsScenario parts → IsBoxOf parts box → IsTight parts box
+  cheap_point : IsScenario parts → IsPoolOf parts pool → IsBoxOf parts box → IsTight parts box
       → IsJustified program outcome → is_infeasible outcome.end ≡ false → HasPoint program outcome
-      → IsBelow program cutoff outcome → IsCheapPoint parts box cutoff
-  cheap_point valid made tight told isnt point below =
+      → IsBelow program cutoff outcome → IsCheapPoint parts pool box cutoff
+  cheap_point valid cuts made tight told isnt point below =
       let here = point.is.point in
       record {
         value = value_of_point parts box point.numerator point.denominator;
         denominator = point.denominator;
-        point = relaxation_point parts box valid made tight point.numerator point.denominator here;
+        point = relaxation_point parts pool box valid cuts made tight point.numerator
+            point.denominator here;
         cheap = subst (λ cost. IsBelowCutoff cutoff cost point.denominator)
-            (sym (costs_alike parts box valid made tight point.numerator point.denominator))
+            (sym (costs_alike parts pool box valid cuts made tight point.numerator
+            point.denominator))
             (by cutoff below);
       }
     where
@@ -84,7 +89,8 @@ module _ (parts : Parts) (box : Box) (cutoff : Option ℤ) (outcome : Outcome) w
           (value_in program outcome) (weight_in program outcome) (limit -ℤ pos 1)
           (told.bound isnt).weight point.is.point.positive point.is.worth is
 
-  module _ (is : StaysBelow parts box (unsigned_abs (weight_in program outcome)) rows cutoff) where
+  module _ (is : StaysBelow parts pool box (unsigned_abs
+      (weight_in program outcome)) rows cutoff) where
     -- a refutation reaches any cutoff
     not_infeasible : IsJustified program outcome → is_infeasible outcome.end ≡ true → ⊥
     not_infeasible told infeasible =
@@ -94,7 +100,8 @@ module _ (parts : Parts) (box : Box) (cutoff : Option ℤ) (outcome : Outcome) w
 
     -- and so does the leaf of a run that was cut
     not_cut : IsJustified program outcome → is_infeasible outcome.end ≡ false
-        → IsBelowLeaf parts box program (kept_of parts box) → HasReached program cutoff outcome → ⊥
+        → IsBelowLeaf parts pool box program (kept_of parts pool box)
+        → HasReached program cutoff outcome → ⊥
     not_cut told isnt promise reached = by cutoff reached is.below
       where
         weight : ℕ
@@ -118,31 +125,33 @@ module _ (parts : Parts) (box : Box) (cutoff : Option ℤ) (outcome : Outcome) w
             let turned = ap (λ w. (limit -ℤ pos 1) *ℤ w) same in
             omega (arith, ints, low, below, turned, choice.2, has)
 
-pub licensed : (parts : Parts) (box : Box) (limits : Limits) (cutoff : Option ℤ)
-    → IsScenario parts → IsBoxOf parts box → IsTight parts box
-    → IsJustified (program_of parts box)
-    (simplex_run (program_of parts box) limits.pivots limits.cells cutoff)
-    → IsWorthOf (program_of parts box) cutoff
-    (simplex_run (program_of parts box) limits.pivots limits.cells cutoff)
-    → IsBelowLeaf parts box (program_of parts box) (kept_of parts box)
-    → IsUnreached parts box (outcome_leaf parts box
-    (simplex_run (program_of parts box) limits.pivots limits.cells cutoff)) cutoff
-    → IsLicensed parts box limits cutoff
-licensed parts box limits cutoff valid made tight told worth promise is =
+pub licensed : (parts : Parts) (pool : List CutName) (box : Box) (limits : Limits)
+    (cutoff : Option ℤ)
+    → IsScenario parts → IsPoolOf parts pool → IsBoxOf parts box → IsTight parts box
+    → IsJustified (program_of parts pool box)
+    (simplex_run (program_of parts pool box) limits.pivots limits.cells cutoff)
+    → IsWorthOf (program_of parts pool box) cutoff
+    (simplex_run (program_of parts pool box) limits.pivots limits.cells cutoff)
+    → IsBelowLeaf parts pool box (program_of parts pool box) (kept_of parts pool box)
+    → IsUnreached parts pool box (outcome_leaf parts pool box
+    (simplex_run (program_of parts pool box) limits.pivots limits.cells cutoff)) cutoff
+    → IsLicensed parts pool box limits cutoff
+licensed parts pool box limits cutoff valid cuts made tight told worth promise is =
     by outcome.end refl
   where
     outcome : Outcome
-    outcome = simplex_run (program_of parts box) limits.pivots limits.cells cutoff
+    outcome = simplex_run (program_of parts pool box) limits.pivots limits.cells cutoff
 
-    by : (end : End) → outcome.end ≡ end → IsLicensed parts box limits cutoff
+    by : (end : End) → outcome.end ≡ end → IsLicensed parts pool box limits cutoff
     by Optimal ends =
         let isnt = ap is_infeasible ends in
         let found = worth ends in
-        inl (cheap_point parts box cutoff outcome valid made tight told isnt found.0 found.1)
+        inl (cheap_point parts pool box cutoff outcome valid cuts made tight told isnt found.0
+        found.1)
     by Cut ends =
-        absurd (not_cut parts box cutoff outcome is told (ap is_infeasible ends) promise
-        (run_reached (program_of parts box) cutoff limits.pivots limits.cells ends))
+        absurd (not_cut parts pool box cutoff outcome is told (ap is_infeasible ends) promise
+        (run_reached (program_of parts pool box) cutoff limits.pivots limits.cells ends))
     by Infeasible ends =
-        absurd (not_infeasible parts box cutoff outcome is told (ap is_infeasible ends))
+        absurd (not_infeasible parts pool box cutoff outcome is told (ap is_infeasible ends))
     by Limit ends = inr (inl ends)
     by Wide ends = inr (inr ends)

@@ -1,22 +1,30 @@
 -- The rows of a leaf that a run tells: what holds of each name holds of each row, they are in the
 -- order of rows, and no multiplier is 0.
-use Rattle.std.proofs.Common.{◌≡◌, ℕ, zero, suc, ◌<◌, Bool, true, false, Option, List, [], ◌∷◌, ◌++◌, All, AllPairs, if◌then◌else◌, ℤ, pos, negsuc, unsigned_abs, refl, sym, subst, arith}
+use Rattle.std.proofs.Common.{◌≡◌, ℕ, zero, suc, ◌<◌, ◌==◌, ◌&&◌, nat_lt, Bool, true, false, Option, List, [], ◌∷◌, ◌++◌, length, map, get_or, All, AllPairs, if◌then◌else◌, ℤ, pos, negsuc, unsigned_abs, refl, sym, subst, arith}
 use Rattle.std.proofs.lemmas.List.Elements.{All-append, All-cons, All-head, All-nil, All-tail}
 use Rattle.std.proofs.lemmas.List.Kept.{AllPairs-cons, AllPairs-filter}
 use Rattle.std.specs.Ordering.{int_eq}
+use Rattle.std.specs.List.{range_with_len}
+use Rattle.std.proofs.lemmas.Bool.{lt-ltb, or_left}
 use Rattle.exact_sums.proofs.ShortLists.{no_pairs}
 use Rattle.flow_types.specs.declared.parts.Parts.{Parts}
 use Rattle.scaled_simplex.specs.Multipliers.{multipliers_of}
 use Rattle.time_windows.specs.Boxes.{Box}
 use Rattle.bytime_model.specs.declared.multiplier.Multiplier.{Multiplier}
 use Rattle.bytime_model.specs.declared.names.RowName.{RowName}
+use Rattle.bytime_model.specs.declared.names.RowName.TheVariants.{Arr, Connect, Cut, Dep, Enter, Leave, Mono, Occupy, Sector, Top}
 use Rattle.bytime_model.specs.AllRows.{rows_of}
+use Rattle.bytime_model.specs.Rows.{is_row}
 use Rattle.bytime_model.specs.Multipliers.{AreAscending, ArePositive}
-use Rattle.bytime_model.specs.Order.{IsBefore}
-use Rattle.bytime_model.proofs.KindLaws.{rows_ascend}
+use Rattle.bytime_model.specs.Order.{IsBefore, is_before}
+use Rattle.bytime_model.proofs.KindLaws.{rows_ascend, rows_each as of_rows}
+use Rattle.bytime_model.proofs.NameLists.{ascending_map, ascending_pairs}
+use Rattle.presolve.proofs.PointFacts.{every}
 use Rattle.branch_tree.specs.declared.leaf.Leaf.TheVariants.{Dual}
 use Rattle.presolve.specs.Leaf.{leaf_rows, unless_never}
 use Rattle.presolve.specs.Relaxed.{kept_of, may_exceed, program_of, row_in}
+use Rattle.cut_rows.specs.declared.names.CutName.{CutName}
+use Rattle.cut_rows.specs.Pools.{cut_names, rows_with}
 use Rattle.relaxed_bound.specs.declared.limits.Limits.{Limits}
 use Rattle.relaxed_bound.specs.Relaxed.{relaxed_leaf, run_of}
 
@@ -91,18 +99,67 @@ positive (name ∷ names) (multiplier ∷ multipliers) =
         (record { row = name; value = unsigned_abs multiplier }) [] (not_zero multiplier isnt)
         (All-nil IsAbove)
 
-module _ (parts : Parts) (box : Box) (limits : Limits) (cutoff : Option ℤ) (weight : ℕ)
-    (rows : List Multiplier) (is : Dual weight rows ≡ relaxed_leaf parts box limits cutoff) where
-  abbrev told : List ℤ
-  told = multipliers_of (program_of parts box) (run_of parts box limits cutoff)
+-- the names of all rows are in order: those of the day, and then those of cuts
+pairs_append : {X : Type 0} (R : X → X → Type 0) (xs ys : List X) → AllPairs R xs → AllPairs R ys
+    → All (λ x. All (R x) ys) xs → AllPairs R (xs ++ ys)
+pairs_append R [] ys one two across = two
+pairs_append R (x ∷ xs) ys one two across =
+    AllPairs-cons R x (xs ++ ys)
+    (All-append (R x) xs ys
+    (λ k d within. one 0 (suc k) d (omega arith) (omega (arith, within))) (across 0 x
+    (omega arith)))
+    (pairs_append R xs ys
+    (λ i j d less within. one (suc i) (suc j) d (omega (arith, less)) (omega (arith, within))) two
+    (All-tail (λ z. All (R z) ys) x xs across))
 
-  rows_are : rows ≡ leaf_rows (kept_of parts box) told
+before_cut : (parts : Parts) (name : RowName) (i : ℕ) → is_row parts name ≡ true
+    → is_before name (Cut i) ≡ true
+before_cut parts (Mono f n t) i is = refl
+before_cut parts (Top f n) i is = refl
+before_cut parts (Dep p t) i is = refl
+before_cut parts (Arr p t) i is = refl
+before_cut parts (Sector p t) i is = refl
+before_cut parts (Occupy f n t) i is = refl
+before_cut parts (Enter f n t) i is = refl
+before_cut parts (Leave f n) i is = refl
+before_cut parts (Connect c t) i is = refl
+before_cut parts (Cut j) i is = absurd (let e : false ≡ true = is in cc)
+
+cuts_ascend : (pool : List CutName) → AllPairs IsBefore (cut_names pool)
+cuts_ascend pool =
+    ascending_pairs IsBefore (cut_names pool)
+    (ascending_map IsBefore Cut 0 (length pool) (λ k m past less below.
+    or_left (nat_lt k m) ((k == m) && false) (lt-ltb k m less)))
+
+each_cut : (P : RowName → Type 0) → ((i : ℕ) → P (Cut i)) → (numbers : List ℕ)
+    → All P (map Cut numbers)
+each_cut P each [] = All-nil P
+each_cut P each (i ∷ numbers) =
+    All-cons P (Cut i) (map Cut numbers) (each i) (each_cut P each numbers)
+
+pub rows_with_ascend : (parts : Parts) (pool : List CutName)
+    → AllPairs IsBefore (rows_with parts pool)
+rows_with_ascend parts pool =
+    pairs_append IsBefore (rows_of parts) (cut_names pool) (rows_ascend parts) (cuts_ascend pool)
+    (λ k d within. each_cut (IsBefore (get_or (rows_of parts) k d)) (λ i.
+    before_cut parts (get_or (rows_of parts) k d) i
+    (every (λ name. is_row parts name ≡ true) (rows_of parts)
+    (λ name any. (of_rows parts name).0 any) k d within)) (range_with_len 0 (length pool)))
+
+module _ (parts : Parts) (pool : List CutName) (box : Box) (limits : Limits) (cutoff : Option ℤ)
+    (weight : ℕ) (rows : List Multiplier)
+    (is : Dual weight rows ≡ relaxed_leaf parts pool box limits cutoff) where
+  abbrev told : List ℤ
+  told = multipliers_of (program_of parts pool box) (run_of parts pool box limits cutoff)
+
+  rows_are : rows ≡ leaf_rows (kept_of parts pool box) told
   rows_are = cc
 
   pub run_ascends : AreAscending rows
-  run_ascends = subst AreAscending (sym rows_are) (ascend (kept_of parts box) told
-      (AllPairs-filter IsBefore (λ name. may_exceed (row_in parts box name)) (rows_of parts)
-      (rows_ascend parts)))
+  run_ascends = subst AreAscending (sym rows_are) (ascend (kept_of parts pool box) told
+      (AllPairs-filter IsBefore (λ name. may_exceed (row_in parts pool box name))
+      (rows_with parts pool)
+      (rows_with_ascend parts pool)))
 
   pub run_positive : ArePositive rows
-  run_positive = subst ArePositive (sym rows_are) (positive (kept_of parts box) told)
+  run_positive = subst ArePositive (sym rows_are) (positive (kept_of parts pool box) told)

@@ -11,20 +11,23 @@ use Rattle.time_windows.specs.Boxes.{Box, IsBoxOf}
 use Rattle.time_windows.specs.Tight.{IsTight}
 use Rattle.bytime_model.specs.declared.multiplier.Multiplier.{Multiplier}
 use Rattle.branch_tree.specs.declared.leaf.Leaf.TheVariants.{Dual}
-use Rattle.valid_cuts.specs.Dual.{IsDualValue}
+use Rattle.dual_sums.specs.Dual.{IsDualValue}
 use Rattle.presolve.specs.Leaf.{IsBelowLeaf, leaf_rows}
 use Rattle.presolve.specs.Relaxed.{kept_of, program_of}
 use Rattle.presolve.proofs.ProblemFacts.{problem}
 use Rattle.presolve.proofs.PromiseFacts.{promised}
+use Rattle.cut_rows.specs.declared.names.CutName.{CutName}
+use Rattle.cut_rows.specs.Pools.{IsPoolOf}
 use Rattle.relaxed_bound.specs.declared.limits.Limits.{Limits}
 use Rattle.relaxed_bound.specs.Relaxed.{TellsNoLess, relaxed_leaf, run_of}
 use Rattle.relaxed_bound.proofs.LicenceFacts.{positive_is}
 
-module _ (parts : Parts) (box : Box) (outcome : Outcome)
-    (told : IsJustified (program_of parts box) outcome)
-    (promise : IsBelowLeaf parts box (program_of parts box) (kept_of parts box)) where
+module _ (parts : Parts) (pool : List CutName) (box : Box) (outcome : Outcome)
+    (told : IsJustified (program_of parts pool box) outcome)
+    (promise : IsBelowLeaf parts pool box (program_of parts pool box)
+    (kept_of parts pool box)) where
   abbrev program : Problem
-  program = program_of parts box
+  program = program_of parts pool box
 
   abbrev multipliers : List ℤ
   multipliers = multipliers_of program outcome
@@ -43,7 +46,7 @@ module _ (parts : Parts) (box : Box) (outcome : Outcome)
 
   -- multipliers with this weight have a value of no more than the leaf's
   no_less : (value worth : ℤ)
-      → IsDualValue parts box weight (leaf_rows (kept_of parts box) multipliers) value
+      → IsDualValue parts pool box weight (leaf_rows (kept_of parts pool box) multipliers) value
       → AreMultipliers program (pos weight) multipliers worth → worth ≤ℤ value
   no_less value worth least are =
       let reached = least.reached in
@@ -51,7 +54,7 @@ module _ (parts : Parts) (box : Box) (outcome : Outcome)
       omega (arith, ints, low, reached.2)
 
   refuted : (value : ℤ)
-      → IsDualValue parts box weight (leaf_rows (kept_of parts box) multipliers) value
+      → IsDualValue parts pool box weight (leaf_rows (kept_of parts pool box) multipliers) value
       → is_infeasible outcome.end ≡ true → neg_ℤ (value_in program outcome) ≤ℤ value
   refuted value least is =
       no_less value (neg_ℤ (value_in program outcome)) least
@@ -59,7 +62,7 @@ module _ (parts : Parts) (box : Box) (outcome : Outcome)
       (sym (weight_told ∙ (told.refutation is).weight)) (told.refutation is).multipliers)
 
   tells : (value : ℤ)
-      → IsDualValue parts box weight (leaf_rows (kept_of parts box) multipliers) value
+      → IsDualValue parts pool box weight (leaf_rows (kept_of parts pool box) multipliers) value
       → TellsNoLess program outcome weight value
   tells value least = record {
     weight_is = weight_told;
@@ -74,36 +77,43 @@ module _ (parts : Parts) (box : Box) (outcome : Outcome)
         omega (arith, ints, low, positive);
   }
 
-module _ (parts : Parts) (box : Box) (limits : Limits) (cutoff : Option ℤ) (weight : ℕ)
-    (rows : List Multiplier) (is : Dual weight rows ≡ relaxed_leaf parts box limits cutoff) where
-  abbrev outcome : Outcome
-  outcome = run_of parts box limits cutoff
+module _ (parts : Parts) (pool : List CutName) (box : Box) (limits : Limits) (cutoff : Option ℤ)
+    (weight : ℕ)
+    (rows : List Multiplier) (is : Dual weight rows ≡ relaxed_leaf parts pool box limits cutoff)
+  where
+    abbrev outcome : Outcome
+    outcome = run_of parts pool box limits cutoff
 
-  abbrev own_rows : List Multiplier
-  own_rows = leaf_rows (kept_of parts box) (multipliers_of (program_of parts box) outcome)
+    abbrev own_rows : List Multiplier
+    own_rows = leaf_rows (kept_of parts pool box) (multipliers_of
+        (program_of parts pool box) outcome)
 
-  weight_same : weight ≡ unsigned_abs (weight_in (program_of parts box) outcome)
-  weight_same = cc
+    weight_same : weight ≡ unsigned_abs (weight_in (program_of parts pool box) outcome)
+    weight_same = cc
 
-  rows_same : rows ≡ own_rows
-  rows_same = cc
+    rows_same : rows ≡ own_rows
+    rows_same = cc
 
-  own_tells : (value : ℤ) → IsScenario parts → IsBoxOf parts box → IsTight parts box
-      → IsDualValue parts box weight rows value
-      → TellsNoLess (program_of parts box) outcome weight value
-  own_tells value scenario made tight least =
-      subst (λ w. TellsNoLess (program_of parts box) outcome w value) (sym weight_same)
-      (tells parts box outcome
-      (run_tells (program_of parts box) (problem parts box scenario made tight) limits.pivots
-      limits.cells cutoff)
-      (promised parts box scenario made tight) value
-      (subst (λ w. IsDualValue parts box w own_rows value) weight_same
-      (subst (λ rs. IsDualValue parts box weight rs value) rows_same least)))
+    own_tells : (value : ℤ) → IsScenario parts → IsPoolOf parts pool → IsBoxOf parts box
+        → IsTight parts box
+        → IsDualValue parts pool box weight rows value
+        → TellsNoLess (program_of parts pool box) outcome weight value
+    own_tells value scenario cuts made tight least =
+        subst (λ w. TellsNoLess (program_of parts pool box) outcome w value) (sym weight_same)
+        (tells parts pool box outcome
+        (run_tells (program_of parts pool box) (problem parts pool box scenario cuts made tight)
+        limits.pivots
+        limits.cells cutoff)
+        (promised parts pool box scenario cuts made tight) value
+        (subst (λ w. IsDualValue parts pool box w own_rows value) weight_same
+        (subst (λ rs. IsDualValue parts pool box weight rs value) rows_same least)))
 
-pub leaf_tells : (parts : Parts) (box : Box) (limits : Limits) (cutoff : Option ℤ) (weight : ℕ)
-    (rows : List Multiplier) (value : ℤ) → IsScenario parts → IsBoxOf parts box
-    → IsTight parts box → Dual weight rows ≡ relaxed_leaf parts box limits cutoff
-    → IsDualValue parts box weight rows value
-    → TellsNoLess (program_of parts box) (run_of parts box limits cutoff) weight value
-leaf_tells parts box limits cutoff weight rows value scenario made tight is least =
-    own_tells parts box limits cutoff weight rows is value scenario made tight least
+pub leaf_tells : (parts : Parts) (pool : List CutName) (box : Box) (limits : Limits)
+    (cutoff : Option ℤ) (weight : ℕ)
+    (rows : List Multiplier) (value : ℤ) → IsScenario parts → IsPoolOf parts pool
+    → IsBoxOf parts box
+    → IsTight parts box → Dual weight rows ≡ relaxed_leaf parts pool box limits cutoff
+    → IsDualValue parts pool box weight rows value
+    → TellsNoLess (program_of parts pool box) (run_of parts pool box limits cutoff) weight value
+leaf_tells parts pool box limits cutoff weight rows value scenario cuts made tight is least =
+    own_tells parts pool box limits cutoff weight rows is value scenario cuts made tight least

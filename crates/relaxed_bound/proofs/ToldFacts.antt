@@ -18,17 +18,18 @@ use Rattle.time_windows.specs.Boxes.{Box, IsBoxOf}
 use Rattle.time_windows.specs.Tight.{IsTight}
 use Rattle.bytime_model.specs.declared.names.RowName.{RowName}
 use Rattle.bytime_model.specs.declared.variables.Var.{Var}
-use Rattle.bytime_model.specs.Rows.{is_row}
 use Rattle.branch_tree.specs.declared.leaf.Leaf.{Leaf}
 use Rattle.bytime_model.specs.declared.multiplier.Multiplier.{Multiplier}
 use Rattle.branch_tree.specs.Leaves.{IsInRange}
 use Rattle.bytime_model.specs.Multipliers.{HasRange}
-use Rattle.valid_cuts.specs.Dual.{AreKnown, IsChoice, dual_at}
+use Rattle.dual_sums.specs.Dual.{AreKnown, IsChoice, dual_at}
 use Rattle.presolve.specs.declared.presolved.Presolved.{Presolved}
 use Rattle.presolve.specs.Leaf.{IsBelowLeaf, leaf_rows, unless_never}
 use Rattle.presolve.specs.Presolved.{IsPresolved}
 use Rattle.presolve.specs.Relaxed.{kept_of, program_of}
 use Rattle.presolve.proofs.PromiseFacts.{kept_are}
+use Rattle.cut_rows.specs.declared.names.CutName.{CutName}
+use Rattle.cut_rows.specs.Pools.{IsPoolOf, is_row_with}
 use Rattle.relaxed_bound.specs.declared.limits.Limits.{Limits}
 use Rattle.relaxed_bound.specs.Licence.{IsLicensed, IsUnreached, end_of}
 use Rattle.relaxed_bound.specs.Relaxed.{HasBound, outcome_leaf, relaxed_leaf, told_leaf}
@@ -101,31 +102,31 @@ told_range leaf names problem cutoff outcome weights are leaf_is =
           omega (arith, rows_few names weights.rows, most, count);
     }
 
-module _ (parts : Parts) (box : Box) (outcome : Outcome) where
+module _ (parts : Parts) (pool : List CutName) (box : Box) (outcome : Outcome) where
   abbrev program : Problem
-  program = program_of parts box
+  program = program_of parts pool box
 
   abbrev weight : ℕ
   weight = unsigned_abs (weight_in program outcome)
 
   abbrev rows : List Multiplier
-  rows = leaf_rows (kept_of parts box) (multipliers_of program outcome)
+  rows = leaf_rows (kept_of parts pool box) (multipliers_of program outcome)
 
-  known : AreKnown parts rows
-  known k row at =
-      All-item (λ one. is_row parts one.row ≡ true) rows k row
-      (rows_each (λ name. is_row parts name ≡ true) (kept_of parts box)
-      (multipliers_of program outcome) (kept_are parts box)) at
+  known : IsPoolOf parts pool → AreKnown parts pool rows
+  known cuts k row at =
+      All-item (λ one. is_row_with parts pool one.row ≡ true) rows k row
+      (rows_each (λ name. is_row_with parts pool name ≡ true) (kept_of parts pool box)
+      (multipliers_of program outcome) (kept_are parts pool box cuts)) at
 
   module _ (told : IsJustified program outcome)
-      (promise : IsBelowLeaf parts box program (kept_of parts box)) where
+      (promise : IsBelowLeaf parts pool box program (kept_of parts pool box)) where
     -- with the weight 0 the value is above 0
     positive : weight ≡ 0 → (choice : Var → ℕ) → IsChoice parts.flights box choice
-        → pos 0 <ℤ dual_at parts weight rows choice
+        → pos 0 <ℤ dual_at parts pool weight rows choice
     positive none choice is = by (is_infeasible outcome.end) refl
       where
         by : (b : Bool) → is_infeasible outcome.end ≡ b
-            → pos 0 <ℤ dual_at parts weight rows choice
+            → pos 0 <ℤ dual_at parts pool weight rows choice
         by false isnt =
             absurd (no_weight (weight_in program outcome) (told.bound isnt).weight none)
           where
@@ -134,16 +135,16 @@ module _ (parts : Parts) (box : Box) (outcome : Outcome) where
             no_weight (negsuc n) above zero = omega (arith, ints, above, zero)
         by true infeasible =
             let refuted = told.refutation infeasible in
-            let low : neg_ℤ (value_in program outcome) ≤ℤ dual_at parts weight rows choice =
-            subst (λ w. neg_ℤ (value_in program outcome) ≤ℤ dual_at parts w rows choice)
+            let low : neg_ℤ (value_in program outcome) ≤ℤ dual_at parts pool weight rows choice =
+            subst (λ w. neg_ℤ (value_in program outcome) ≤ℤ dual_at parts pool w rows choice)
             (sym none)
             (promise 0 (multipliers_of program outcome) (neg_ℤ (value_in program outcome))
             refuted.multipliers choice is) in
             omega (arith, ints, refuted.positive, low)
 
-    told_bound : HasBound parts box (outcome_leaf parts box outcome)
-    told_bound = record {
-      known = known;
+    told_bound : IsPoolOf parts pool → HasBound parts pool box (outcome_leaf parts pool box outcome)
+    told_bound cuts = record {
+      known = known cuts;
       positive = λ none value least.
           let reached = least.reached in
           let above = positive none reached.0 reached.1 in
@@ -164,8 +165,9 @@ run_leaf leaf names problem cutoff outcome weights are leaf_is = record {
   worth = are.worth;
 }
 
-module _ (parts : Parts) (box : Box) (presolved : Presolved)
-    (whole : IsPresolved parts box presolved) (limits : Limits) (cutoff : Option ℤ) (leaf : Leaf)
+module _ (parts : Parts) (pool : List CutName) (box : Box) (presolved : Presolved)
+    (whole : IsPresolved parts pool box presolved) (limits : Limits) (cutoff : Option ℤ)
+    (leaf : Leaf)
     (run : IsRunLeaf presolved.program presolved.kept cutoff
     (simplex_run presolved.program limits.pivots limits.cells cutoff) leaf) where
   abbrev ended : Problem → Outcome
@@ -176,34 +178,34 @@ module _ (parts : Parts) (box : Box) (presolved : Presolved)
       told_leaf names (weight_in problem (ended problem)) (multipliers_of problem (ended problem))
 
   -- it is that of the run of the box's program
-  pub run_is : leaf ≡ relaxed_leaf parts box limits cutoff
+  pub run_is : leaf ≡ relaxed_leaf parts pool box limits cutoff
   run_is =
       run.is
       ∙ ap (ran_leaf presolved.kept) whole.program
-      ∙ ap (λ names. ran_leaf names (program_of parts box)) whole.kept
+      ∙ ap (λ names. ran_leaf names (program_of parts pool box)) whole.kept
 
-  told : IsJustified (program_of parts box) (ended (program_of parts box))
+  told : IsJustified (program_of parts pool box) (ended (program_of parts pool box))
   told = subst (λ p. IsJustified p (ended p)) whole.program run.justified
 
-  promise : IsBelowLeaf parts box (program_of parts box) (kept_of parts box)
+  promise : IsBelowLeaf parts pool box (program_of parts pool box) (kept_of parts pool box)
   promise =
-      subst (IsBelowLeaf parts box (program_of parts box)) whole.kept
-      (subst (λ p. IsBelowLeaf parts box p presolved.kept) whole.program whole.promise)
+      subst (IsBelowLeaf parts pool box (program_of parts pool box)) whole.kept
+      (subst (λ p. IsBelowLeaf parts pool box p presolved.kept) whole.program whole.promise)
 
   -- it says something
-  pub run_has : HasBound parts box leaf
-  run_has =
-      subst (HasBound parts box) (sym run_is)
-      (told_bound parts box (ended (program_of parts box)) told promise)
+  pub run_has : IsPoolOf parts pool → HasBound parts pool box leaf
+  run_has cuts =
+      subst (HasBound parts pool box) (sym run_is)
+      (told_bound parts pool box (ended (program_of parts pool box)) told promise cuts)
 
   -- where that doesn't reach the cutoff, the box may be split
-  pub run_licensed : IsScenario parts → IsBoxOf parts box → IsTight parts box
-      → IsUnreached parts box leaf cutoff → IsLicensed parts box limits cutoff
-  run_licensed scenario made tight is =
-      licensed parts box limits cutoff scenario made tight told
+  pub run_licensed : IsScenario parts → IsPoolOf parts pool → IsBoxOf parts box → IsTight parts box
+      → IsUnreached parts pool box leaf cutoff → IsLicensed parts pool box limits cutoff
+  run_licensed scenario cuts made tight is =
+      licensed parts pool box limits cutoff scenario cuts made tight told
       (subst (λ p. IsWorthOf p cutoff (ended p)) whole.program run.worth) promise
-      (subst (λ l. IsUnreached parts box l cutoff) run_is is)
+      (subst (λ l. IsUnreached parts pool box l cutoff) run_is is)
 
   pub run_end : (end : End) → end ≡ (ended presolved.program).end
-      → end ≡ end_of parts box limits cutoff
+      → end ≡ end_of parts pool box limits cutoff
   run_end end is = is ∙ ap (λ p. (ended p).end) whole.program

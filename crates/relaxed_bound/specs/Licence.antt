@@ -9,8 +9,9 @@ use Rattle.bytime_model.specs.declared.variables.Var.{Var}
 use Rattle.branch_tree.specs.declared.leaf.Leaf.{Leaf}
 use Rattle.branch_tree.specs.declared.leaf.Leaf.TheVariants.{Dual, Empty, Lag, Unit as UnitLeaf}
 use Rattle.bytime_model.specs.declared.multiplier.Multiplier.{Multiplier}
-use Rattle.valid_cuts.specs.Dual.{IsDualValue}
+use Rattle.dual_sums.specs.Dual.{IsDualValue}
 use Rattle.presolve.specs.Points.{IsRelaxationPoint, relaxation_cost}
+use Rattle.cut_rows.specs.declared.names.CutName.{CutName}
 use Rattle.relaxed_bound.specs.declared.limits.Limits.{Limits}
 use Rattle.relaxed_bound.specs.Relaxed.{run_of}
 
@@ -20,31 +21,33 @@ IsBelowCutoff None cost denominator = Unit {0}
 IsBelowCutoff (Some cutoff) cost denominator = cost ≤ℤ ((cutoff -ℤ pos 1) *ℤ denominator)
 
 -- a point of the relaxation that costs so little
-pub record IsCheapPoint (parts : Parts) (box : Box) (cutoff : Option ℤ) : Type 0 where
+pub record IsCheapPoint (parts : Parts) (pool : List CutName) (box : Box)
+    (cutoff : Option ℤ) : Type 0 where
   pub value : Var → ℤ
   pub denominator : ℤ
-  pub point : IsRelaxationPoint parts box value denominator
+  pub point : IsRelaxationPoint parts pool box value denominator
   pub cheap : IsBelowCutoff cutoff (relaxation_cost parts value denominator) denominator
 
 -- what a Dual leaf comes to by its weight, rounded up, doesn't reach the cutoff
-pub record StaysBelow (parts : Parts) (box : Box) (weight : ℕ) (rows : List Multiplier)
+pub record StaysBelow (parts : Parts) (pool : List CutName) (box : Box) (weight : ℕ)
+    (rows : List Multiplier)
     (cutoff : Option ℤ) : Type 0 where
   pub weighed : 0 < weight
   pub value : ℤ
-  pub least : IsDualValue parts box weight rows value
+  pub least : IsDualValue parts pool box weight rows value
   pub below : IsBelowCutoff cutoff value (pos weight)
 
-abbrev pub IsUnreached : Parts → Box → Leaf → Option ℤ → Type 0
-IsUnreached parts box Empty cutoff = ⊥
-IsUnreached parts box UnitLeaf cutoff = ⊥
-IsUnreached parts box (Dual weight rows) cutoff = StaysBelow parts box weight rows cutoff
-IsUnreached parts box (Lag weight rows) cutoff = ⊥
+abbrev pub IsUnreached : Parts → List CutName → Box → Leaf → Option ℤ → Type 0
+IsUnreached parts pool box Empty cutoff = ⊥
+IsUnreached parts pool box UnitLeaf cutoff = ⊥
+IsUnreached parts pool box (Dual weight rows) cutoff = StaysBelow parts pool box weight rows cutoff
+IsUnreached parts pool box (Lag weight rows) cutoff = ⊥
 
 -- how the run on the box ends
-abbrev pub end_of : Parts → Box → Limits → Option ℤ → End
-end_of parts box limits cutoff = (run_of parts box limits cutoff).end
+abbrev pub end_of : Parts → List CutName → Box → Limits → Option ℤ → End
+end_of parts pool box limits cutoff = (run_of parts pool box limits cutoff).end
 
-abbrev pub IsLicensed : Parts → Box → Limits → Option ℤ → Type 0
-IsLicensed parts box limits cutoff =
-    IsCheapPoint parts box cutoff
-    ⊎ ((end_of parts box limits cutoff ≡ Limit) ⊎ (end_of parts box limits cutoff ≡ Wide))
+abbrev pub IsLicensed : Parts → List CutName → Box → Limits → Option ℤ → Type 0
+IsLicensed parts pool box limits cutoff =
+    IsCheapPoint parts pool box cutoff
+    ⊎ ((end_of parts pool box limits cutoff ≡ Limit) ⊎ (end_of parts pool box limits cutoff ≡ Wide))

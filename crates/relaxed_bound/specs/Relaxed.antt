@@ -9,9 +9,10 @@ use Rattle.bytime_model.specs.declared.names.RowName.{RowName}
 use Rattle.branch_tree.specs.declared.leaf.Leaf.{Leaf}
 use Rattle.branch_tree.specs.declared.leaf.Leaf.TheVariants.{Dual, Empty, Lag, Unit as UnitLeaf}
 use Rattle.bytime_model.specs.declared.multiplier.Multiplier.{Multiplier}
-use Rattle.valid_cuts.specs.Dual.{AreKnown, IsDualValue}
+use Rattle.dual_sums.specs.Dual.{AreKnown, IsDualValue}
 use Rattle.presolve.specs.Leaf.{leaf_rows}
 use Rattle.presolve.specs.Relaxed.{kept_of, program_of}
+use Rattle.cut_rows.specs.declared.names.CutName.{CutName}
 use Rattle.relaxed_bound.specs.declared.limits.Limits.{Limits}
 
 -- the leaf with this weight, and these multipliers of the rows with these names
@@ -19,34 +20,36 @@ abbrev pub told_leaf : List RowName → ℤ → List ℤ → Leaf
 told_leaf names weight multipliers = Dual (unsigned_abs weight) (leaf_rows names multipliers)
 
 -- that of a run of the box's program which ended so
-abbrev pub outcome_leaf : Parts → Box → Outcome → Leaf
-outcome_leaf parts box outcome =
-    let program = program_of parts box in
-    told_leaf (kept_of parts box) (weight_in program outcome) (multipliers_of program outcome)
+abbrev pub outcome_leaf : Parts → List CutName → Box → Outcome → Leaf
+outcome_leaf parts pool box outcome =
+    let program = program_of parts pool box in
+    told_leaf (kept_of parts pool box) (weight_in program outcome) (multipliers_of program outcome)
 
 -- the run on the box within these limits
-abbrev pub run_of : Parts → Box → Limits → Option ℤ → Outcome
-run_of parts box limits cutoff =
-    simplex_run (program_of parts box) limits.pivots limits.cells cutoff
+abbrev pub run_of : Parts → List CutName → Box → Limits → Option ℤ → Outcome
+run_of parts pool box limits cutoff =
+    simplex_run (program_of parts pool box) limits.pivots limits.cells cutoff
 
 -- the leaf that it tells
-abbrev pub relaxed_leaf : Parts → Box → Limits → Option ℤ → Leaf
-relaxed_leaf parts box limits cutoff = outcome_leaf parts box (run_of parts box limits cutoff)
+abbrev pub relaxed_leaf : Parts → List CutName → Box → Limits → Option ℤ → Leaf
+relaxed_leaf parts pool box limits cutoff = outcome_leaf parts pool box
+    (run_of parts pool box limits cutoff)
 
 -- the rows are all there, and with the weight 0 they come to more than 0: so they say something of
 -- the box
-pub record SaysSome (parts : Parts) (box : Box) (weight : ℕ) (rows : List Multiplier)
+pub record SaysSome (parts : Parts) (pool : List CutName) (box : Box) (weight : ℕ)
+    (rows : List Multiplier)
     : Type 0 where
-  pub known : AreKnown parts rows
-  pub positive : weight ≡ 0 → (value : ℤ) → IsDualValue parts box weight rows value
+  pub known : AreKnown parts pool rows
+  pub positive : weight ≡ 0 → (value : ℤ) → IsDualValue parts pool box weight rows value
       → pos 1 ≤ℤ value
 
 -- the same of a leaf, which is a Dual one
-abbrev pub HasBound : Parts → Box → Leaf → Type 0
-HasBound parts box Empty = ⊥
-HasBound parts box UnitLeaf = ⊥
-HasBound parts box (Dual weight rows) = SaysSome parts box weight rows
-HasBound parts box (Lag weight rows) = ⊥
+abbrev pub HasBound : Parts → List CutName → Box → Leaf → Type 0
+HasBound parts pool box Empty = ⊥
+HasBound parts pool box UnitLeaf = ⊥
+HasBound parts pool box (Dual weight rows) = SaysSome parts pool box weight rows
+HasBound parts pool box (Lag weight rows) = ⊥
 
 -- A leaf has the run's weight, and comes to no less than the value of the run's multipliers: that
 -- of the last tableau, or after Infeasible the right side, with its sign turned, of the row that no

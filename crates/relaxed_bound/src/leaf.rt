@@ -2,7 +2,8 @@
 ghost use Rattle.std.specs.Prelude.{◌≡◌, [], IfOk, IfSome};
 ghost use Rattle.branch_tree.specs.declared.leaf.Leaf.TheVariants.{Dual};
 ghost use Rattle.branch_tree.specs.Leaves.{IsInRange};
-ghost use Rattle.bytime_model.specs.Table.{IsTableFor};
+ghost use Rattle.cut_rows.specs.Pools.{IsPoolOf};
+ghost use Rattle.cut_rows.specs.Table.{IsTableFor};
 ghost use Rattle.flow_types.specs.Scenario.{parts_of};
 ghost use Rattle.relaxed_bound.specs.Licence.{IsLicensed, IsUnreached, end_of};
 ghost use Rattle.relaxed_bound.specs.Relaxed.{HasBound, relaxed_leaf, told_leaf};
@@ -14,13 +15,13 @@ ghost use Rattle.time_windows.specs.Tight.{IsTight};
 
 use crate::limits::Limits;
 use branch_tree::Leaf;
-use bytime_model::{Multipliers, RowNames, Table, Vars};
+use bytime_model::{Multipliers, RowNames, Vars};
+use cut_rows::{Pool, Table};
 use flow_types::{OutOfMemory, Scenario};
 use presolve::{Flags, Presolved, Refused, leaf_of, program_within};
 use scaled_simplex::{End, Fractions, Numerators, Program, Run, Solver, Weights};
 use std::alloc::Global;
 use time_windows::Boxes;
-use valid_cuts::Pool;
 
 /// What the relaxation of a box tells.
 #[derive(Debug, Drop)]
@@ -208,22 +209,24 @@ pub fn relax(
     cutoff: Option<i64>,
 ) -> Result<Relaxed, OutOfMemory>
     requires table { IsTableFor (parts_of s.now) table.now }
+    requires pool { IsPoolOf (parts_of s.now) pool.now }
     requires made { IsMadeFor (parts_of s.now) boxes.now }
     requires tight { IsTight (parts_of s.now) (box_of boxes.now) }
     ensures leaf { IfOk result (λ relaxed. relaxed.leaf
-        ≡ relaxed_leaf (parts_of s.now) (box_of boxes.now) limits cutoff) }
+        ≡ relaxed_leaf (parts_of s.now) pool.now (box_of boxes.now) limits cutoff) }
     ensures end { IfOk result (λ relaxed. relaxed.end
-        ≡ end_of (parts_of s.now) (box_of boxes.now) limits cutoff) }
+        ≡ end_of (parts_of s.now) pool.now (box_of boxes.now) limits cutoff) }
     ensures range { IfOk result (λ relaxed. IsInRange relaxed.leaf) }
-    ensures some { IfOk result (λ relaxed. HasBound (parts_of s.now) (box_of boxes.now)
+    ensures some { IfOk result (λ relaxed. HasBound (parts_of s.now) pool.now (box_of boxes.now)
         relaxed.leaf) }
     ensures point { IfOk result (λ relaxed. IfSome relaxed.point
-        (IsPointIn (parts_of s.now) (box_of boxes.now))) }
-    ensures told { IfOk result (λ relaxed. IsToldPoint (parts_of s.now) (box_of boxes.now) limits
+        (IsPointIn (parts_of s.now) pool.now (box_of boxes.now))) }
+    ensures told { IfOk result (λ relaxed. IsToldPoint (parts_of s.now) pool.now
+        (box_of boxes.now) limits
         cutoff relaxed.point) }
     ensures licensed { IfOk result (λ relaxed.
-        IsUnreached (parts_of s.now) (box_of boxes.now) relaxed.leaf cutoff
-        → IsLicensed (parts_of s.now) (box_of boxes.now) limits cutoff) }
+        IsUnreached (parts_of s.now) pool.now (box_of boxes.now) relaxed.leaf cutoff
+        → IsLicensed (parts_of s.now) pool.now (box_of boxes.now) limits cutoff) }
 {
     match program_within(alloc, s, pool, boxes, table, limits.cells) {
         Ok(presolved) => {

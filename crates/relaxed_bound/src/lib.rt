@@ -14,8 +14,9 @@
 //!         _ => println!("it may be split, as by {:?}", relaxed.point),
 //!     }
 //!
-//! With a cutoff the run ends as soon as its value, rounded up, has reached it: a search that wants
-//! no plan of that cost or more needs no better bound.
+//! The rows of the pool's cuts stand behind those of the day, so a leaf may name them by their
+//! positions. With a cutoff the run ends as soon as its value, rounded up, has reached it: a search
+//! that wants no plan of that cost or more needs no better bound.
 //!
 //! The definitions stand in `specs/`: `Relaxed` (the leaf that the run of the box's program tells),
 //! `Point` (its point) and `Licence` (why a box may be split). `Telling` serves the proof.

@@ -13,7 +13,7 @@ pub add_rows-requires-clause-few : goal.add_rows-requires-clause-few
 add_rows-requires-clause-few c =
     let part = part_rows (parts_of c.args.s.now) c.args.kind in
     let i = c.loop-position.position in
-    adds_room (parts_of c.args.s.now) (box_of c.args.boxes.now)
+    adds_room (parts_of c.args.s.now) c.args.frame.now.pool.now (box_of c.args.boxes.now)
     (flat_map part (range_with_len 0 i)) c.items.result.now
     (flat_map part (range_with_len 0 (i + 1))) (kind_rows (parts_of c.args.s.now) c.args.kind)
     c.args.draft.now c.loop-position.draft most_indices c.loop-position.invariant
@@ -29,7 +29,7 @@ returns-in_err-add_rows-clause-wide c =
     let p = err_from_is_err_and c.from_residual-in_err-add_rows.result
     c.from_residual-in_err-add_rows.ensures.1 in
     rw (p.1, p.2)
-    (adds_wide (parts_of c.args.s.now) (box_of c.args.boxes.now)
+    (adds_wide (parts_of c.args.s.now) c.args.frame.now.pool.now (box_of c.args.boxes.now)
     (flat_map part (range_with_len 0 i)) c.items.result.now
     (flat_map part (range_with_len 0 (i + 1))) (kind_rows (parts_of c.args.s.now) c.args.kind)
     c.args.draft.now c.loop-position.draft c.in_err-add_rows.field-0.0 c.loop-position.invariant
@@ -42,7 +42,7 @@ pub loop-position-preserved : goal.loop-position-preserved
 loop-position-preserved c =
     let part = part_rows (parts_of c.args.s.now) c.args.kind in
     let i = c.loop-position.position in
-    adds_both (parts_of c.args.s.now) (box_of c.args.boxes.now)
+    adds_both (parts_of c.args.s.now) c.args.frame.now.pool.now (box_of c.args.boxes.now)
     (flat_map part (range_with_len 0 i)) c.items.result.now
     (flat_map part (range_with_len 0 (i + 1))) c.args.draft.now c.loop-position.draft
     c.add_rows.new.draft c.loop-position.invariant c.in_ok-add_rows.ensures.adds

@@ -7,6 +7,6 @@ use Rattle.presolve.proofs.kinds.add_kind.Given as goal
 
 abbrev pub invariant-loop-position : goal.invariant-loop-position
 invariant-loop-position l =
-    AddsNames (parts_of l.s) (box_of l.boxes)
+    AddsNames (parts_of l.s) l.frame.pool.now (box_of l.boxes)
     (flat_map (part_rows (parts_of l.s) l.kind) (range_with_len 0 l.position)) l.initial.draft
     l.draft

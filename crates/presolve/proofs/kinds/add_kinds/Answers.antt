@@ -13,7 +13,8 @@ add_kind-requires-clause-few c =
     let parts = parts_of c.args.s.now in
     let kinds = c.args.kinds.now in
     let i = c.loop-kind.kind-index in
-    adds_room parts (box_of c.args.boxes.now) (kinds_rows parts (take i kinds))
+    adds_room parts c.args.frame.now.pool.now (box_of c.args.boxes.now)
+    (kinds_rows parts (take i kinds))
     (kind_rows parts (get_or kinds i _)) (kinds_rows parts (take (i + 1) kinds))
     (kinds_rows parts kinds) c.args.draft.now c.loop-kind.draft most_indices
     c.loop-kind.invariant (next_taken (kind_rows parts) kinds i _ c.loop-kind-test.true)
@@ -26,7 +27,8 @@ returns-in_err-add_kind-clause-wide c =
     let i = c.loop-kind.kind-index in
     let p = err_from_is_err_and c.from_residual.result c.from_residual.ensures.1 in
     rw (p.1, p.2)
-    (adds_wide parts (box_of c.args.boxes.now) (kinds_rows parts (take i kinds))
+    (adds_wide parts c.args.frame.now.pool.now (box_of c.args.boxes.now)
+    (kinds_rows parts (take i kinds))
     (kind_rows parts (get_or kinds i _)) (kinds_rows parts (take (i + 1) kinds))
     (kinds_rows parts kinds) c.args.draft.now c.loop-kind.draft c.in_err-add_kind.field-0.0
     c.loop-kind.invariant (next_taken (kind_rows parts) kinds i _ c.loop-kind-test.true)
@@ -37,7 +39,8 @@ loop-kind-preserved c =
     let parts = parts_of c.args.s.now in
     let kinds = c.args.kinds.now in
     let i = c.loop-kind.kind-index in
-    adds_both parts (box_of c.args.boxes.now) (kinds_rows parts (take i kinds))
+    adds_both parts c.args.frame.now.pool.now (box_of c.args.boxes.now)
+    (kinds_rows parts (take i kinds))
     (kind_rows parts (get_or kinds i _)) (kinds_rows parts (take (i + 1) kinds))
     c.args.draft.now c.loop-kind.draft c.add_kind.new.draft c.loop-kind.invariant
     c.in_ok-add_kind.ensures.adds

@@ -6,5 +6,5 @@ use Rattle.presolve.proofs.kinds.add_kinds.Given as goal
 
 abbrev pub invariant-loop-kind : goal.invariant-loop-kind
 invariant-loop-kind l =
-    AddsNames l.fn.s.parts (box_of l.fn.boxes)
+    AddsNames l.fn.s.parts l.fn.frame.pool.now (box_of l.fn.boxes)
     (kinds_rows l.fn.s.parts (take l.kind-index l.fn.kinds)) l.fn.draft l.draft

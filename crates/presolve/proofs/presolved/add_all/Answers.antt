@@ -3,28 +3,28 @@ use Rattle.time_windows.specs.Held.{box_of}
 use Rattle.presolve.proofs.ProgramFacts.{kept_is, ones_room, rows_are, rows_room}
 use Rattle.presolve.proofs.presolved.add_all.Goals as goal
 
-pub add_all_kinds-requires-clause-few : goal.add_all_kinds-requires-clause-few
-add_all_kinds-requires-clause-few c =
-    rows_room (parts_of c.args.s.now) (box_of c.args.boxes.now) c.args.count
-    c.args.draft.now.program c.args.s.now.valid c.requires.columns c.requires.count
-    c.requires.rows
+pub add_all_names-requires-clause-few : goal.add_all_names-requires-clause-few
+add_all_names-requires-clause-few c =
+    rows_room (parts_of c.args.s.now) c.args.frame.now.pool.now (box_of c.args.boxes.now)
+    c.args.count c.args.draft.now.program c.args.s.now.valid c.requires.framed.cuts
+    c.requires.columns c.requires.count c.requires.rows
 
 pub add_ones-requires-clause-few : goal.add_ones-requires-clause-few
 add_ones-requires-clause-few c =
-    ones_room (parts_of c.args.s.now) (box_of c.args.boxes.now) c.args.draft.now.kept
-    c.add_all_kinds.new.draft.kept c.args.count c.args.draft.now.program
-    c.add_all_kinds.new.draft.program c.args.s.now.valid c.in_ok-add_all_kinds.ensures.adds.rows
-    c.requires.rows c.requires.columns c.requires.count
+    ones_room (parts_of c.args.s.now) c.args.frame.now.pool.now (box_of c.args.boxes.now)
+    c.args.draft.now.kept c.add_all_names.new.draft.kept c.args.count c.args.draft.now.program
+    c.add_all_names.new.draft.program c.args.s.now.valid c.requires.framed.cuts
+    c.in_ok-add_all_names.ensures.adds.rows c.requires.rows c.requires.columns c.requires.count
 
 pub returns-clause-program : goal.returns-clause-program
 returns-clause-program c =
-    rows_are (parts_of c.args.s.now) (box_of c.args.boxes.now) c.args.draft.now.kept
-    c.add_all_kinds.new.draft.kept c.args.count c.args.draft.now.program
-    c.add_all_kinds.new.draft.program c.add_ones.new.program
-    c.in_ok-add_all_kinds.ensures.adds.rows c.in_ok-add_ones.ensures c.requires.count
+    rows_are (parts_of c.args.s.now) c.args.frame.now.pool.now (box_of c.args.boxes.now)
+    c.args.draft.now.kept c.add_all_names.new.draft.kept c.args.count c.args.draft.now.program
+    c.add_all_names.new.draft.program c.add_ones.new.program
+    c.in_ok-add_all_names.ensures.adds.rows c.in_ok-add_ones.ensures c.requires.count
 
 pub returns-clause-kept : goal.returns-clause-kept
 returns-clause-kept c =
-    kept_is (parts_of c.args.s.now) (box_of c.args.boxes.now) c.args.draft.now.kept
-    c.add_all_kinds.new.draft.kept c.args.draft.now.program c.add_all_kinds.new.draft.program
-    c.in_ok-add_all_kinds.ensures.adds.rows c.requires.none
+    kept_is (parts_of c.args.s.now) c.args.frame.now.pool.now (box_of c.args.boxes.now)
+    c.args.draft.now.kept c.add_all_names.new.draft.kept c.args.draft.now.program
+    c.add_all_names.new.draft.program c.in_ok-add_all_names.ensures.adds.rows c.requires.none

@@ -7,7 +7,8 @@ use Rattle.presolve.proofs.presolved.base_of.Goals as goal
 pub returns-clause-frame : goal.returns-clause-frame
 returns-clause-frame c = record {
   numbers = c.in_ok-numbers.ensures;
-  visits = c.requires.table.visits;
+  table = c.requires.table;
+  cuts = c.requires.pool;
   flips = flips_are (parts_of c.args.s.now) (box_of c.args.boxes.now)
       c.in_ok-costs.costs.values.items c.in_ok-costs.costs.constant c.in_ok-costs.ensures
       c.in_ok-flips.flips.items

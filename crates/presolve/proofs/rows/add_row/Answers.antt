@@ -6,11 +6,11 @@ use Rattle.presolve.proofs.rows.add_row.Goals as goal
 
 pub add_landed-requires-clause-row : goal.add_landed-requires-clause-row
 add_landed-requires-clause-row c =
-    landed_row_is (parts_of c.args.s.now) (box_of c.args.boxes.now) c.args.name
-    c.land_row.new.room.gathering.entries c.in_ok-limit.limit c.in_ok-limit.ensures
+    landed_row_is (parts_of c.args.s.now) c.args.frame.now.pool.now (box_of c.args.boxes.now)
+    c.args.name c.land_row.new.room.gathering.entries c.in_ok-limit.limit c.in_ok-limit.ensures
 
 pub add_landed-requires-clause-within : goal.add_landed-requires-clause-within
 add_landed-requires-clause-within c =
-    landed_within (parts_of c.args.s.now) (box_of c.args.boxes.now) c.args.name
-    c.land_row.new.room.gathering.entries c.in_ok-limit.limit (columns c.args.draft.now.program)
-    c.in_ok-limit.ensures c.requires.columns
+    landed_within (parts_of c.args.s.now) c.args.frame.now.pool.now (box_of c.args.boxes.now)
+    c.args.name c.land_row.new.room.gathering.entries c.in_ok-limit.limit
+    (columns c.args.draft.now.program) c.in_ok-limit.ensures c.requires.columns

@@ -10,14 +10,15 @@ use Rattle.presolve.proofs.rows.add_rows.Goals as goal
 
 pub add_row-requires-clause-few : goal.add_row-requires-clause-few
 add_row-requires-clause-few c =
-    rows_room (parts_of c.args.s.now) (box_of c.args.boxes.now) c.args.names.now
-    c.loop-name.name-index c.args.draft.now.program c.loop-name.draft.program
+    rows_room (parts_of c.args.s.now) c.args.frame.now.pool.now (box_of c.args.boxes.now)
+    c.args.names.now c.loop-name.name-index c.args.draft.now.program c.loop-name.draft.program
     c.args.draft.now.kept c.loop-name.draft.kept most_indices c.loop-name-test.true
     c.loop-name.invariant.rows c.requires.few
 
 pub returns-in_err-add_row-clause-wide : goal.returns-in_err-add_row-clause-wide
 returns-in_err-add_row-clause-wide c =
-    let part = row_entries (parts_of c.args.s.now) (box_of c.args.boxes.now) in
+    let part = row_entries (parts_of c.args.s.now) c.args.frame.now.pool.now
+    (box_of c.args.boxes.now) in
     let names = c.args.names.now in
     let i = c.loop-name.name-index in
     let p = err_from_is_err_and c.from_residual.result c.from_residual.ensures.1 in
@@ -29,13 +30,15 @@ returns-in_err-add_row-clause-wide c =
 
 pub loop-name-preserved : goal.loop-name-preserved
 loop-name-preserved c =
-    let part = row_entries (parts_of c.args.s.now) (box_of c.args.boxes.now) in
+    let part = row_entries (parts_of c.args.s.now) c.args.frame.now.pool.now
+    (box_of c.args.boxes.now) in
     let names = c.args.names.now in
     let i = c.loop-name.name-index in
     record {
-      rows = rows_more (parts_of c.args.s.now) (box_of c.args.boxes.now) names i _
-          c.args.draft.now.program c.loop-name.draft.program c.add_row.new.draft.program
-          c.args.draft.now.kept c.loop-name.draft.kept c.add_row.new.draft.kept
+      rows = rows_more (parts_of c.args.s.now) c.args.frame.now.pool.now
+          (box_of c.args.boxes.now) names i _ c.args.draft.now.program
+          c.loop-name.draft.program c.add_row.new.draft.program c.args.draft.now.kept
+          c.loop-name.draft.kept c.add_row.new.draft.kept
           c.loop-name-test.true c.loop-name.invariant.rows c.in_ok-add_row.ensures.row;
       counted = counted_both (sum_by part (take i names)) (part (get_or names i _))
           (sum_by part (take (i + 1) names)) c.args.draft.now.tally c.loop-name.draft.tally

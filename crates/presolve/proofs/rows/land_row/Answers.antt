@@ -9,10 +9,10 @@ use Rattle.presolve.proofs.rows.land_row.Goals as goal
 pub returns : goal.returns
 returns c =
     let less : to_z w64 (of_z w64 c.less.result)
-    ≡ c.fill_with.new.self.limit -ℤ c.land.new.self.fixed =
+    ≡ c.fill_row.new.buffer.limit -ℤ c.land.new.self.fixed =
     omega (arith, ints, c.less.ensures, c.limit.ensures, c.fixed.ensures) in
-    landed (parts_of c.args.s.now) c.args.name c.fill_with.new.self
-    (c.fill_with.ensures.row (c.fill_with.ensures.told ∙ c.requires.row)) (box_of c.args.boxes.now)
-    c.land.new.self (to_z w64 (of_z w64 c.less.result)) c.args.s.now.valid
+    landed (parts_of c.args.s.now) c.args.frame.now.pool.now c.args.name c.fill_row.new.buffer
+    (c.fill_row.ensures.row (c.fill_row.ensures.told ∙ c.requires.row)) (box_of c.args.boxes.now)
+    c.land.new.self (to_z w64 (of_z w64 c.less.result)) c.args.s.now.valid c.requires.row
     (subst (λ terms. IsLanded (parts_of c.args.s.now) (box_of c.args.boxes.now) terms
     c.land.new.self) c.terms.ensures c.in_ok-land.ensures) less

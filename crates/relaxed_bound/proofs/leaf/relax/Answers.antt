@@ -8,13 +8,13 @@ use Rattle.relaxed_bound.proofs.leaf.relax.Goals as goal
 
 pub returns-in_ok-leaf-in-Ok-clause-some : goal.returns-in_ok-leaf-in-Ok-clause-some
 returns-in_ok-leaf-in-Ok-clause-some c =
-    run_has (parts_of c.args.s.now) (box_of c.args.boxes.now) c.in-Ok.presolved
+    run_has (parts_of c.args.s.now) c.args.pool.now (box_of c.args.boxes.now) c.in-Ok.presolved
     c.in-Ok.ensures.presolved c.args.limits c.args.cutoff c.in_ok-leaf-in-Ok.field-0.leaf
-    c.in_ok-leaf-in-Ok.ensures.leaf
+    c.in_ok-leaf-in-Ok.ensures.leaf c.requires.pool
 
 pub returns-in_ok-leaf-in-Ok-clause-told : goal.returns-in_ok-leaf-in-Ok-clause-told
 returns-in_ok-leaf-in-Ok-clause-told c =
-    point_told (parts_of c.args.s.now) (box_of c.args.boxes.now) c.in-Ok.presolved
+    point_told (parts_of c.args.s.now) c.args.pool.now (box_of c.args.boxes.now) c.in-Ok.presolved
     c.in-Ok.ensures.presolved c.args.limits c.args.cutoff c.in_ok-leaf-in-Ok.field-0.fractions
     c.point_in-point.result c.in_ok-leaf-in-Ok.ensures.fractions c.point_in-point.ensures
 
@@ -22,6 +22,7 @@ pub returns-in-Err-Wide-clause-leaf : goal.returns-in-Err-Wide-clause-leaf
 returns-in-Err-Wide-clause-leaf c =
     search (
       rules,
-      bare_is (parts_of c.args.s.now) (box_of c.args.boxes.now) c.args.limits c.args.cutoff
+      bare_is (parts_of c.args.s.now) c.args.pool.now
+          (box_of c.args.boxes.now) c.args.limits c.args.cutoff
           c.bare_leaf.result c.bare_leaf.ensures,
     )
