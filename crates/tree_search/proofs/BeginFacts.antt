@@ -5,6 +5,7 @@ use Rattle.flow_types.specs.Valid.{IsScenario}
 use Rattle.time_windows.specs.Boxes.{Box}
 use Rattle.time_windows.specs.Held.{Held, IsMadeFor, box_of}
 use Rattle.time_windows.specs.Tight.{IsTight}
+use Rattle.cut_rows.specs.declared.names.CutName.{CutName}
 use Rattle.tree_search.specs.declared.draft.RecordDraft.{RecordDraft}
 use Rattle.tree_search.specs.declared.found.Budget.{Budget}
 use Rattle.branch_tree.specs.declared.walk.Step.{Step}
@@ -14,7 +15,8 @@ use Rattle.tree_search.specs.Visits.{IsVisited}
 use Rattle.branch_tree.specs.Paths.{Path, top_box, top_of}
 use Rattle.tree_search.proofs.VisitFacts.{first_best, first_complete, first_reached, visited_best, visited_first, visited_same, visited_tried}
 
-module _ (parts : Parts) (budget : Budget) (held : Held) (old new : RecordDraft)
+module _ (parts : Parts) (pool : List CutName) (budget : Budget) (held : Held)
+    (old new : RecordDraft)
     (valid : IsScenario parts) (some : 0 < budget.nodes) (made : IsMadeFor parts held)
     (tight : IsTight parts (box_of held)) (plans : old.plans ≡ []) (nodes : old.nodes ≡ [])
     (counts : old.counts ≡ []) (bounds : old.bounds ≡ []) (best : old.best ≡ None)
@@ -22,7 +24,7 @@ module _ (parts : Parts) (budget : Budget) (held : Held) (old new : RecordDraft)
   abbrev here : Path
   here = record { present = held; above = []; steps = [] }
 
-  at_root : IsSearching parts budget here new
+  at_root : IsSearching parts pool budget here new
   at_root = record {
     arrived = record {
       made = made;
@@ -35,10 +37,10 @@ module _ (parts : Parts) (budget : Budget) (held : Held) (old new : RecordDraft)
       best = visited_best parts (box_of held) old new
           (first_best parts (box_of held) old new plans nodes counts bounds best) visited;
       whole = λ boxes pending.
-          subst (λ (bs : List Box). Completes parts budget (box_of held) new
+          subst (λ (bs : List Box). Completes parts pool budget (box_of held) new
           (box_of held ∷ bs)) (sym pending)
           (first_complete parts (box_of held) old new plans nodes counts bounds best
-          budget visited);
+          pool budget visited);
       room = omega (arith, some, none);
       unspent = λ left.
           first_reached parts (box_of held) old new plans nodes counts bounds best visited;
@@ -50,19 +52,19 @@ module _ (parts : Parts) (budget : Budget) (held : Held) (old new : RecordDraft)
       none = ap length ((visited_same parts (box_of held) old new visited).nodes ∙ nodes)
 
   pub begun_at : (path : Path) → path.present ≡ held → path.above ≡ [] → path.steps ≡ []
-      → IsSearching parts budget path new
+      → IsSearching parts pool budget path new
   begun_at path present above steps =
-      subst (λ (h : Held). IsSearching parts budget (record {
+      subst (λ (h : Held). IsSearching parts pool budget (record {
         present = h;
         above = path.above;
         steps = path.steps;
       }) new) (sym present)
-      (subst (λ (l : List Held). IsSearching parts budget (record {
+      (subst (λ (l : List Held). IsSearching parts pool budget (record {
         present = held;
         above = l;
         steps = path.steps;
       }) new) (sym above)
-      (subst (λ (l : List Step). IsSearching parts budget (record {
+      (subst (λ (l : List Step). IsSearching parts pool budget (record {
         present = held;
         above = [];
         steps = l;

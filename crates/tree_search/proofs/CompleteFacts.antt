@@ -11,10 +11,11 @@ use Rattle.branch_tree.specs.declared.leaf.Leaf.{Leaf as LeafKind}
 use Rattle.branch_tree.specs.declared.tree.TreeNode.{TreeNode}
 use Rattle.branch_tree.specs.declared.tree.TreeNode.TheVariants.{Leaf, Split}
 use Rattle.branch_tree.specs.Forests.{AreSides, IsTreeOn, Leads}
+use Rattle.cut_rows.specs.declared.names.CutName.{CutName}
 use Rattle.tree_search.specs.declared.found.Budget.{Budget}
 use Rattle.tree_search.specs.declared.draft.RecordDraft.{RecordDraft}
-use Rattle.tree_search.specs.Drafts.{Completes, IsNoted, IsSameTree}
-use Rattle.tree_search.specs.Nodes.{IsLawfulWith, IsNodeAt, cost_of, cutoff_after}
+use Rattle.tree_search.specs.Drafts.{Completes, IsDrafted, IsDraftedAt, IsNoted, IsSameTree}
+use Rattle.tree_search.specs.Nodes.{cost_of, cutoff_after}
 
 abbrev Plan : Type 0
 Plan = List (List Stop)
@@ -33,9 +34,9 @@ module _ (parts : Parts) where
   cutoff_more plans more (suc k) within =
       ap (cost_of parts) (got_left plans more k (omega (arith, within)))
 
-module _ (parts : Parts) (budget : Budget) (top : Box) where
+module _ (parts : Parts) (pool : List CutName) (budget : Budget) (top : Box) where
   abbrev IsAtIn : List Plan → List ℕ → List Bound → ℕ → Box → TreeNode → Type 0
-  IsAtIn plans counts bounds = IsNodeAt parts budget plans counts bounds
+  IsAtIn plans counts bounds = IsDraftedAt parts pool budget plans counts bounds
 
   abbrev CompletesFrom : List Plan → List TreeNode → List ℕ → List Bound → List Box → Type 0
   CompletesFrom plans nodes counts bounds boxes =
@@ -68,7 +69,8 @@ module _ (parts : Parts) (budget : Budget) (top : Box) where
     node_completes : (plans : List Plan) (nodes : List TreeNode) (counts : List ℕ)
         (bounds : List Bound) (bound : Bound) → length counts ≡ length nodes
         → length bounds ≡ length nodes
-        → IsLawfulWith parts budget (cutoff_after parts plans (length plans)) bound box node
+        → IsDrafted parts pool budget (length nodes) (cutoff_after parts plans (length plans)) bound
+        box node
         → CompletesFrom plans nodes counts bounds before
         → CompletesFrom plans (nodes ++ node ∷ []) (counts ++ length plans ∷ [])
         (bounds ++ bound ∷ []) after
@@ -116,14 +118,14 @@ module _ (parts : Parts) (budget : Budget) (top : Box) where
 
         here : IsAtIn (plans ++ more_plans) all_counts all_bounds (length nodes) box node
         here =
-            subst (λ c. IsLawfulWith parts budget c
+            subst (λ c. IsDrafted parts pool budget (length nodes) c
             (slice_index_or all_bounds (length nodes) NoPlan) box node) (sym cutoff_here)
-            (subst (λ b. IsLawfulWith parts budget (cutoff_after parts plans (length plans)) b box
-            node) (sym bound_here) is)
+            (subst (λ b. IsDrafted parts pool budget (length nodes)
+            (cutoff_after parts plans (length plans)) b box node) (sym bound_here) is)
 
   -- no node so far
   pub none_complete : (draft : RecordDraft) → draft.nodes ≡ []
-      → Completes parts budget top draft (top ∷ [])
+      → Completes parts pool budget top draft (top ∷ [])
   none_complete draft none plans counts bounds nodes leads =
       subst (λ (ns : List TreeNode).
       Leads parts (IsAtIn (draft.plans ++ plans) (draft.counts ++ counts) (draft.bounds ++ bounds))
@@ -133,7 +135,7 @@ module _ (parts : Parts) (budget : Budget) (top : Box) where
       (ns ++ nodes)) (sym none) (λ is. is) leads
 
   -- no box is left
-  pub all_complete : (draft : RecordDraft) → Completes parts budget top draft []
+  pub all_complete : (draft : RecordDraft) → Completes parts pool budget top draft []
       → IsTreeOn parts (IsAtIn draft.plans draft.counts draft.bounds) top draft.nodes
   all_complete draft completes =
       subst (λ ps. IsTreeOn parts (IsAtIn ps draft.counts draft.bounds) top draft.nodes)
@@ -149,7 +151,7 @@ module _ (parts : Parts) (budget : Budget) (top : Box) where
   -- the same tree with more plans
   pub same_complete : (old new : RecordDraft) (later : List Plan) (boxes : List Box)
       → new.plans ≡ old.plans ++ later → IsSameTree old new
-      → Completes parts budget top old boxes → Completes parts budget top new boxes
+      → Completes parts pool budget top old boxes → Completes parts pool budget top new boxes
   same_complete old new later boxes plans same completes =
       subst (λ ps. CompletesFrom ps new.nodes new.counts new.bounds boxes) (sym plans)
       (subst (λ ns. CompletesFrom (old.plans ++ later) ns new.counts new.bounds boxes)
@@ -166,9 +168,10 @@ module _ (parts : Parts) (budget : Budget) (top : Box) where
       → Leads parts IsAt number before (node ∷ more) [])
       → (old new : RecordDraft) (bound : Bound) → length old.counts ≡ length old.nodes
       → length old.bounds ≡ length old.nodes
-      → IsLawfulWith parts budget (cutoff_after parts old.plans (length old.plans)) bound box node
-      → IsNoted node bound old new → Completes parts budget top old before
-      → Completes parts budget top new after
+      → IsDrafted parts pool budget (length old.nodes)
+      (cutoff_after parts old.plans (length old.plans)) bound box node
+      → IsNoted node bound old new → Completes parts pool budget top old before
+      → Completes parts pool budget top new after
   noted_complete box node before after join old new bound counted bounded is noted completes =
       subst (λ ps. CompletesFrom ps new.nodes new.counts new.bounds after) (sym noted.plans)
       (subst (λ ns. CompletesFrom old.plans ns new.counts new.bounds after) (sym noted.nodes)
@@ -183,10 +186,11 @@ module _ (parts : Parts) (budget : Budget) (top : Box) where
   pub leaf_complete : (box : Box) (leaf : LeafKind) (boxes : List Box) (old new : RecordDraft)
       (bound : Bound) → length old.counts ≡ length old.nodes
       → length old.bounds ≡ length old.nodes
-      → IsLawfulWith parts budget (cutoff_after parts old.plans (length old.plans)) bound box
+      → IsDrafted parts pool budget (length old.nodes)
+      (cutoff_after parts old.plans (length old.plans)) bound box
       (Leaf leaf)
-      → IsNoted (Leaf leaf) bound old new → Completes parts budget top old (box ∷ boxes)
-      → Completes parts budget top new boxes
+      → IsNoted (Leaf leaf) bound old new → Completes parts pool budget top old (box ∷ boxes)
+      → Completes parts pool budget top new boxes
   leaf_complete box leaf boxes =
       noted_complete box (Leaf leaf) (box ∷ boxes) boxes
       (λ IsAt number more here rest. (here, rest))
@@ -196,11 +200,12 @@ module _ (parts : Parts) (budget : Budget) (top : Box) where
       (boxes : List Box) (old new : RecordDraft) (bound : Bound)
       → AreSides parts flight node time box early late → length old.counts ≡ length old.nodes
       → length old.bounds ≡ length old.nodes
-      → IsLawfulWith parts budget (cutoff_after parts old.plans (length old.plans)) bound box
+      → IsDrafted parts pool budget (length old.nodes)
+      (cutoff_after parts old.plans (length old.plans)) bound box
       (Split flight node time named)
       → IsNoted (Split flight node time named) bound old new
-      → Completes parts budget top old (box ∷ boxes)
-      → Completes parts budget top new (early ∷ late ∷ boxes)
+      → Completes parts pool budget top old (box ∷ boxes)
+      → Completes parts pool budget top new (early ∷ late ∷ boxes)
   split_complete box early late flight node time named boxes old new bound sides =
       noted_complete box (Split flight node time named) (box ∷ boxes) (early ∷ late ∷ boxes)
       (λ IsAt number more here rest. (here, (early, late, sides, rest))) old new bound

@@ -18,6 +18,7 @@ use Rattle.branch_tree.specs.declared.tree.TreeNode.{TreeNode}
 use Rattle.branch_tree.specs.declared.tree.TreeNode.TheVariants.{Leaf, Split}
 use Rattle.branch_tree.specs.Forests.{AreSides, Leads}
 use Rattle.flow_types.specs.Bounds.{is_reached}
+use Rattle.cut_rows.specs.declared.names.CutName.{CutName}
 use Rattle.tree_search.specs.declared.found.Budget.{Budget}
 use Rattle.tree_search.specs.Nodes.{HasChoice, IsLeafNode, IsNodeAt, cutoff_after}
 use Rattle.tree_search.proofs.OptionFacts.{branching_there, choice_there, each_some, node_there}
@@ -33,15 +34,16 @@ reached_none : (cutoff : Option ℤ) (bound : Bound) → bound ≡ NoPlan
 reached_none cutoff bound none = subst (λ b. is_reached cutoff b ≡ true) (sym none) refl
 
 -- a leaf's bound reaches its cutoff, or its box has a choice left
-settled : (parts : Parts) (budget : Budget) (cutoff : Option ℤ) (bound : Bound) (box : Box)
-    (leaf : LeafKind) → IsLeafNode parts budget cutoff bound box leaf
+settled : (parts : Parts) (pool : List CutName) (budget : Budget) (cutoff : Option ℤ)
+    (bound : Bound) (box : Box)
+    (leaf : LeafKind) → IsLeafNode parts pool budget cutoff bound box leaf
     → (is_reached cutoff bound ≡ true) ⊎ IsUnsettled box
-settled parts budget cutoff bound box Empty node =
+settled parts pool budget cutoff bound box Empty node =
     inl (reached_none cutoff bound node.bound_is.0)
-settled parts budget cutoff bound box UnitLeaf node = inl node.kind
-settled parts budget cutoff bound box (Dual weight rows) node =
+settled parts pool budget cutoff bound box UnitLeaf node = inl node.kind
+settled parts pool budget cutoff bound box (Dual weight rows) node =
     inr (record { live = node.kind.box_is.live; choice = node.kind.box_is.choice })
-settled parts budget cutoff bound box (Lag weight rows) node =
+settled parts pool budget cutoff bound box (Lag weight rows) node =
     inr (record { live = node.kind.box_is.live; choice = node.kind.box_is.choice })
 
 abbrev AreTight : Parts → List Box → Type 0
@@ -121,10 +123,11 @@ module _ (parts : Parts) (valid : IsScenario parts) (nodes : ℕ) (most : most_n
       by a b early late whole shared one two first second =
           omega (arith, shared, one, two, first, second)
 
-  module _ (budget : Budget) (plans : List (List (List Stop))) (counts : List ℕ)
+  module _ (pool : List CutName) (budget : Budget) (plans : List (List (List Stop)))
+      (counts : List ℕ)
       (bounds : List Bound) where
     abbrev IsAt : ℕ → Box → TreeNode → Type 0
-    IsAt = IsNodeAt parts budget plans counts bounds
+    IsAt = IsNodeAt parts pool budget plans counts bounds
 
     abbrev cutoffs : ℕ → Option ℤ
     cutoffs number = cutoff_after parts plans (slice_index counts number)
@@ -158,7 +161,7 @@ module _ (parts : Parts) (valid : IsScenario parts) (nodes : ℕ) (most : most_n
         inl (λ k from to. absurd (omega (arith, from, to)))
     reached_or_few number [] (node ∷ tree) tight leads = absurd leads
     reached_or_few number (box ∷ boxes) (Leaf leaf ∷ tree) tight leads =
-        by (settled parts budget (cutoffs number)
+        by (settled parts pool budget (cutoffs number)
         (get_or bounds number NoPlan) box leaf leads.0.1)
         (reached_or_few (number + 1) boxes tree tight.1 leads.1)
       where

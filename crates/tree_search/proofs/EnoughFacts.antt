@@ -69,7 +69,7 @@ module _ (parts : Parts) (root : Box) (budget : Budget) (found : Found) (valid :
       by (inl closed) = closed
       by (inr spent) =
           spent_closed spent
-          (reached_or_few parts valid most_nodes (omega arith) budget found.plans
+          (reached_or_few parts valid most_nodes (omega arith) found.pool budget found.plans
           found.counts found.bounds 0 (searched.tight ∷ []) found.tree
           (searched.tight_is.tight, tt) searched.tree.nodes_are)
 

@@ -8,6 +8,7 @@ use Rattle.time_windows.specs.Held.{box_of}
 use Rattle.plan_improver.specs.Cheaper.{IsCheaper}
 use Rattle.time_windows.specs.Plans.{IsPlanIn}
 use Rattle.flow_types.specs.Bounds.{is_reached}
+use Rattle.cut_rows.specs.declared.names.CutName.{CutName}
 use Rattle.tree_search.specs.declared.draft.RecordDraft.{RecordDraft}
 use Rattle.tree_search.specs.declared.found.Budget.{Budget}
 use Rattle.tree_search.specs.Drafts.{IsOffered, IsTried}
@@ -28,11 +29,12 @@ tried_still parts box old new plan (inr left) tried =
     subst (IsTried parts box) (sym left.same) tried
 
 -- a plan of the first box
-pub improved_in : (parts : Parts) (budget : Budget) (path : Path) (old new : RecordDraft)
-    (plan : List (List Stop)) → IsSearching parts budget path old
+pub improved_in : (parts : Parts) (pool : List CutName) (budget : Budget) (path : Path)
+    (old new : RecordDraft)
+    (plan : List (List Stop)) → IsSearching parts pool budget path old
     → IsPlanIn parts (top_box path) plan → IsOffered parts plan old new
-    → IsSearching parts budget path new
-improved_in parts budget path old new plan searching inside offered =
+    → IsSearching parts pool budget path new
+improved_in parts pool budget path old new plan searching inside offered =
     let arrived = searching.arrived in
     let tree = offered_tree parts (box_of path.present) old new plan offered in
     let same = ap length tree.2.nodes in
@@ -47,7 +49,8 @@ improved_in parts budget path old new plan searching inside offered =
             inside offered;
         best = offered_best parts (top_box path) old new plan arrived.best offered;
         whole = λ boxes pending.
-            same_complete parts budget (top_box path) old new tree.0 (box_of path.present ∷ boxes)
+            same_complete parts pool budget (top_box path) old new tree.0
+            (box_of path.present ∷ boxes)
             tree.1 tree.2 (arrived.whole boxes pending);
         room = omega (arith, same, arrived.room);
         unspent = λ left.
@@ -59,12 +62,13 @@ improved_in parts budget path old new plan searching inside offered =
     }
 
 -- a plan of the present box
-pub improved_on : (parts : Parts) (budget : Budget) (path : Path) (old new : RecordDraft)
-    (plan : List (List Stop)) → IsSearching parts budget path old
+pub improved_on : (parts : Parts) (pool : List CutName) (budget : Budget) (path : Path)
+    (old new : RecordDraft)
+    (plan : List (List Stop)) → IsSearching parts pool budget path old
     → IsPlanIn parts (box_of path.present) plan → IsOffered parts plan old new
-    → IsSearching parts budget path new
-improved_on parts budget path old new plan searching found =
-    improved_in parts budget path old new plan searching
+    → IsSearching parts pool budget path new
+improved_on parts pool budget path old new plan searching found =
+    improved_in parts pool budget path old new plan searching
     (record { feasible = found.feasible; inside = searching.arrived.part plan found.inside })
 
 -- a cheaper plan is one of the box that keeps every rule
@@ -76,13 +80,15 @@ found_in_box parts box start (Some plan) cheaper =
     record { feasible = cheaper.feasible; inside = cheaper.inside }
 
 -- a step after a plan is offered, which writes no node down, is one from before
-pub stepped_from : (parts : Parts) (budget : Budget) (path : Path) (old now : RecordDraft)
+pub stepped_from : (parts : Parts) (pool : List CutName) (budget : Budget) (path : Path)
+    (old now : RecordDraft)
     (next : Path)
     (new : RecordDraft) (more : Bool) → now.nodes ≡ old.nodes
-    → IsStepped parts budget path now next new more → IsStepped parts budget path old next new more
-stepped_from parts budget path old now next new true same stepped = record {
+    → IsStepped parts pool budget path now next new more
+    → IsStepped parts pool budget path old next new more
+stepped_from parts pool budget path old now next new true same stepped = record {
   searching = stepped.searching;
   same = stepped.same;
   longer = stepped.longer ∙ ap (λ l. suc (length l)) same;
 }
-stepped_from parts budget path old now next new false same stepped = stepped
+stepped_from parts pool budget path old now next new false same stepped = stepped

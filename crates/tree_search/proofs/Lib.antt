@@ -7,6 +7,7 @@ pub mod FoundFacts
 pub mod GreedyFacts
 pub mod ImproveFacts
 pub mod KnownFacts
+pub mod PoolFacts
 pub mod OptionFacts
 pub mod PriceFacts
 pub mod ProductFacts

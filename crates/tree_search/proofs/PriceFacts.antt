@@ -1,5 +1,5 @@
 -- What rounds tell, and that a bound above that of the best one is no less than any round's.
-use Rattle.std.proofs.Common.{◌≡◌, ℕ, Ok, sym, subst}
+use Rattle.std.proofs.Common.{List, ◌≡◌, ℕ, Ok, sym, subst}
 use Rattle.flow_types.specs.declared.bound.Bound.{Bound}
 use Rattle.flow_types.specs.declared.bound.Bound.TheVariants.{NoPlan}
 use Rattle.flow_types.specs.declared.parts.Parts.{Parts}
@@ -20,6 +20,7 @@ use Rattle.lagrange_bound.proofs.BestFacts.{at_most_through}
 use Rattle.tree_search.specs.declared.pricing.Source.TheVariants.{Rounds}
 use Rattle.tree_search.specs.declared.rooms.PriceRooms.{PriceRooms}
 use Rattle.tree_search.specs.Rooms.{IsToldBy}
+use Rattle.cut_rows.specs.declared.names.CutName.{CutName}
 
 pub most_raised : (parts : Parts) (box : Box) (rounds : ℕ) (least more : Bound)
     → IsMostOfRounds parts box rounds least → IsAtMost least more
@@ -42,9 +43,10 @@ rounds_told parts box room rooms bound same told placed = record {
 }
 
 -- a leaf that closes boxes has the bound that its prices tell
-pub closing_bound : (parts : Parts) (box : Box) (table : PriceTable) (leaf : Leaf) (bound : Bound)
+pub closing_bound : (parts : Parts) (pool : List CutName) (box : Box) (table : PriceTable)
+    (leaf : Leaf) (bound : Bound)
     → Closes parts table leaf → IsLive box → (bound ≡ NoPlan) × HasNone parts box table
-    → IsLeafBound parts box leaf (Ok bound)
-closing_bound parts box table leaf bound closes live told =
-    subst (λ (b : Bound). IsLeafBound parts box leaf (Ok b)) (sym told.0)
-    (closes box told.1.value live told.1.priced told.1.above)
+    → IsLeafBound parts pool box leaf (Ok bound)
+closing_bound parts pool box table leaf bound closes live told =
+    subst (λ (b : Bound). IsLeafBound parts pool box leaf (Ok b)) (sym told.0)
+    (closes pool box told.1.value live told.1.priced told.1.above)

@@ -8,7 +8,7 @@ use Rattle.flow_types.specs.declared.bound.Bound.TheVariants.{AtLeast, NoPlan}
 use Rattle.flow_types.specs.declared.parts.Parts.{Parts}
 use Rattle.scaled_simplex.proofs.Products.{less_times, low_times}
 use Rattle.time_windows.specs.Boxes.{Box}
-use Rattle.bytime_model.specs.Rows.{is_row}
+use Rattle.cut_rows.specs.Pools.{is_row_with}
 use Rattle.bytime_model.specs.declared.multiplier.Multiplier.{Multiplier}
 use Rattle.branch_tree.specs.declared.leaf.Leaf.{Leaf}
 use Rattle.branch_tree.specs.declared.leaf.Leaf.TheVariants.{Dual, Empty, Lag, Unit as UnitLeaf}
@@ -20,27 +20,28 @@ use Rattle.relaxed_bound.specs.Licence.{IsBelowCutoff, IsUnreached, StaysBelow}
 use Rattle.flow_types.specs.Bounds.{is_reached}
 use Rattle.relaxed_bound.specs.Relaxed.{HasBound, SaysSome}
 use Rattle.relaxed_bound.proofs.LicenceFacts.{unreached_is}
+use Rattle.cut_rows.specs.declared.names.CutName.{CutName}
 
-module _ (parts : Parts) (box : Box) where
-  module _ (weight : ℕ) (rows : List Multiplier) (some : SaysSome parts box weight rows) where
-    no_fault : IsLive box → (fault : LeafFault) → IsDualFault parts box rows (Err fault) → ⊥
+module _ (parts : Parts) (pool : List CutName) (box : Box) where
+  module _ (weight : ℕ) (rows : List Multiplier) (some : SaysSome parts pool box weight rows) where
+    no_fault : IsLive box → (fault : LeafFault) → IsDualFault parts pool box rows (Err fault) → ⊥
     no_fault live NotEmpty none = none
     no_fault live (NotUnit flight node) none = none
     no_fault live (Closed flight node) first = live flight node first.here
     no_fault live (UnknownRow position) (same, first) =
-        let here : is_row parts first.multiplier.row ≡ true =
+        let here : is_row_with parts pool first.multiplier.row ≡ true =
         some.known position first.multiplier first.here in
         cc (here, first.unknown)
     no_fault live (Useless value) none = none
 
-    useful : (fault : LeafFault) → IsDualBound parts box weight rows (Err fault) → ⊥
+    useful : (fault : LeafFault) → IsDualBound parts pool box weight rows (Err fault) → ⊥
     useful fault bound =
         let above = some.positive bound.answered.0 bound.value bound.least in
         omega (arith, ints, above, bound.answered.1)
 
   -- on a live box the leaf has a bound
-  pub leaf_has : (leaf : Leaf) → HasBound parts box leaf → IsLive box
-      → (answer : Result Bound LeafFault) → IsLeafBound parts box leaf answer → IsOk answer
+  pub leaf_has : (leaf : Leaf) → HasBound parts pool box leaf → IsLive box
+      → (answer : Result Bound LeafFault) → IsLeafBound parts pool box leaf answer → IsOk answer
   leaf_has Empty none live answer is = absurd none
   leaf_has UnitLeaf none live answer is = absurd none
   leaf_has (Dual weight rows) some live (Ok bound) is = refl
@@ -61,8 +62,8 @@ module _ (parts : Parts) (box : Box) where
       omega (arith, ints, upto, gap, room)
 
   stays : (cutoff : Option ℤ) (weight : ℕ) (rows : List Multiplier) (bound : Bound)
-      → IsDualBound parts box weight rows (Ok bound) → is_reached cutoff bound ≡ false
-      → StaysBelow parts box weight rows cutoff
+      → IsDualBound parts pool box weight rows (Ok bound) → is_reached cutoff bound ≡ false
+      → StaysBelow parts pool box weight rows cutoff
   stays cutoff weight rows NoPlan is unreached = absurd (let e : true ≡ false = unreached in cc)
   stays cutoff weight rows (AtLeast least) is unreached = record {
     weighed = is.answered.0;
@@ -72,9 +73,9 @@ module _ (parts : Parts) (box : Box) where
   }
 
   -- its value is below the cutoff where its bound is
-  pub leaf_below : (cutoff : Option ℤ) (leaf : Leaf) (bound : Bound) → HasBound parts box leaf
-      → IsLeafBound parts box leaf (Ok bound) → is_reached cutoff bound ≡ false
-      → IsUnreached parts box leaf cutoff
+  pub leaf_below : (cutoff : Option ℤ) (leaf : Leaf) (bound : Bound) → HasBound parts pool box leaf
+      → IsLeafBound parts pool box leaf (Ok bound) → is_reached cutoff bound ≡ false
+      → IsUnreached parts pool box leaf cutoff
   leaf_below cutoff Empty bound none is unreached = absurd none
   leaf_below cutoff UnitLeaf bound none is unreached = absurd none
   leaf_below cutoff (Dual weight rows) bound some (inl is) unreached =

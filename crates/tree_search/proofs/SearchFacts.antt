@@ -12,13 +12,14 @@ use Rattle.time_windows.specs.Tight.{IsTightened}
 use Rattle.branch_tree.specs.declared.leaf.Leaf.{Leaf as LeafKind}
 use Rattle.branch_tree.specs.declared.tree.TreeNode.{TreeNode}
 use Rattle.branch_tree.specs.declared.tree.TreeNode.TheVariants.{Leaf, Split}
+use Rattle.cut_rows.specs.declared.names.CutName.{CutName}
 use Rattle.tree_search.specs.declared.draft.RecordDraft.{RecordDraft}
 use Rattle.tree_search.specs.declared.found.Budget.{Budget}
 use Rattle.branch_tree.specs.declared.walk.Branch.{Branch}
 use Rattle.branch_tree.specs.declared.walk.Step.{Step}
 use Rattle.branch_tree.specs.declared.walk.Step.TheVariants.{Early}
-use Rattle.tree_search.specs.Drafts.{Completes, IsDraft, IsNoted}
-use Rattle.tree_search.specs.Nodes.{IsLawfulWith}
+use Rattle.tree_search.specs.Drafts.{Completes, IsDraft, IsDrafted, IsNoted}
+use Rattle.tree_search.specs.Pools.{IsFirstPool}
 use Rattle.tree_search.specs.Searching.{IsArrived, IsAtNext, IsGoneOn, IsLeft, IsSearched, IsSearching, planned_in}
 use Rattle.tree_search.specs.Seen.{IsLeafSeen, IsSplitSeen}
 use Rattle.tree_search.specs.Visits.{IsVisited}
@@ -28,8 +29,10 @@ use Rattle.tree_search.proofs.DraftFacts.{noted_best, noted_draft, noted_still}
 use Rattle.time_windows.proofs.PartFacts.{in_early}
 use Rattle.tree_search.proofs.VisitFacts.{visited_best, visited_complete, visited_draft, visited_same, visited_still, visited_tried}
 
-module _ (parts : Parts) (budget : Budget) (path : Path) (old new : RecordDraft)
-    (arrived : IsArrived parts budget path old) where
+module _ (parts : Parts) (pool : List CutName) (budget : Budget) (path : Path)
+    (old new : RecordDraft) (arrived : IsArrived parts pool budget path old)
+    (begun : length old.nodes ≡ 0
+    → IsFirstPool parts budget.limits old.best (box_of path.present) pool) where
   -- a node more
   one_longer : (node : TreeNode) (bound : Bound) → IsNoted node bound old new
       → length new.nodes ≡ suc (length old.nodes)
@@ -39,21 +42,23 @@ module _ (parts : Parts) (budget : Budget) (path : Path) (old new : RecordDraft)
 
   module _ (more : Bool) (room : planned_in old path + 2 ≤ budget.nodes → more ≡ true) where
     module _ (leaf : LeafKind) (bound : Bound)
-        (seen : IsLeafSeen parts budget old.best more (box_of path.present) leaf bound)
+        (seen : IsLeafSeen parts pool budget old.best more (box_of path.present) leaf bound)
         (noted : IsNoted (Leaf leaf) bound old new) where
-      is_node : IsLawfulWith parts budget old.best bound (box_of path.present) (Leaf leaf)
-      is_node = (tt, seen.node)
+      is_node : IsDrafted parts pool budget (length old.nodes) old.best bound
+          (box_of path.present) (Leaf leaf)
+      is_node = (tt, record { node_is = seen.node; pool_is = begun })
 
       leaf_whole : (boxes : List Box) → ArePending parts path.above path.steps boxes
-          → Completes parts budget (top_box path) new boxes
+          → Completes parts pool budget (top_box path) new boxes
       leaf_whole boxes pending =
-          leaf_complete parts budget (top_box path) (box_of path.present) leaf boxes old new
+          leaf_complete parts pool budget (top_box path) (box_of path.present) leaf boxes old new
           bound arrived.draft_is.counted arrived.draft_is.bounded
-          (subst (λ cutoff. IsLawfulWith parts budget cutoff bound (box_of path.present)
-          (Leaf leaf)) arrived.best is_node) noted (arrived.whole boxes pending)
+          (subst (λ cutoff. IsDrafted parts pool budget (length old.nodes) cutoff bound
+          (box_of path.present) (Leaf leaf)) arrived.best is_node) noted
+          (arrived.whole boxes pending)
 
       pub leaf_next : (next : Path) → IsNext parts path next
-          → IsAtNext parts budget old (top_box path) next new
+          → IsAtNext parts pool budget old (top_box path) next new
       leaf_next next on = record {
         arrived = record {
           made = on.made;
@@ -66,7 +71,7 @@ module _ (parts : Parts) (budget : Budget) (path : Path) (old new : RecordDraft)
               arrived.draft_is noted);
           best = noted_best parts (top_box path) old new (Leaf leaf) bound arrived.best noted;
           whole = λ boxes pending. subst
-              (λ top. Completes parts budget top new (box_of next.present ∷ boxes)) (sym same)
+              (λ top. Completes parts pool budget top new (box_of next.present ∷ boxes)) (sym same)
               (leaf_whole (box_of next.present ∷ boxes) (on.pending boxes pending));
           room = omega (arith, arrived.room, on.fewer, one_longer (Leaf leaf) bound noted);
           unspent = λ left.
@@ -85,13 +90,13 @@ module _ (parts : Parts) (budget : Budget) (path : Path) (old new : RecordDraft)
           are_parts : IsPartOf (top_box path) next.present × ArePartsOf (top_box path) next.above
           are_parts = on.parts_of (top_box path) arrived.parts_of
 
-      pub leaf_over : IsOver parts path → IsSearched parts budget (top_box path) new
+      pub leaf_over : IsOver parts path → IsSearched parts pool budget (top_box path) new
       leaf_over over = record {
         draft_is =
             noted_draft parts (top_box path) old new (Leaf leaf) bound seen.near
             arrived.draft_is noted;
         best = noted_best parts (top_box path) old new (Leaf leaf) bound arrived.best noted;
-        tree = all_complete parts budget (top_box path) new (leaf_whole [] over.none);
+        tree = all_complete parts pool budget (top_box path) new (leaf_whole [] over.none);
         room = omega (arith, arrived.room, over.fewer, one_longer (Leaf leaf) bound noted);
         unspent = λ left.
             let enough : planned_in old path + 2 ≤ budget.nodes =
@@ -103,7 +108,7 @@ module _ (parts : Parts) (budget : Budget) (path : Path) (old new : RecordDraft)
   -- after a split
   module _ (more : Bool) (room : more ≡ true → planned_in old path + 2 ≤ budget.nodes)
       (branch : Branch)
-      (seen : IsSplitSeen parts budget old.best more (box_of path.present) branch)
+      (seen : IsSplitSeen parts pool budget old.best more (box_of path.present) branch)
       (noted : IsNoted (Split branch.flight branch.node branch.time old.best) NoPlan old new)
       (after : Held)
       (tight : IsTightened parts (early_branch branch.flight branch.node branch.time
@@ -120,10 +125,10 @@ module _ (parts : Parts) (budget : Budget) (path : Path) (old new : RecordDraft)
     }
 
     split_whole : (boxes : List Box) → ArePending parts down.above down.steps boxes
-        → Completes parts budget (top_box path) new (box_of after ∷ boxes)
+        → Completes parts pool budget (top_box path) new (box_of after ∷ boxes)
     split_whole [] pending = absurd pending
     split_whole (late ∷ boxes) (late_is, pending) =
-        split_complete parts budget (top_box path) (box_of path.present) (box_of after) late
+        split_complete parts pool budget (top_box path) (box_of path.present) (box_of after) late
         branch.flight branch.node branch.time old.best boxes old new NoPlan
         (record {
           live = seen.live;
@@ -133,11 +138,12 @@ module _ (parts : Parts) (budget : Budget) (path : Path) (old new : RecordDraft)
           late_is = late_is;
         })
         arrived.draft_is.counted arrived.draft_is.bounded
-        (subst (λ cutoff. IsLawfulWith parts budget cutoff NoPlan (box_of path.present)
-        (Split branch.flight branch.node branch.time old.best)) arrived.best (refl, seen.node))
+        (subst (λ cutoff. IsDrafted parts pool budget (length old.nodes) cutoff NoPlan
+        (box_of path.present) (Split branch.flight branch.node branch.time old.best))
+        arrived.best (refl, record { node_is = seen.node; pool_is = begun }))
         noted (arrived.whole boxes pending)
 
-    split_next : IsAtNext parts budget old (top_box path) down new
+    split_next : IsAtNext parts pool budget old (top_box path) down new
     split_next = record {
       arrived = record {
         made = made;
@@ -178,29 +184,30 @@ module _ (parts : Parts) (budget : Budget) (path : Path) (old new : RecordDraft)
 
     pub split_on : (next : Path) → next.present ≡ after → next.above ≡ path.present ∷ path.above
         → next.steps ≡ Early branch ∷ path.steps
-        → IsAtNext parts budget old (top_box path) next new
+        → IsAtNext parts pool budget old (top_box path) next new
     split_on next present above steps =
-        subst (λ (h : Held). IsAtNext parts budget old (top_box path) (record {
+        subst (λ (h : Held). IsAtNext parts pool budget old (top_box path) (record {
           present = h;
           above = next.above;
           steps = next.steps;
         }) new) (sym present)
-        (subst (λ (l : List Held). IsAtNext parts budget old (top_box path) (record {
+        (subst (λ (l : List Held). IsAtNext parts pool budget old (top_box path) (record {
           present = after;
           above = l;
           steps = next.steps;
         }) new) (sym above)
-        (subst (λ (l : List Step). IsAtNext parts budget old (top_box path) (record {
+        (subst (λ (l : List Step). IsAtNext parts pool budget old (top_box path) (record {
           present = after;
           above = path.present ∷ path.above;
           steps = l;
         }) new) (sym steps) split_next))
 
 -- the greedy plan of the box was offered
-pub visited_on : (parts : Parts) (budget : Budget) (path : Path) (before old new : RecordDraft)
-    (top : Box) → IsScenario parts → IsAtNext parts budget before top path old
-    → IsVisited parts (box_of path.present) old new → IsSearching parts budget path new
-visited_on parts budget path before old new top valid next visited =
+pub visited_on : (parts : Parts) (pool : List CutName) (budget : Budget) (path : Path)
+    (before old new : RecordDraft)
+    (top : Box) → IsScenario parts → IsAtNext parts pool budget before top path old
+    → IsVisited parts (box_of path.present) old new → IsSearching parts pool budget path new
+visited_on parts pool budget path before old new top valid next visited =
     let arrived = next.arrived in
     let same = ap length (visited_same parts (box_of path.present) old new visited).nodes in
     record {
@@ -214,7 +221,7 @@ visited_on parts budget path before old new top valid next visited =
             arrived.draft_is arrived.best visited;
         best = visited_best parts (box_of path.present) old new arrived.best visited;
         whole = λ boxes pending.
-            visited_complete parts (box_of path.present) old new budget (top_box path)
+            visited_complete parts (box_of path.present) old new pool budget (top_box path)
             (box_of path.present ∷ boxes) visited (arrived.whole boxes pending);
         room = omega (arith, same, arrived.room);
         unspent = λ left.
@@ -224,24 +231,30 @@ visited_on parts budget path before old new top valid next visited =
       tried = visited_tried parts (box_of path.present) old new valid visited;
     }
 
-pub left_leaf : (parts : Parts) (budget : Budget) (path next : Path) (old new : RecordDraft)
+pub left_leaf : (parts : Parts) (pool : List CutName) (budget : Budget) (path next : Path)
+    (old new : RecordDraft)
     (more on : Bool)
-    (leaf : LeafKind) (bound : Bound) → IsArrived parts budget path old
+    (leaf : LeafKind) (bound : Bound) → IsArrived parts pool budget path old
+    → (length old.nodes ≡ 0
+    → IsFirstPool parts budget.limits old.best (box_of path.present) pool)
     → (planned_in old path + 2 ≤ budget.nodes → more ≡ true)
-    → IsLeafSeen parts budget old.best more (box_of path.present) leaf bound
+    → IsLeafSeen parts pool budget old.best more (box_of path.present) leaf bound
     → IsNoted (Leaf leaf) bound old new → IsNextOr parts path next on
-    → IsLeft parts budget path old next new on
-left_leaf parts budget path next old new more true leaf bound arrived room seen noted is =
-    leaf_next parts budget path old new arrived more room leaf bound seen noted next is
-left_leaf parts budget path next old new more false leaf bound arrived room seen noted is =
-    leaf_over parts budget path old new arrived more room leaf bound seen noted is
+    → IsLeft parts pool budget path old next new on
+left_leaf parts pool budget path next old new more true leaf bound arrived begun room seen noted is
+    =
+    leaf_next parts pool budget path old new arrived begun more room leaf bound seen noted next is
+left_leaf parts pool budget path next old new more false leaf bound arrived begun room seen noted is
+    =
+    leaf_over parts pool budget path old new arrived begun more room leaf bound seen noted is
 
-pub gone_on : (parts : Parts) (budget : Budget) (path : Path) (before old new : RecordDraft)
+pub gone_on : (parts : Parts) (pool : List CutName) (budget : Budget) (path : Path)
+    (before old new : RecordDraft)
     (top : Box)
-    → IsScenario parts → IsAtNext parts budget before top path old
-    → IsVisited parts (box_of path.present) old new → IsGoneOn parts budget before top path new
-gone_on parts budget path before old new top valid next visited = record {
-  searching = visited_on parts budget path before old new top valid next visited;
+    → IsScenario parts → IsAtNext parts pool budget before top path old
+    → IsVisited parts (box_of path.present) old new → IsGoneOn parts pool budget before top path new
+gone_on parts pool budget path before old new top valid next visited = record {
+  searching = visited_on parts pool budget path before old new top valid next visited;
   same = next.same;
   longer =
       ap length (visited_same parts (box_of path.present) old new visited).nodes ∙ next.longer;

@@ -1,5 +1,5 @@
 -- What is seen of a box: a Unit leaf has a bound, and the run's leaf is kept where it may.
-use Rattle.std.proofs.Common.{◌≡◌, ℕ, ◌+◌, ◌<◌, ◌≤◌, ◌⊎◌, Bool, true, false, not, ◌&&◌, IfSome, IsTrue, Option, None, Some, Result, Ok, Err, if◌then◌else◌, ℤ, inl, inr, refl, sym, ◌∙◌, subst, arith}
+use Rattle.std.proofs.Common.{List, ◌≡◌, ℕ, ◌+◌, ◌<◌, ◌≤◌, ◌⊎◌, Bool, true, false, not, ◌&&◌, IfSome, IsTrue, Option, None, Some, Result, Ok, Err, if◌then◌else◌, ℤ, inl, inr, refl, sym, ◌∙◌, subst, arith}
 use Rattle.std.proofs.lemmas.Int.{ints}
 use Rattle.std.specs.Prelude.{int_lt}
 use Rattle.std.specs.Result.{IsOk}
@@ -24,6 +24,7 @@ use Rattle.dual_leaf.specs.Leaf.{IsLeafBound, IsNearOf, IsUnitBound, IsUnitBox}
 use Rattle.flow_types.specs.Bounds.{IsNearBound}
 use Rattle.relaxed_bound.specs.Licence.{IsLicensed, IsUnreached}
 use Rattle.relaxed_bound.specs.Relaxed.{HasBound, relaxed_leaf}
+use Rattle.cut_rows.specs.declared.names.CutName.{CutName}
 use Rattle.tree_search.specs.declared.found.Budget.{Budget}
 use Rattle.branch_tree.specs.declared.walk.Branch.{Branch}
 use Rattle.tree_search.specs.Nodes.{HasChoice, IsLeafKind, IsOpenLeaf}
@@ -103,11 +104,12 @@ not_split true false false is room = absurd (let e : true ≡ false = is in cc)
 not_split false false false is room = absurd (let e : false ≡ true = room in cc)
 
 -- what is known of a box that is seen, which has a plan and a choice
-module _ (parts : Parts) (budget : Budget) (cutoff : Option ℤ) (more : Bool) (box : Box)
+module _ (parts : Parts) (pool : List CutName) (budget : Budget) (cutoff : Option ℤ) (more : Bool)
+    (box : Box)
     (branch : Branch) (made : IsBoxOf parts box) (live : IsLive box)
     (branch_is : IsBranchOf parts box branch) (run priced : Bound)
     (rounds : IsMostOfRounds parts box budget.rounds priced) where
-  open_is : (bound : Bound) → IsAtMost priced bound → IsOpenLeaf parts budget bound box
+  open_is : (bound : Bound) → IsAtMost priced bound → IsOpenLeaf parts pool budget bound box
   open_is bound le = record {
     live = live;
     choice = branch_choice parts box branch branch_is;
@@ -133,10 +135,10 @@ module _ (parts : Parts) (budget : Budget) (cutoff : Option ℤ) (more : Bool) (
   turned (inr b) = inl b
 
   pub split_seen : (leaf : Leaf) → may_split more cutoff run priced ≡ true
-      → IsLeafBound parts box leaf (Ok run) → HasBound parts box leaf
-      → (IsUnreached parts box leaf cutoff → IsLicensed parts box budget.limits cutoff)
+      → IsLeafBound parts pool box leaf (Ok run) → HasBound parts pool box leaf
+      → (IsUnreached parts pool box leaf cutoff → IsLicensed parts pool box budget.limits cutoff)
       → (other : Branch) → IsBranchOf parts box other
-      → IsSplitSeen parts budget cutoff more box other
+      → IsSplitSeen parts pool budget cutoff more box other
   split_seen leaf may bound_is has licence other other_is =
       let below = split_open more (is_reached cutoff run) (is_reached cutoff priced) may in
       record {
@@ -148,23 +150,23 @@ module _ (parts : Parts) (budget : Budget) (cutoff : Option ℤ) (more : Bool) (
           told = rounds.told;
           rounds = λ round told few is.
               reached_down cutoff told priced (rounds.no_more round told few is) below.2;
-          licence = licence (leaf_below parts box cutoff leaf run has bound_is below.1);
+          licence = licence (leaf_below parts pool box cutoff leaf run has bound_is below.1);
         };
         branch_is = other_is;
         room = below.0;
       }
 
   -- the run's leaf
-  pub run_seen : (leaf : Leaf) → leaf ≡ relaxed_leaf parts box budget.limits cutoff
-      → IsLeafBound parts box leaf (Ok run) → IsAtMost priced run
+  pub run_seen : (leaf : Leaf) → leaf ≡ relaxed_leaf parts pool box budget.limits cutoff
+      → IsLeafBound parts pool box leaf (Ok run) → IsAtMost priced run
       → may_split more cutoff run priced ≡ false → IsInRange leaf → IsNearOf leaf run
-      → IsLeafSeen parts budget cutoff more box leaf run
+      → IsLeafSeen parts pool budget cutoff more box leaf run
   run_seen leaf is bound_is le none range near = record {
     node = record {
       inside = made;
       range = range;
       bound_is = bound_is;
-      kind = subst (IsLeafKind parts budget cutoff run box) (sym is) (record {
+      kind = subst (IsLeafKind parts pool budget cutoff run box) (sym is) (record {
         box_is = open_is run le;
         is = refl;
       });
@@ -175,22 +177,23 @@ module _ (parts : Parts) (budget : Budget) (cutoff : Option ℤ) (more : Bool) (
 
   -- the leaf of prices
   pub priced_seen : (leaf told : Leaf) (weight : ℕ) (table : PriceTable)
-      → IsLagOf parts weight table told → IsLeafBound parts box told (Ok priced)
-      → leaf ≡ relaxed_leaf parts box budget.limits cutoff → IsLeafBound parts box leaf (Ok run)
+      → IsLagOf parts weight table told → IsLeafBound parts pool box told (Ok priced)
+      → leaf ≡ relaxed_leaf parts pool box budget.limits cutoff → IsLeafBound parts pool box leaf
+      (Ok run)
       → IsAtMost run priced → (IsAtMost priced run → ⊥)
       → may_split more cutoff run priced ≡ false → IsInRange told → IsNearBound priced
-      → IsLeafSeen parts budget cutoff more box told priced
+      → IsLeafSeen parts pool budget cutoff more box told priced
   priced_seen leaf told weight table lag bound_is is run_is le above none range near = record {
     node = record {
       inside = made;
       range = range;
       bound_is = bound_is;
-      kind = subst (IsLeafKind parts budget cutoff priced box) (sym lag.is) (record {
+      kind = subst (IsLeafKind parts pool budget cutoff priced box) (sym lag.is) (record {
         box_is = open_is priced (at_most_itself priced);
         positive = lag.positive;
         ascending = lag.ascending;
         run = run;
-        run_is = subst (λ z. IsLeafBound parts box z (Ok run)) is run_is;
+        run_is = subst (λ z. IsLeafBound parts pool box z (Ok run)) is run_is;
         above = above;
       });
     };
@@ -205,19 +208,22 @@ pub never : IsTrue false → ⊥
 never is = let e : false ≡ true = is in cc
 
 -- the run's leaf, where its bound reaches what a plan in the box costs
-pub known_seen : (parts : Parts) (budget : Budget) (cutoff : Option ℤ) (more : Bool) (box : Box)
+pub known_seen : (parts : Parts) (pool : List CutName) (budget : Budget) (cutoff : Option ℤ)
+    (more : Bool) (box : Box)
     (branch : Branch) → IsScenario parts → IsBoxOf parts box → IsLive box
     → IsBranchOf parts box branch → IfSome cutoff (HasPlanAt parts box) → (run : Bound)
     → is_reached cutoff run ≡ true → (leaf : Leaf)
-    → leaf ≡ relaxed_leaf parts box budget.limits cutoff → IsLeafBound parts box leaf (Ok run)
-    → IsInRange leaf → IsNearOf leaf run → IsLeafSeen parts budget cutoff more box leaf run
-known_seen parts budget cutoff more box branch valid made live branch_is known run reached leaf is
+    → leaf ≡ relaxed_leaf parts pool box budget.limits cutoff → IsLeafBound parts pool box leaf
+    (Ok run)
+    → IsInRange leaf → IsNearOf leaf run → IsLeafSeen parts pool budget cutoff more box leaf run
+known_seen parts pool budget cutoff more box branch valid made live branch_is known run reached leaf
+    is
     bound_is range near = record {
       node = record {
         inside = made;
         range = range;
         bound_is = bound_is;
-        kind = subst (IsLeafKind parts budget cutoff run box) (sym is) (record {
+        kind = subst (IsLeafKind parts pool budget cutoff run box) (sym is) (record {
           box_is = record {
             live = live;
             choice = branch_choice parts box branch branch_is;

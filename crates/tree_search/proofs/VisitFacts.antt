@@ -22,6 +22,7 @@ use Rattle.tree_search.specs.Visits.{IsVisited}
 use Rattle.tree_search.proofs.CompleteFacts.{none_complete, same_complete}
 use Rattle.tree_search.proofs.DraftFacts.{offered_best, offered_draft, offered_reached, offered_still}
 use Rattle.tree_search.proofs.GreedyFacts.{greedy_inside, not_stuck, one_greedy}
+use Rattle.cut_rows.specs.declared.names.CutName.{CutName}
 
 abbrev Plan : Type 0
 Plan = List (List Stop)
@@ -90,12 +91,12 @@ module _ (parts : Parts) (box : Box) (old new : RecordDraft) where
   pub visited_same : IsVisited parts box old new → IsSameTree old new
   visited_same visited = (visited_tree visited).2
 
-  pub visited_complete : (budget : Budget) (top : Box) (boxes : List Box)
-      → IsVisited parts box old new → Completes parts budget top old boxes
-      → Completes parts budget top new boxes
-  visited_complete budget top boxes visited =
+  pub visited_complete : (pool : List CutName) (budget : Budget) (top : Box) (boxes : List Box)
+      → IsVisited parts box old new → Completes parts pool budget top old boxes
+      → Completes parts pool budget top new boxes
+  visited_complete pool budget top boxes visited =
       let tree = visited_tree visited in
-      same_complete parts budget top old new tree.0 boxes tree.1 tree.2
+      same_complete parts pool budget top old new tree.0 boxes tree.1 tree.2
 
 -- the first box, before any node
 module _ (parts : Parts) (box : Box) (old new : RecordDraft) (plans : old.plans ≡ [])
@@ -160,7 +161,8 @@ module _ (parts : Parts) (box : Box) (old new : RecordDraft) (plans : old.plans 
       (sym ((visited_same parts box old new visited).bounds ∙ bounds))
       (All-nil (λ bound. is_reached new.best bound ≡ true))
 
-  pub first_complete : (budget : Budget) → IsVisited parts box old new
-      → Completes parts budget box new (box ∷ [])
-  first_complete budget visited =
-      none_complete parts budget box new ((visited_same parts box old new visited).nodes ∙ nodes)
+  pub first_complete : (pool : List CutName) (budget : Budget) → IsVisited parts box old new
+      → Completes parts pool budget box new (box ∷ [])
+  first_complete pool budget visited =
+      none_complete parts pool budget box new ((visited_same parts box old new visited).nodes
+      ∙ nodes)

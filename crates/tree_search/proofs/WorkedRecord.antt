@@ -29,6 +29,8 @@ use Rattle.dual_leaf.specs.Leaf.{IsUnitBox}
 use Rattle.dual_leaf.proofs.UnitBoxFacts.{one_trip}
 use Rattle.worked_days.specs.Days.{beside, legs_with, plan_with, stop_at, there, trip_at, two_flights}
 use Rattle.worked_days.proofs.WorkedDay.{beside_is, feasible_is, there_is, two_flights-valid}
+use Rattle.tree_search.proofs.PoolFacts.{unit_first}
+use Rattle.tree_search.specs.Nodes.{cutoff_after}
 use Rattle.tree_search.specs.declared.found.Budget.{Budget}
 use Rattle.tree_search.specs.declared.found.Found.{Found}
 use Rattle.tree_search.specs.Records.{IsCheaper, IsFirst, IsSearchRecord}
@@ -329,7 +331,8 @@ whole budget some = record {
   };
   bound_is = refl;
   near = omega arith;
-  pool = refl;
+  pool = unit_first two budget.limits (cutoff_after two (soon ∷ []) 1) only [] refl
+      (λ f n. let one = it_is_unit f n in omega (arith, one));
   nodes = some;
   ended = inl refl;
 }

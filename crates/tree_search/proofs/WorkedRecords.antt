@@ -16,6 +16,7 @@ use Rattle.flow_types.specs.Bounds.{least_of}
 use Rattle.tree_search.specs.Budgets.{options_in}
 use Rattle.tree_search.specs.Nodes.{IsSplitNode, cost_of, cutoff_after}
 use Rattle.tree_search.specs.Records.{IsCheaper, IsClosed, IsFirst}
+use Rattle.cut_rows.specs.declared.names.CutName.{CutName}
 
 abbrev two : Parts
 two = two_flights 1 9 9
@@ -105,6 +106,6 @@ six_options : options_in two choices ≡ 6
 six_options = refl
 
 -- a split names what the last plan before it costs, and nothing else
-other_cutoff_isnt : (budget : Budget) (box : Box)
-    → IsSplitNode two budget (cutoff_after two (late ∷ []) 1) box (Some (pos 1)) → ⊥
-other_cutoff_isnt budget box split = let same = split.cutoff_is in let e : ⊥ = cc in e
+other_cutoff_isnt : (pool : List CutName) (budget : Budget) (box : Box)
+    → IsSplitNode two pool budget (cutoff_after two (late ∷ []) 1) box (Some (pos 1)) → ⊥
+other_cutoff_isnt pool budget box split = let same = split.cutoff_is in let e : ⊥ = cc in e

@@ -1,6 +1,6 @@
 -- What a search has written down so far: plans, each cheaper than the one before, and the first
 -- nodes of its tree. No public clause cites these.
-use Rattle.std.specs.Prelude.{◌≡◌, ◌⊎◌, ℕ, ◌≤◌, false, true, List, [], ◌∷◌, ◌++◌, length, All, AllPairs, None, Some}
+use Rattle.std.specs.Prelude.{◌≡◌, ◌⊎◌, ℕ, ◌≤◌, false, true, List, [], ◌∷◌, ◌++◌, length, slice_index, All, AllPairs, Option, None, Some, ℤ}
 use Rattle.flow_types.specs.declared.bound.Bound.{Bound}
 use Rattle.flow_types.specs.declared.bound.Bound.TheVariants.{AtLeast}
 use Rattle.flow_types.specs.declared.parts.Parts.{Parts}
@@ -10,11 +10,14 @@ use Rattle.time_windows.specs.Boxes.{Box}
 use Rattle.greedy_plan.specs.Greedy.{IsGreedy}
 use Rattle.branch_tree.specs.declared.tree.TreeNode.{TreeNode}
 use Rattle.branch_tree.specs.Forests.{IsTreeOn, Leads}
+use Rattle.branch_tree.specs.Lawful.{IsLawfulAt, IsOwnBound}
 use Rattle.dual_leaf.specs.Leaf.{IsCostIn, IsUnitBox}
 use Rattle.flow_types.specs.Bounds.{IsNearBound, is_reached}
+use Rattle.cut_rows.specs.declared.names.CutName.{CutName}
 use Rattle.tree_search.specs.declared.found.Budget.{Budget}
 use Rattle.tree_search.specs.declared.draft.RecordDraft.{RecordDraft}
-use Rattle.tree_search.specs.Nodes.{IsNodeAt, cutoff_after}
+use Rattle.tree_search.specs.Nodes.{IsNodeWith, cutoff_after}
+use Rattle.tree_search.specs.Pools.{IsFirstPool}
 use Rattle.tree_search.specs.Records.{IsCheaper, IsFirst}
 use Rattle.time_windows.specs.Plans.{IsPlanIn}
 
@@ -72,14 +75,36 @@ pub record IsNoted (node : TreeNode) (bound : Bound) (old new : RecordDraft) : T
   pub counts : new.counts ≡ old.counts ++ length old.plans ∷ []
   pub bounds : new.bounds ≡ old.bounds ++ bound ∷ []
 
+-- what is known of a node of this number; at the first one the pool is made
+pub record IsDraftedWith (parts : Parts) (pool : List CutName) (budget : Budget) (number : ℕ)
+    (cutoff : Option ℤ) (bound : Bound) (box : Box) (node : TreeNode) : Type 0 where
+  pub node_is : IsNodeWith parts pool budget cutoff bound box node
+  pub pool_is : number ≡ 0 → IsFirstPool parts budget.limits cutoff box pool
+
+-- and a split has no bound of its own
+abbrev pub IsDrafted : Parts → List CutName → Budget → ℕ → Option ℤ → Bound → Box → TreeNode
+    → Type 0
+IsDrafted parts pool budget number cutoff bound box node =
+    IsOwnBound node bound × IsDraftedWith parts pool budget number cutoff bound box node
+
+module _ (parts : Parts) (pool : List CutName) (budget : Budget)
+    (plans : List (List (List Stop))) (counts : List ℕ) where
+  abbrev pub IsDraftedOf : ℕ → Bound → Box → TreeNode → Type 0
+  IsDraftedOf number bound box node =
+      IsDraftedWith parts pool budget number
+      (cutoff_after parts plans (slice_index counts number)) bound box node
+
+  abbrev pub IsDraftedAt : List Bound → ℕ → Box → TreeNode → Type 0
+  IsDraftedAt bounds number box node = IsLawfulAt parts IsDraftedOf bounds number box node
+
 -- Whatever is written down after it, if it leads on from these boxes, the whole is a tree.
-abbrev pub Completes : Parts → Budget → Box → RecordDraft → List Box → Type 0
-Completes parts budget top draft boxes =
+abbrev pub Completes : Parts → List CutName → Budget → Box → RecordDraft → List Box → Type 0
+Completes parts pool budget top draft boxes =
     (plans : List (List (List Stop))) (counts : List ℕ) (bounds : List Bound)
     (nodes : List TreeNode)
-    → Leads parts (IsNodeAt parts budget (draft.plans ++ plans) (draft.counts ++ counts)
+    → Leads parts (IsDraftedAt parts pool budget (draft.plans ++ plans) (draft.counts ++ counts)
     (draft.bounds ++ bounds)) (length draft.nodes) boxes nodes []
-    → IsTreeOn parts (IsNodeAt parts budget (draft.plans ++ plans) (draft.counts ++ counts)
+    → IsTreeOn parts (IsDraftedAt parts pool budget (draft.plans ++ plans) (draft.counts ++ counts)
     (draft.bounds ++ bounds)) top (draft.nodes ++ nodes)
 
 -- in a unit box, the plan that may be there costs no less than the best

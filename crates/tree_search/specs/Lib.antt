@@ -1,6 +1,7 @@
 pub mod Budgets
 pub mod Drafts
 pub mod Nodes
+pub mod Pools
 pub mod Records
 pub mod Rooms
 pub mod Searching

@@ -1,6 +1,7 @@
--- What a search hands back: plans, each cheaper than the one before, a tree that proves a bound,
--- and that it ended since the last plan is a least one, or there is none, or its budget was spent.
-use Rattle.std.specs.Prelude.{◌≡◌, ◌⊎◌, ℕ, ◌+◌, ◌-◌, ◌<◌, ◌≤◌, List, [], length, slice_get, All, AllPairs, Option, Some, option_map, ℤ, ◌<ℤ◌}
+-- What a search hands back: plans, each cheaper than the one before, the cuts that leaves may name,
+-- a tree that proves a bound, and that it ended since the last plan is a least one, or there is
+-- none, or its budget was spent.
+use Rattle.std.specs.Prelude.{◌≡◌, ◌⊎◌, ℕ, ◌+◌, ◌-◌, ◌<◌, ◌≤◌, List, length, slice_get, slice_index, All, AllPairs, Option, Some, option_map, ℤ, ◌<ℤ◌}
 use Rattle.flow_types.specs.declared.parts.Parts.{Parts}
 use Rattle.flow_types.specs.declared.plan.Stop.{Stop}
 use Rattle.flow_types.specs.Costs.{plan_cost}
@@ -13,6 +14,7 @@ use Rattle.flow_types.specs.Bounds.{IsNearBound, bound_of, least_of}
 use Rattle.tree_search.specs.declared.found.Budget.{Budget}
 use Rattle.tree_search.specs.declared.found.Found.{Found}
 use Rattle.tree_search.specs.Nodes.{IsNodeOf, cutoff_after}
+use Rattle.tree_search.specs.Pools.{IsFirstPool}
 
 abbrev pub IsCheaper : Parts → List (List Stop) → List (List Stop) → Type 0
 IsCheaper parts before after =
@@ -47,10 +49,11 @@ pub record IsSearchRecord (parts : Parts) (root : Box) (budget : Budget) (found 
   pub counted : length found.counts ≡ length found.tree
   pub counts_to : All (λ count. count ≤ length found.plans) found.counts
   pub rising : AllPairs (λ before after. before ≤ after) found.counts
-  pub tree : IsLawfulTree parts (IsNodeOf parts budget found.plans found.counts) tight found.tree
-      found.bounds
+  pub tree : IsLawfulTree parts (IsNodeOf parts found.pool budget found.plans found.counts) tight
+      found.tree found.bounds
   pub bound_is : found.bound ≡ least_of found.bounds
   pub near : IsNearBound found.bound
-  pub pool : found.pool ≡ []
+  pub pool : IsFirstPool parts budget.limits
+      (cutoff_after parts found.plans (slice_index found.counts 0)) tight found.pool
   pub nodes : length found.tree ≤ budget.nodes
   pub ended : IsClosed parts found ⊎ (budget.nodes < length found.tree + 2)

@@ -1,9 +1,9 @@
 //! What a search may spend, and what it finds.
 
 use branch_tree::Tree;
+use cut_rows::Pool;
 use flow_types::{Bound, Plan, Sequence};
 use relaxed_bound::Limits;
-use valid_cuts::Pool;
 
 /// What a search may spend.
 #[derive(Clone, Copy, Debug, PartialEq, Eq)]
@@ -36,7 +36,7 @@ pub struct Found {
     pub counts: Counts,
     /// For each node of the tree, the bound of a leaf; a split has `NoPlan`.
     pub bounds: Bounds,
-    /// The cuts that leaves may name: none, since no cut has a row yet.
+    /// The cuts that leaves may name, by their positions.
     pub pool: Pool,
     /// The least of the bounds: no plan costs less.
     pub bound: Bound,

@@ -1,6 +1,7 @@
 //! Cheaper plans on the way.
-ghost use Rattle.std.specs.Prelude.{◌≡◌, IfOk, IfSome, OnOk};
+ghost use Rattle.std.specs.Prelude.{◌≡◌, IfOk, IfSome, List, OnOk};
 ghost use Rattle.branch_tree.specs.Paths.{top_box};
+ghost use Rattle.cut_rows.specs.declared.names.CutName.{CutName};
 ghost use Rattle.flow_types.specs.Scenario.{parts_of};
 ghost use Rattle.time_windows.specs.Held.{IsMadeFor, box_of};
 ghost use Rattle.time_windows.specs.Plans.{IsPlanIn};
@@ -65,8 +66,9 @@ pub fn offer_found(
     found: Option<Plan>,
 ) -> Result<(), OutOfMemory>
     requires { IfSome found (IsPlanIn (parts_of s.now) (box_of walk.now.present)) }
-    ensures improved { (budget : Budget) → IsSearching (parts_of s.now) budget walk.now draft.old
-        → OnOk result (IsSearching (parts_of s.now) budget walk.now draft.new) }
+    ensures improved { (pool : List CutName) (budget : Budget)
+        → IsSearching (parts_of s.now) pool budget walk.now draft.old
+        → OnOk result (IsSearching (parts_of s.now) pool budget walk.now draft.new) }
     ensures nodes { OnOk result (draft.new.nodes ≡ draft.old.nodes) }
 {
     match found {
@@ -91,8 +93,9 @@ pub fn improve(
 ) -> Result<(), OutOfMemory>
     requires boxes { IsMadeFor (parts_of s.now) walk.now.present }
     requires rooms { AreRoomsFor (parts_of s.now) rooms.old }
-    ensures improved { (budget : Budget) → IsSearching (parts_of s.now) budget walk.now draft.old
-        → OnOk result (IsSearching (parts_of s.now) budget walk.now draft.new) }
+    ensures improved { (pool : List CutName) (budget : Budget)
+        → IsSearching (parts_of s.now) pool budget walk.now draft.old
+        → OnOk result (IsSearching (parts_of s.now) pool budget walk.now draft.new) }
     ensures rooms { AreRoomsFor (parts_of s.now) rooms.new }
 {
     if bound.is_reached(draft.best) {
@@ -115,8 +118,9 @@ pub fn improve_again(
 ) -> Result<(), OutOfMemory>
     requires boxes { IsMadeFor (parts_of s.now) walk.now.present }
     requires rooms { AreRoomsFor (parts_of s.now) rooms.old }
-    ensures improved { (budget : Budget) → IsSearching (parts_of s.now) budget walk.now draft.old
-        → OnOk result (IsSearching (parts_of s.now) budget walk.now draft.new) }
+    ensures improved { (pool : List CutName) (budget : Budget)
+        → IsSearching (parts_of s.now) pool budget walk.now draft.old
+        → OnOk result (IsSearching (parts_of s.now) pool budget walk.now draft.new) }
     ensures rooms { AreRoomsFor (parts_of s.now) rooms.new }
 {
     if !bound.is_above(before) || bound.is_reached(draft.best) {
@@ -147,8 +151,9 @@ pub fn improve_further(
 ) -> Result<(), OutOfMemory>
     requires boxes { IsMadeFor (parts_of s.now) walk.now.present }
     requires rooms { AreRoomsFor (parts_of s.now) rooms.old }
-    ensures improved { (budget : Budget) → IsSearching (parts_of s.now) budget walk.now draft.old
-        → OnOk result (IsSearching (parts_of s.now) budget walk.now draft.new) }
+    ensures improved { (pool : List CutName) (budget : Budget)
+        → IsSearching (parts_of s.now) pool budget walk.now draft.old
+        → OnOk result (IsSearching (parts_of s.now) pool budget walk.now draft.new) }
     ensures rooms { AreRoomsFor (parts_of s.now) rooms.new }
 {
     if !is_far(s, bound, draft.best) {
@@ -174,8 +179,9 @@ pub fn seek(
     requires made { IsMadeFor (parts_of s.now) whole.now }
     requires whole { box_of whole.now ≡ top_box walk.now }
     requires rooms { AreRoomsFor (parts_of s.now) rooms.old }
-    ensures improved { (budget : Budget) → IsSearching (parts_of s.now) budget walk.now draft.old
-        → OnOk result (IsSearching (parts_of s.now) budget walk.now draft.new) }
+    ensures improved { (pool : List CutName) (budget : Budget)
+        → IsSearching (parts_of s.now) pool budget walk.now draft.old
+        → OnOk result (IsSearching (parts_of s.now) pool budget walk.now draft.new) }
     ensures nodes { OnOk result (draft.new.nodes ≡ draft.old.nodes) }
     ensures rooms { AreRoomsFor (parts_of s.now) rooms.new }
 {
@@ -228,8 +234,9 @@ fn offer_in_first(
     found: Option<Plan>,
 ) -> Result<(), OutOfMemory>
     requires { IfSome found (IsPlanIn (parts_of s.now) (top_box walk.now)) }
-    ensures improved { (budget : Budget) → IsSearching (parts_of s.now) budget walk.now draft.old
-        → OnOk result (IsSearching (parts_of s.now) budget walk.now draft.new) }
+    ensures improved { (pool : List CutName) (budget : Budget)
+        → IsSearching (parts_of s.now) pool budget walk.now draft.old
+        → OnOk result (IsSearching (parts_of s.now) pool budget walk.now draft.new) }
     ensures nodes { OnOk result (draft.new.nodes ≡ draft.old.nodes) }
 {
     match found {

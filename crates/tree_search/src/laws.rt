@@ -25,7 +25,7 @@ pub fn search_records_are_bounds()
 pub fn search_trees_have_the_bound()
     ensures { (parts : Parts) (root : Box) (budget : Budget) (found : Found)
         → (searched : IsSearchRecord parts root budget found)
-        → IsTreeBound parts (IsLeafBoundAt parts) searched.tight found.tree found.bound }
+        → IsTreeBound parts (IsLeafBoundAt parts found.pool) searched.tight found.tree found.bound }
 {}
 
 /// Some budget of nodes is enough for a search to close its gap: its last plan costs no more than

@@ -18,18 +18,21 @@
 //! looks for good prices, and a short search by them for a plan that costs less than the greedy
 //! one. As long as a gap is left between what both tell, the climb goes on, so do searches for
 //! plans, and flights bid in turn before a climb goes on from there and a long search by its
-//! prices. Then it goes depth first, the early side of a split before the late one. For each box
-//! the greedy plan is made, and kept where it is cheaper than the last; so is the plan that the
-//! least trips of a climb are, where they keep the rules. An empty box is done with, and so is one
-//! in which there is no choice. Else the run of the box's relaxation gives a leaf, and prices
-//! another one, those of rounds or those of the climb: where the bound of one reaches what the best
-//! plan costs, or where there is no room for two nodes more, the box is done with, by the one that
-//! tells more; and else it is split. Both sides begin with the prices that told more of the box, so
-//! that by prices they tell no less than it.
+//! prices. Before the first box is done with, its relaxation is run without cuts, and the whole
+//! cuts that its point exceeds are the pool of the search: each run from then on has their rows.
+//! Then it goes depth first, the early side of a split before the late one. For each box the greedy
+//! plan is made, and kept where it is cheaper than the last; so is the plan that the least trips of
+//! a climb are, where they keep the rules. An empty box is done with, and so is one in which there
+//! is no choice. Else the run of the box's relaxation gives a leaf, and prices another one, those
+//! of rounds or those of the climb: where the bound of one reaches what the best plan costs, or
+//! where there is no room for two nodes more, the box is done with, by the one that tells more; and
+//! else it is split. Both sides begin with the prices that told more of the box, so that by prices
+//! they tell no less than it.
 //!
 //! The definitions stand in `specs/`: `Records` (what is handed back), `Nodes` (what is known of
-//! each node) and `Budgets` (a number of nodes that is enough); what a reader of its tree needs is
-//! `Trees` of `dual_leaf`. `Drafts`, `Visits`, `Seen`, `Rooms` and `Searching` serve the proofs.
+//! each node), `Pools` (which cuts its leaves may name) and `Budgets` (a number of nodes that is
+//! enough); what a reader of its tree needs is `Trees` of `dual_leaf`. `Drafts`, `Visits`, `Seen`,
+//! `Rooms` and `Searching` serve the proofs.
 //!
 //! Proved: `search` hands back a record (`record`), and no plan in the box that keeps every rule
 //! costs less than its bound (`sound`). Whoever made it, the bound of a record is one
@@ -38,13 +41,14 @@
 //!
 //! Memory: two boxes and the log of what changed on the way, some 110 bytes for each node of the
 //! tree and 24 for each row of a Dual leaf and each price of a Lag leaf, the plans, 16 for each
-//! price of each box of which a side waits, and what one run takes, one leaf, rounds of prices,
-//! climbs, the search for cheaper plans, and a copy of the box while a branch is chosen. Time: for
-//! each node a greedy plan, a run, the rounds, a climb of as many steps, and where it is split by
-//! prices eight climbs of ten steps; at the begin a climb of sixteen times as many steps as rounds,
-//! the search for a cheaper plan, bids, and up to six climbs of half as many steps that lean on the
-//! best plan; and after every sixteen boxes, up to 1,024, a third of the search for a plan once
-//! more. In the first box no more is done once a bound reaches what the best plan costs.
+//! price of each box of which a side waits, some 50 bytes for each of at most 10,000 cuts, and what
+//! one run takes, one leaf, rounds of prices, climbs, the search for cheaper plans, and a copy of
+//! the box while a branch is chosen. Time: for each node a greedy plan, a run, the rounds, a climb
+//! of as many steps, and where it is split by prices eight climbs of ten steps; at the begin a
+//! climb of sixteen times as many steps as rounds, the search for a cheaper plan, bids, and up to
+//! six climbs of half as many steps that lean on the best plan; and after every sixteen boxes, up
+//! to 1,024, a third of the search for a plan once more. In the first box no more is done once a
+//! bound reaches what the best plan costs.
 #![tactic(auto)]
 
 mod branching;
@@ -53,11 +57,13 @@ mod found;
 mod gap;
 mod improving;
 mod laws;
+mod pooling;
 mod pricing;
 mod probing;
 mod rooms;
 mod searching;
 mod seeing;
+mod setting;
 
 pub use found::{Bounds, Budget, Counts, Found, Plans};
 pub use laws::{enough_nodes_close, search_records_are_bounds, search_trees_have_the_bound};

@@ -1,6 +1,7 @@
 //! What prices tell of a box.
-ghost use Rattle.std.specs.Prelude.{◌≡◌, IfOk, IfSome, Ok};
+ghost use Rattle.std.specs.Prelude.{◌≡◌, IfOk, IfSome, List, Ok};
 ghost use Rattle.time_windows.specs.Tight.{IsLive};
+ghost use Rattle.cut_rows.specs.declared.names.CutName.{CutName};
 ghost use Rattle.dual_leaf.specs.Leaf.{IsLeafBound};
 ghost use Rattle.flow_types.specs.declared.bound.Bound.{Bound};
 ghost use Rattle.flow_types.specs.Scenario.{parts_of};
@@ -373,9 +374,9 @@ pub fn price_leaf(
     ensures prices { IfOk result
         (IsLagOf (parts_of s.now) (weight_from source) (prices_from rooms.now source)) }
     ensures range { IfOk result IsInRange }
-    ensures bound { IfOk result (λ leaf. (box : Box) (bound : Bound) → IsLive box
-        → Tells (parts_of s.now) box rooms.now source bound
-        → IsLeafBound (parts_of s.now) box leaf (Ok bound)) }
+    ensures bound { IfOk result (λ leaf. (pool : List CutName) (box : Box) (bound : Bound)
+        → IsLive box → Tells (parts_of s.now) box rooms.now source bound
+        → IsLeafBound (parts_of s.now) pool box leaf (Ok bound)) }
 {
     match source {
         Source::Rounds => lag_leaf(alloc, s, COST_WEIGHT, rooms.rounds.prices()),

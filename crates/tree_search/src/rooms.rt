@@ -10,15 +10,12 @@ use lagrange_bound::Rounds;
 use plan_improver::Improver;
 use price_ascent::{Ascent, KeptPrices};
 use std::alloc::Global;
-use valid_cuts::Pool;
 
 /// Rooms for the boxes of a scenario, made once.
 pub struct Rooms {
     pub plans: PlanRooms,
     pub leaves: LeafWork,
     pub prices: PriceRooms,
-    /// The cuts that leaves may name.
-    pub pool: Pool,
 }
 
 // Written out, so that proofs see one call where a room is let go of.
@@ -28,7 +25,6 @@ impl Drop for Rooms {
             plans: _,
             leaves: _,
             prices: _,
-            pool: _,
         } = self;
     }
 }
@@ -78,7 +74,6 @@ pub fn rooms_for(alloc: Global, s: &Scenario) -> Result<Rooms, OutOfMemory>
         plans: plan_rooms(alloc, s)?,
         leaves: LeafWork::new(alloc, s)?,
         prices: price_rooms(alloc, s)?,
-        pool: Pool::empty(alloc),
     })
 }
 

@@ -1,5 +1,5 @@
 //! The search.
-ghost use Rattle.std.specs.Prelude.{◌≡◌, [], ◌∷◌, ◌+◌, ◌<◌, ◌≤◌, ◌↔◌, IfSome, IsTrue, IfOk, OnOk, true};
+ghost use Rattle.std.specs.Prelude.{◌≡◌, [], ◌∷◌, ◌+◌, ◌<◌, ◌≤◌, ◌↔◌, IfSome, IsTrue, IfOk, List, OnOk, length, true};
 ghost use Rattle.branch_tree.specs.declared.tree.TreeNode.TheVariants.{Leaf as LeafNode, Split as SplitNode};
 ghost use Rattle.branch_tree.specs.Trees.{is_tree};
 ghost use Rattle.time_windows.specs.Plans.{IsBoundIn, IsPlanIn};
@@ -11,10 +11,14 @@ ghost use Rattle.time_windows.specs.Tight.{IsTight, IsTightened};
 ghost use Rattle.tree_search.specs.declared.found.Budget.{Budget};
 ghost use Rattle.branch_tree.specs.declared.walk.Step.TheVariants.{Early};
 ghost use Rattle.flow_types.specs.Bounds.{least_of, lesser};
+ghost use Rattle.cut_rows.specs.declared.names.CutName.{CutName};
+ghost use Rattle.cut_rows.specs.Pools.{IsPoolOf};
 ghost use Rattle.tree_search.specs.Drafts.{IsBlank, IsNoted};
+ghost use Rattle.tree_search.specs.Pools.{IsFirstPool};
 ghost use Rattle.tree_search.specs.Records.{IsSearchRecord};
 ghost use Rattle.tree_search.specs.Rooms.{AreRoomsFor};
 ghost use Rattle.tree_search.specs.Searching.{IsLeft, IsSearched, IsSearching, IsStepped, planned_in};
+ghost use Rattle.tree_search.specs.Seen.{IsRelaxedIn};
 ghost use Rattle.tree_search.specs.Visits.{IsVisited};
 ghost use Rattle.branch_tree.specs.Paths.{AreSteps, IsFork, IsNextOr, top_box};
 
@@ -22,16 +26,19 @@ use crate::branching::first_choice;
 use crate::draft::{RecordDraft, no_draft, note, offer};
 use crate::found::{Budget, Found};
 use crate::improving::{improve, improve_again, improve_further, offer_found, seek};
+use crate::pooling::{Pooled, pool_for};
 use crate::pricing::{LEAD_PART, begin_climb, climb_again, climb_by_plan, climb_further, follow};
 use crate::rooms::{Rooms, rooms_for};
-use crate::seeing::{Seen, see};
+use crate::seeing::{Seen, Standing, see};
+use crate::setting::Setting;
 use branch_tree::{Branch, Leaf, Tree, TreeNode, Walk};
+use cut_rows::Pool;
 use flow_types::{Bound, OutOfMemory, Plan, Scenario};
 use greedy_plan::Greedy;
 use plan_improver::Search;
+use relaxed_bound::Relaxed;
 use std::alloc::Global;
 use time_windows::Boxes;
-use valid_cuts::Pool;
 
 // Offers the greedy plan of the box.
 fn visit(
@@ -112,26 +119,38 @@ fn split(
 }
 
 // Sees the present box, writes down what is seen, and goes to the next one, if there is one. Each
-// plan that is known is in the first box.
+// plan that is known is in the first box, with which the pool goes.
 fn go_on(
     alloc: Global,
     s: &Scenario,
-    budget: Budget,
+    setting: Setting<'_>,
     rooms: &mut Rooms,
     walk: &mut Walk,
     draft: &mut RecordDraft,
     first: bool,
+    told: Option<Relaxed>,
 ) -> Result<bool, OutOfMemory>
     requires first { IsTrue first → walk.old.above ≡ [] }
-    requires searching { IsSearching (parts_of s.now) budget walk.old draft.old }
+    requires searching { IsSearching (parts_of s.now) setting.pool.now setting.budget walk.old
+        draft.old }
     requires rooms { AreRoomsFor (parts_of s.now) rooms.old }
-    ensures left { IfOk result
-        (IsLeft (parts_of s.now) budget walk.old draft.old walk.new draft.new) }
+    requires pool { IsPoolOf (parts_of s.now) setting.pool.now }
+    requires begun { length draft.old.nodes ≡ 0 → IsFirstPool (parts_of s.now) setting.budget.limits
+        draft.old.best (box_of walk.old.present) setting.pool.now }
+    requires told { IfSome told (IsRelaxedIn (parts_of s.now) setting.pool.now
+        (box_of walk.old.present) setting.budget.limits draft.old.best) }
+    ensures left { IfOk result (IsLeft (parts_of s.now) setting.entry.pool.now setting.entry.budget
+        walk.old
+        draft.old walk.new draft.new) }
     ensures rooms { AreRoomsFor (parts_of s.now) rooms.new }
 {
-    let more = has_room(budget, walk, draft);
-    let cutoff = draft.best;
-    let seen = see(alloc, s, walk.boxes(), rooms, budget, cutoff, more, first)?;
+    let more = has_room(setting.budget, walk, draft);
+    let standing = Standing {
+        cutoff: draft.best,
+        known: first,
+        more,
+    };
+    let seen = see(alloc, s, walk.boxes(), rooms, setting, standing, told)?;
     match seen {
         Seen::Leaf { leaf, bound } => {
             let next = leave(s, walk, draft, leaf, bound)?;
@@ -184,8 +203,9 @@ fn climb_on(
 ) -> Result<(), OutOfMemory>
     requires boxes { IsMadeFor (parts_of s.now) walk.now.present }
     requires rooms { AreRoomsFor (parts_of s.now) rooms.old }
-    ensures improved { (budget : Budget) → IsSearching (parts_of s.now) budget walk.now draft.old
-        → OnOk result (IsSearching (parts_of s.now) budget walk.now draft.new) }
+    ensures improved { (pool : List CutName) (budget : Budget)
+        → IsSearching (parts_of s.now) pool budget walk.now draft.old
+        → OnOk result (IsSearching (parts_of s.now) pool budget walk.now draft.new) }
     ensures nodes { OnOk result (draft.new.nodes ≡ draft.old.nodes) }
     ensures rooms { AreRoomsFor (parts_of s.now) rooms.new }
 {
@@ -197,21 +217,29 @@ fn climb_on(
 fn step(
     alloc: Global,
     s: &Scenario,
-    budget: Budget,
+    setting: Setting<'_>,
     rooms: &mut Rooms,
     walk: &mut Walk,
     draft: &mut RecordDraft,
     first: bool,
+    told: Option<Relaxed>,
 ) -> Result<bool, OutOfMemory>
     requires first { IsTrue first → walk.old.above ≡ [] }
-    requires searching { IsSearching (parts_of s.now) budget walk.old draft.old }
+    requires searching { IsSearching (parts_of s.now) setting.pool.now setting.budget walk.old
+        draft.old }
     requires rooms { AreRoomsFor (parts_of s.now) rooms.old }
-    ensures stepped { IfOk result
-        (IsStepped (parts_of s.now) budget walk.old draft.old walk.new draft.new) }
+    requires pool { IsPoolOf (parts_of s.now) setting.pool.now }
+    requires begun { length draft.old.nodes ≡ 0 → IsFirstPool (parts_of s.now) setting.budget.limits
+        draft.old.best (box_of walk.old.present) setting.pool.now }
+    requires told { IfSome told (IsRelaxedIn (parts_of s.now) setting.pool.now
+        (box_of walk.old.present) setting.budget.limits draft.old.best) }
+    ensures stepped { IfOk result (IsStepped
+        (parts_of s.now) setting.entry.pool.now setting.entry.budget
+        walk.old draft.old walk.new draft.new) }
     ensures rooms { AreRoomsFor (parts_of s.now) rooms.new }
 {
     let before = walk.waiting();
-    if !go_on(alloc, s, budget, rooms, walk, draft, first)? {
+    if !go_on(alloc, s, setting, rooms, walk, draft, first, told)? {
         return Ok(false);
     }
     follow(s, &mut rooms.prices, before, walk.waiting())?;
@@ -219,32 +247,72 @@ fn step(
     Ok(true)
 }
 
-// Goes on to the next box after a climb of so many steps in the present one.
+// Goes on to the next box after a climb in the present one, which isn't the first.
 fn advance(
     alloc: Global,
     s: &Scenario,
-    budget: Budget,
+    setting: Setting<'_>,
     rooms: &mut Rooms,
     walk: &mut Walk,
     draft: &mut RecordDraft,
-    steps: u32,
-    first: bool,
 ) -> Result<bool, OutOfMemory>
-    requires first { IsTrue first → walk.old.above ≡ [] }
-    requires searching { IsSearching (parts_of s.now) budget walk.old draft.old }
+    requires searching { IsSearching (parts_of s.now) setting.pool.now setting.budget walk.old
+        draft.old }
     requires rooms { AreRoomsFor (parts_of s.now) rooms.old }
-    ensures stepped { IfOk result
-        (IsStepped (parts_of s.now) budget walk.old draft.old walk.new draft.new) }
+    requires pool { IsPoolOf (parts_of s.now) setting.pool.now }
+    requires begun { 0 < length draft.old.nodes }
+    ensures stepped { IfOk result (IsStepped
+        (parts_of s.now) setting.entry.pool.now setting.entry.budget
+        walk.old draft.old walk.new draft.new) }
     ensures rooms { AreRoomsFor (parts_of s.now) rooms.new }
 {
-    climb_on(alloc, s, walk, rooms, draft, steps)?;
-    let more = step(alloc, s, budget, rooms, walk, draft, first)?;
+    climb_on(alloc, s, walk, rooms, draft, setting.budget.rounds)?;
+    let more = step(alloc, s, setting, rooms, walk, draft, false, None)?;
     Ok(more)
 }
 
-// Searches from the tight box on, which is the path's first one and `whole`, until no box waits.
-// The climb in that box has so many steps, and this bound is known of it.
+// Searches from the path's first box on, which is `whole`, until no box waits. This bound is known
+// of it, and what its relaxation tells may be there already.
 fn run(
+    alloc: Global,
+    s: &Scenario,
+    setting: Setting<'_>,
+    rooms: &mut Rooms,
+    whole: &Boxes,
+    walk: &mut Walk,
+    draft: &mut RecordDraft,
+    bound: Bound,
+    told: Option<Relaxed>,
+) -> Result<(), OutOfMemory>
+    requires made { IsMadeFor (parts_of s.now) whole.now }
+    requires whole { box_of whole.now ≡ top_box walk.old }
+    requires first { walk.old.above ≡ [] }
+    requires searching { IsSearching (parts_of s.now) setting.pool.now setting.budget walk.old
+        draft.old }
+    requires rooms { AreRoomsFor (parts_of s.now) rooms.old }
+    requires pool { IsPoolOf (parts_of s.now) setting.pool.now }
+    requires begun { IsFirstPool (parts_of s.now) setting.budget.limits draft.old.best
+        (box_of walk.old.present) setting.pool.now }
+    requires told { IfSome told (IsRelaxedIn (parts_of s.now) setting.pool.now
+        (box_of walk.old.present) setting.budget.limits draft.old.best) }
+    ensures { OnOk result (IsSearched (parts_of s.now) setting.entry.pool.now setting.entry.budget
+        (top_box walk.old) draft.new) }
+{
+    let mut number = 1u32;
+    if !step(alloc, s, setting, rooms, walk, draft, true, told)? {
+        return Ok(());
+    }
+    seek(alloc, s, whole, walk, rooms, draft, bound, number)?;
+    while advance(alloc, s, setting, rooms, walk, draft)? {
+        number = number.saturating_add(1);
+        seek(alloc, s, whole, walk, rooms, draft, bound, number)?;
+    }
+    Ok(())
+}
+
+// Looks for a plan of the first box by prices, and makes the pool that goes with it; then searches
+// until no box waits. The climb in the first box has so many steps, and this bound is known of it.
+fn run_first(
     alloc: Global,
     s: &Scenario,
     budget: Budget,
@@ -252,26 +320,36 @@ fn run(
     whole: &Boxes,
     walk: &mut Walk,
     draft: &mut RecordDraft,
-    first_steps: u32,
+    steps: u32,
     bound: Bound,
-) -> Result<(), OutOfMemory>
+) -> Result<Pool, OutOfMemory>
     requires made { IsMadeFor (parts_of s.now) whole.now }
     requires whole { box_of whole.now ≡ top_box walk.old }
     requires first { walk.old.above ≡ [] }
-    requires searching { IsSearching (parts_of s.now) budget walk.old draft.old }
+    requires here { IsMadeFor (parts_of s.now) walk.old.present }
+    requires tight { IsTight (parts_of s.now) (box_of walk.old.present) }
+    requires searching { (pool : List CutName)
+        → IsSearching (parts_of s.now) pool budget walk.old draft.old }
     requires rooms { AreRoomsFor (parts_of s.now) rooms.old }
-    ensures { OnOk result (IsSearched (parts_of s.now) budget (top_box walk.old) draft.new) }
+    ensures cuts { IfOk result (IsPoolOf (parts_of s.now)) }
+    ensures searched { IfOk result (λ pool.
+        IsSearched (parts_of s.now) pool budget (top_box walk.old) draft.new) }
 {
-    let mut steps = first_steps;
-    let mut first = true;
-    let mut number = 0u32;
-    while advance(alloc, s, budget, rooms, walk, draft, steps, first)? {
-        steps = budget.rounds;
-        first = false;
-        number = number.saturating_add(1);
-        seek(alloc, s, whole, walk, rooms, draft, bound, number)?;
-    }
-    Ok(())
+    climb_on(alloc, s, walk, rooms, draft, steps)?;
+    let Pooled { pool, relaxed } = pool_for(
+        alloc,
+        s,
+        walk.boxes(),
+        &rooms.leaves,
+        budget.limits,
+        draft.best,
+    )?;
+    let setting = Setting {
+        budget,
+        pool: &pool,
+    };
+    run(alloc, s, setting, rooms, whole, walk, draft, bound, relaxed)?;
+    Ok(pool)
 }
 
 // The least of the bounds.
@@ -286,14 +364,14 @@ fn least_of(bounds: &[Bound]) -> Bound
     least
 }
 
-// What is handed back of a whole tree.
-fn found_in(alloc: Global, draft: RecordDraft) -> Found
+// What is handed back of a whole tree, and the cuts that its leaves may name.
+fn found_in(draft: RecordDraft, pool: Pool) -> Found
     requires { is_tree draft.nodes ≡ true }
     ensures plans { result.plans ≡ draft.plans }
     ensures tree { result.tree ≡ draft.nodes }
     ensures counts { result.counts ≡ draft.counts }
     ensures bounds { result.bounds ≡ draft.bounds }
-    ensures pool { result.pool ≡ [] }
+    ensures pool { result.pool ≡ pool }
     ensures bound { result.bound ≡ least_of result.bounds }
 {
     let RecordDraft {
@@ -311,7 +389,7 @@ fn found_in(alloc: Global, draft: RecordDraft) -> Found
             tree,
             counts,
             bounds,
-            pool: Pool::empty(alloc),
+            pool,
             bound,
         },
     }
@@ -332,13 +410,18 @@ fn search_from(
     whole: &Boxes,
     walk: &mut Walk,
     draft: &mut RecordDraft,
-) -> Result<(), OutOfMemory>
+) -> Result<Pool, OutOfMemory>
     requires made { IsMadeFor (parts_of s.now) whole.now }
     requires whole { box_of whole.now ≡ top_box walk.old }
     requires first { walk.old.above ≡ [] }
-    requires searching { IsSearching (parts_of s.now) budget walk.old draft.old }
+    requires here { IsMadeFor (parts_of s.now) walk.old.present }
+    requires tight { IsTight (parts_of s.now) (box_of walk.old.present) }
+    requires searching { (pool : List CutName)
+        → IsSearching (parts_of s.now) pool budget walk.old draft.old }
     requires rooms { AreRoomsFor (parts_of s.now) rooms.old }
-    ensures { OnOk result (IsSearched (parts_of s.now) budget (top_box walk.old) draft.new) }
+    ensures cuts { IfOk result (IsPoolOf (parts_of s.now)) }
+    ensures searched { IfOk result (λ pool.
+        IsSearched (parts_of s.now) pool budget (top_box walk.old) draft.new) }
 {
     let bound = begin_climb(
         s,
@@ -378,7 +461,7 @@ fn search_from(
     )?;
     improve_again(alloc, s, walk, rooms, draft, before, bound)?;
     let steps = steps_for(budget.rounds, bound, draft.best);
-    run(alloc, s, budget, rooms, whole, walk, draft, steps, bound)
+    run_first(alloc, s, budget, rooms, whole, walk, draft, steps, bound)
 }
 
 // Searches the tight box, of which nothing is written down yet.
@@ -389,18 +472,27 @@ fn search_in(
     budget: Budget,
     rooms: &mut Rooms,
     draft: &mut RecordDraft,
-) -> Result<(), OutOfMemory>
+) -> Result<Pool, OutOfMemory>
     requires nodes { 0 < budget.nodes }
     requires made { IsMadeFor (parts_of s.now) boxes }
     requires tight { IsTight (parts_of s.now) (box_of boxes) }
     requires rooms { AreRoomsFor (parts_of s.now) rooms.old }
     requires blank { IsBlank draft.old }
-    ensures { OnOk result (IsSearched (parts_of s.now) budget (box_of boxes) draft.new) }
+    ensures cuts { IfOk result (IsPoolOf (parts_of s.now)) }
+    ensures searched { IfOk result (λ pool.
+        IsSearched (parts_of s.now) pool budget (box_of boxes) draft.new) }
 {
     visit(alloc, s, &boxes, rooms, draft)?;
     let whole = boxes.copy(alloc)?;
     let mut walk = Walk::new(alloc, boxes)?;
     search_from(alloc, s, budget, rooms, &whole, &mut walk, draft)
+}
+
+// What is written down of a whole search, and the cuts that its leaves may name.
+#[derive(Drop)]
+struct Searched {
+    draft: RecordDraft,
+    pool: Pool,
 }
 
 // Searches from the tight box on, and gives all that is written down.
@@ -410,16 +502,18 @@ fn draft_of(
     boxes: Boxes,
     budget: Budget,
     rooms: &mut Rooms,
-) -> Result<RecordDraft, OutOfMemory>
+) -> Result<Searched, OutOfMemory>
     requires nodes { 0 < budget.nodes }
     requires made { IsMadeFor (parts_of s.now) boxes }
     requires tight { IsTight (parts_of s.now) (box_of boxes) }
     requires rooms { AreRoomsFor (parts_of s.now) rooms.old }
-    ensures { IfOk result (IsSearched (parts_of s.now) budget (box_of boxes)) }
+    ensures cuts { IfOk result (λ searched. IsPoolOf (parts_of s.now) searched.pool) }
+    ensures searched { IfOk result (λ searched. IsSearched (parts_of s.now) searched.pool budget
+        (box_of boxes) searched.draft) }
 {
     let mut draft = no_draft(alloc);
-    search_in(alloc, s, boxes, budget, rooms, &mut draft)?;
-    Ok(draft)
+    let pool = search_in(alloc, s, boxes, budget, rooms, &mut draft)?;
+    Ok(Searched { draft, pool })
 }
 
 // Searches from the tight box on, in rooms that are made for it.
@@ -428,11 +522,13 @@ fn search_tight(
     s: &Scenario,
     boxes: Boxes,
     budget: Budget,
-) -> Result<RecordDraft, OutOfMemory>
+) -> Result<Searched, OutOfMemory>
     requires nodes { 0 < budget.nodes }
     requires made { IsMadeFor (parts_of s.now) boxes }
     requires tight { IsTight (parts_of s.now) (box_of boxes) }
-    ensures { IfOk result (IsSearched (parts_of s.now) budget (box_of boxes)) }
+    ensures cuts { IfOk result (λ searched. IsPoolOf (parts_of s.now) searched.pool) }
+    ensures searched { IfOk result (λ searched. IsSearched (parts_of s.now) searched.pool budget
+        (box_of boxes) searched.draft) }
 {
     let mut rooms = rooms_for(alloc, s)?;
     draft_of(alloc, s, boxes, budget, &mut rooms)
@@ -443,7 +539,8 @@ fn search_tight(
 /// cheaper than the one before, and the tree that proves a bound: no plan in the box that keeps
 /// every rule costs less, and with `NoPlan` there is none. The last plan costs the bound, or there
 /// is neither a plan nor a bound, or fewer than two nodes of the budget were left (branch and
-/// bound, after Land and Doig 1960).
+/// bound, after Land and Doig 1960). Before its first node it makes a pool of cuts: those that the
+/// point of the tight box's relaxation exceeds, and every run from then on has their rows.
 ///
 /// It takes two copies of the box, what `PlanWork`, `LeafWork`, `Rounds`, `Ascent` and `Improver`
 /// take, for each node some 110 bytes and what its leaf takes, 24 bytes a row, and for one box at a
@@ -462,6 +559,6 @@ pub fn search(
 {
     let mut boxes = root.copy(alloc)?;
     boxes.tighten(s);
-    let draft = search_tight(alloc, s, boxes, budget)?;
-    Ok(found_in(alloc, draft))
+    let Searched { draft, pool } = search_tight(alloc, s, boxes, budget)?;
+    Ok(found_in(draft, pool))
 }

@@ -14,20 +14,23 @@ ghost use Rattle.time_windows.specs.Boxes.{Box};
 ghost use Rattle.flow_types.specs.Bounds.{is_reached};
 ghost use Rattle.time_windows.specs.Held.{IsMadeFor, box_of};
 ghost use Rattle.time_windows.specs.Tight.{IsLive, IsTight};
-ghost use Rattle.tree_search.specs.Seen.{IsBranchOf, IsSeen, may_split};
+ghost use Rattle.cut_rows.specs.Pools.{IsPoolOf};
+ghost use Rattle.cut_rows.specs.Table.{IsTableFor};
+ghost use Rattle.relaxed_bound.specs.Point.{IsPointIn, IsToldPoint};
+ghost use Rattle.tree_search.specs.Seen.{IsBranchOf, IsRelaxedIn, IsSeen, may_split};
 
 use crate::branching::{first_choice, nearest_half};
-use crate::found::Budget;
 use crate::pricing::{price, price_leaf};
 use crate::probing::strongest;
 use crate::rooms::{PriceRooms, Rooms};
+use crate::setting::Setting;
 use branch_tree::{Branch, Leaf};
+use cut_rows::{Pool, Table};
 use dual_leaf::LeafWork;
 use flow_types::{Bound, OutOfMemory, Scenario};
-use relaxed_bound::{Point, Relaxed, relax};
+use relaxed_bound::{Limits, Point, Relaxed, relax};
 use std::alloc::Global;
 use time_windows::Boxes;
-use valid_cuts::Pool;
 
 /// What is seen of a box.
 #[derive(Drop)]
@@ -38,29 +41,44 @@ pub enum Seen {
     Split(Branch),
 }
 
+/// What is known before a box is seen.
+#[derive(Clone, Copy)]
+pub struct Standing {
+    /// What the best plan costs, if one is known.
+    pub cutoff: Option<i64>,
+    /// Whether that plan is in the box.
+    pub known: bool,
+    /// Whether there is room for two nodes more.
+    pub more: bool,
+}
+
 /// What is seen of the box. Where no plan is in it the leaf is Empty, and where it has no choice
 /// the leaf is Unit. Else the leaf is that of the relaxation's run or of prices, whichever tells
 /// more; or, where neither reaches the cutoff and there is room for two nodes more, the box is
 /// split. Where a plan in the box is known to cost the cutoff, a bound that reaches it is enough.
+/// What the relaxation tells may be there already.
 pub fn see(
     alloc: Global,
     s: &Scenario,
     boxes: &Boxes,
     rooms: &mut Rooms,
-    budget: Budget,
-    cutoff: Option<i64>,
-    more: bool,
-    known: bool,
+    setting: Setting<'_>,
+    standing: Standing,
+    told: Option<Relaxed>,
 ) -> Result<Seen, OutOfMemory>
     requires made { IsMadeFor (parts_of s.now) boxes.now }
     requires tight { IsTight (parts_of s.now) (box_of boxes.now) }
     requires rooms { AreRoomsFor (parts_of s.now) rooms.old }
-    requires known { IsTrue known
-        → IfSome cutoff (HasPlanAt (parts_of s.now) (box_of boxes.now)) }
+    requires pool { IsPoolOf (parts_of s.now) setting.pool.now }
+    requires known { IsTrue standing.known
+        → IfSome standing.cutoff (HasPlanAt (parts_of s.now) (box_of boxes.now)) }
+    requires told { IfSome told (IsRelaxedIn (parts_of s.now) setting.pool.now
+        (box_of boxes.now) setting.budget.limits standing.cutoff) }
     requires tried { IsUnitBox (box_of boxes.now) → (bound : Bound)
         → IsCostIn (parts_of s.now) (box_of boxes.now) bound
-        → is_reached cutoff bound ≡ true }
-    ensures seen { IfOk result (IsSeen (parts_of s.now) budget cutoff more (box_of boxes.now)) }
+        → is_reached standing.cutoff bound ≡ true }
+    ensures seen { IfOk result (IsSeen (parts_of s.now) setting.entry.pool.now setting.entry.budget
+        standing.cutoff standing.more (box_of boxes.now)) }
     ensures rooms { AreRoomsFor (parts_of s.now) rooms.new }
 {
     if boxes.is_empty() {
@@ -71,14 +89,14 @@ pub fn see(
     }
     match first_choice(s, boxes) {
         None => {
-            let bound = bound_of(s, &rooms.pool, boxes, &mut rooms.leaves, &Leaf::Unit);
+            let bound = bound_of(s, setting.pool, boxes, &mut rooms.leaves, &Leaf::Unit);
             Ok(Seen::Leaf {
                 leaf: Leaf::Unit,
                 bound,
             })
         }
         Some(branch) => {
-            let seen = see_open(alloc, s, boxes, rooms, budget, cutoff, more, known, branch)?;
+            let seen = see_open(alloc, s, boxes, rooms, setting, standing, told, branch)?;
             Ok(seen)
         }
     }
@@ -90,29 +108,38 @@ fn see_open(
     s: &Scenario,
     boxes: &Boxes,
     rooms: &mut Rooms,
-    budget: Budget,
-    cutoff: Option<i64>,
-    more: bool,
-    known: bool,
+    setting: Setting<'_>,
+    standing: Standing,
+    told: Option<Relaxed>,
     branch: Branch,
 ) -> Result<Seen, OutOfMemory>
     requires made { IsMadeFor (parts_of s.now) boxes.now }
     requires tight { IsTight (parts_of s.now) (box_of boxes.now) }
     requires rooms { AreRoomsFor (parts_of s.now) rooms.old }
-    requires known { IsTrue known
-        → IfSome cutoff (HasPlanAt (parts_of s.now) (box_of boxes.now)) }
+    requires pool { IsPoolOf (parts_of s.now) setting.pool.now }
+    requires known { IsTrue standing.known
+        → IfSome standing.cutoff (HasPlanAt (parts_of s.now) (box_of boxes.now)) }
+    requires told { IfSome told (IsRelaxedIn (parts_of s.now) setting.pool.now
+        (box_of boxes.now) setting.budget.limits standing.cutoff) }
     requires live { IsLive (box_of boxes.now) }
     requires branch { IsBranchOf (parts_of s.now) (box_of boxes.now) branch }
-    ensures seen { IfOk result (IsSeen (parts_of s.now) budget cutoff more (box_of boxes.now)) }
+    ensures seen { IfOk result (IsSeen (parts_of s.now) setting.entry.pool.now setting.entry.budget
+        standing.cutoff standing.more (box_of boxes.now)) }
     ensures rooms { AreRoomsFor (parts_of s.now) rooms.new }
 {
+    let Standing {
+        cutoff,
+        known,
+        more,
+    } = standing;
     let table = rooms.leaves.table();
+    let relaxed = told_or_run(alloc, s, boxes, table, setting, cutoff, told)?;
     let Relaxed {
         leaf,
         end: _,
         point,
-    } = relax(alloc, s, &rooms.pool, boxes, table, budget.limits, cutoff)?;
-    let run = bound_of(s, &rooms.pool, boxes, &mut rooms.leaves, &leaf);
+    } = relaxed;
+    let run = bound_of(s, setting.pool, boxes, &mut rooms.leaves, &leaf);
     if is_closed(known, cutoff, run) {
         return Ok(Seen::Leaf { leaf, bound: run });
     }
@@ -121,7 +148,7 @@ fn see_open(
         s,
         boxes,
         &mut rooms.prices,
-        budget.rounds,
+        setting.budget.rounds,
         cutoff,
         run,
         enough,
@@ -138,6 +165,63 @@ fn see_open(
     } else {
         Ok(Seen::Leaf { leaf, bound: run })
     }
+}
+
+// What the relaxation of the box tells: what is there already, or by a run.
+fn told_or_run(
+    alloc: Global,
+    s: &Scenario,
+    boxes: &Boxes,
+    table: &Table,
+    setting: Setting<'_>,
+    cutoff: Option<i64>,
+    told: Option<Relaxed>,
+) -> Result<Relaxed, OutOfMemory>
+    requires made { IsMadeFor (parts_of s.now) boxes.now }
+    requires tight { IsTight (parts_of s.now) (box_of boxes.now) }
+    requires table { IsTableFor (parts_of s.now) table.now }
+    requires pool { IsPoolOf (parts_of s.now) setting.pool.now }
+    requires told { IfSome told (IsRelaxedIn (parts_of s.now) setting.pool.now
+        (box_of boxes.now) setting.budget.limits cutoff) }
+    ensures { IfOk result (IsRelaxedIn (parts_of s.now) setting.entry.pool.now (box_of boxes.now)
+        setting.entry.budget.limits cutoff) }
+{
+    match told {
+        Some(relaxed) => Ok(relaxed),
+        None => run_of(
+            alloc,
+            s,
+            boxes,
+            table,
+            setting.pool,
+            setting.budget.limits,
+            cutoff,
+        ),
+    }
+}
+
+/// What a run of the box's relaxation with these cuts tells.
+pub fn run_of(
+    alloc: Global,
+    s: &Scenario,
+    boxes: &Boxes,
+    table: &Table,
+    pool: &Pool,
+    limits: Limits,
+    cutoff: Option<i64>,
+) -> Result<Relaxed, OutOfMemory>
+    requires made { IsMadeFor (parts_of s.now) boxes.now }
+    requires tight { IsTight (parts_of s.now) (box_of boxes.now) }
+    requires table { IsTableFor (parts_of s.now) table.now }
+    requires pool { IsPoolOf (parts_of s.now) pool.now }
+    ensures relaxed { IfOk result (IsRelaxedIn (parts_of s.now) pool.now (box_of boxes.now) limits
+        cutoff) }
+    ensures point { IfOk result (λ relaxed. IfSome relaxed.point
+        (IsPointIn (parts_of s.now) pool.now (box_of boxes.now))) }
+    ensures told { IfOk result (λ relaxed. IsToldPoint (parts_of s.now) pool.now
+        (box_of boxes.now) limits cutoff relaxed.point) }
+{
+    relax(alloc, s, pool, boxes, table, limits, cutoff)
 }
 
 // Whether a plan is known, and the bound reaches what it costs.
@@ -193,8 +277,10 @@ fn bound_of(s: &Scenario, pool: &Pool, boxes: &Boxes, work: &mut LeafWork, leaf:
     requires work { IsRoomFor (parts_of s.now) work.old }
     requires range { IsInRange leaf.now }
     requires some { (answer : Result Bound LeafFault)
-        → IsLeafBound (parts_of s.now) (box_of boxes.now) leaf.now answer → IsOk answer }
-    ensures bound { IsLeafBound (parts_of s.now) (box_of boxes.now) leaf.now (Ok result) }
+        → IsLeafBound (parts_of s.now) pool.now (box_of boxes.now) leaf.now answer
+        → IsOk answer }
+    ensures bound { IsLeafBound (parts_of s.now) pool.now (box_of boxes.now) leaf.now
+        (Ok result) }
     ensures near { IsNearOf leaf.now result }
     ensures work { IsRoomFor (parts_of s.now) work.new }
 {

@@ -15,7 +15,8 @@ returns-then-is_above-clause-most c =
 pub returns-else-is_above-clause-told : goal.returns-else-is_above-clause-told
 returns-else-is_above-clause-told c =
     rounds_told (parts_of c.args.s.now) (box_of c.args.boxes.now) c.play-played.new.self
-    c.lead_on.new.rooms c.play-played.result (c.lead_on.ensures.rounds ∙ same) c.play-played.ensures.told c.play-played.ensures.placed
+    c.lead_on.new.rooms c.play-played.result (c.lead_on.ensures.rounds
+    ∙ same) c.play-played.ensures.told c.play-played.ensures.placed
   where
     same : c.else-is_none.rooms.rounds ≡ c.play-played.new.self
     same = elim c.else-is_none.branch [

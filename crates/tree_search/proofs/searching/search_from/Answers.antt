@@ -1,8 +1,8 @@
 use Rattle.tree_search.proofs.searching.search_from.Goals as goal
 
-pub run-requires-clause-searching : goal.run-requires-clause-searching
-run-requires-clause-searching c =
-    c.in_ok-improve_again.ensures.improved c.args.budget
-    (c.in_ok-improve-2.ensures.improved c.args.budget
-    (c.in_ok-improve_further.ensures.improved c.args.budget
-    (c.in_ok-improve.ensures.improved c.args.budget c.requires.searching)))
+pub run_first-requires-clause-searching : goal.run_first-requires-clause-searching
+run_first-requires-clause-searching c = λ pool.
+    c.in_ok-improve_again.ensures.improved pool c.args.budget
+    (c.in_ok-improve-2.ensures.improved pool c.args.budget
+    (c.in_ok-improve_further.ensures.improved pool c.args.budget
+    (c.in_ok-improve.ensures.improved pool c.args.budget (c.requires.searching pool))))

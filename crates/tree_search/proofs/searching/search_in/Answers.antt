@@ -3,9 +3,9 @@ use Rattle.tree_search.proofs.BeginFacts.{begun_at}
 use Rattle.tree_search.proofs.searching.search_in.Goals as goal
 
 pub search_from-requires-clause-searching : goal.search_from-requires-clause-searching
-search_from-requires-clause-searching c =
+search_from-requires-clause-searching c = λ pool.
     let blank = c.requires.blank in
-    begun_at (parts_of c.args.s.now) c.args.budget c.args.boxes c.args.draft.now
+    begun_at (parts_of c.args.s.now) pool c.args.budget c.args.boxes c.args.draft.now
     c.visit.new.draft c.args.s.now.valid c.requires.nodes c.requires.made c.requires.tight
     blank.plans blank.nodes blank.counts blank.bounds blank.best
     c.in_ok-visit.ensures.visited c.in_ok-walk.walk c.in_ok-walk.ensures.present
