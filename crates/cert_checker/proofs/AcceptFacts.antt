@@ -1,10 +1,11 @@
 -- The certificate of a lawful tree is accepted. Its lines go down the tree; the late side of a
 -- split is made tight when its turn comes, and is then the box that the lawful tree has there.
-use Rattle.std.proofs.Common.{◌≡◌, inl, inr, ℕ, suc, ◌+◌, ◌-◌, ◌<◌, true, false, List, [], ◌∷◌, ◌++◌, length, drop, slice_get, append_assoc, Option, None, Some, Ok, refl, sym, ◌∙◌, ap, ap₂, subst, ℤ, arith}
-use Rattle.std.specs.Prelude.{int_le, nat_eq, nat_lt, slice_index_or}
+use Rattle.std.proofs.Common.{◌≡◌, inl, inr, ℕ, suc, ◌+◌, ◌-◌, ◌<◌, Bool, true, false, All, AllPairs, List, [], ◌∷◌, ◌++◌, length, drop, slice_get, append_assoc, Option, None, Some, Ok, Err, refl, sym, ◌∙◌, ap, ap₂, subst, ℤ, arith}
+use Rattle.std.specs.Prelude.{if◌then◌else◌, int_le, nat_eq, nat_lt, slice_index_or}
 use Rattle.std.proofs.lemmas.Bool.{and_from, eq-eqb, le-ltb, lt-ltb}
 use Rattle.std.proofs.lemmas.Int.{ints}
-use Rattle.std.proofs.lemmas.List.{append-nil, length-append}
+use Rattle.std.proofs.lemmas.List.{append-nil, get_or_push, length-append}
+use Rattle.std.proofs.lemmas.Option.{slice_get-get_or}
 use Rattle.std.proofs.lemmas.Slice.Eq.{bytes_eq-Decides}
 use Rattle.flow_types.specs.declared.bound.Bound.{Bound}
 use Rattle.flow_types.specs.declared.bound.Bound.TheVariants.{AtLeast, NoPlan}
@@ -27,6 +28,9 @@ use Rattle.time_windows.proofs.MadeFacts.{early_inside, late_inside, within_insi
 use Rattle.time_windows.proofs.WindowFacts.{if_lt}
 use Rattle.bytime_model.specs.declared.multiplier.Multiplier.{Multiplier}
 use Rattle.bytime_model.specs.Rows.{is_node}
+use Rattle.cut_rows.specs.declared.names.CutName.{CutName}
+use Rattle.cut_rows.specs.Cuts.{is_cut}
+use Rattle.cut_rows.specs.Order.{IsBefore, follows, follows_last}
 use Rattle.branch_tree.specs.declared.leaf.Leaf.{Leaf as LeafKind}
 use Rattle.branch_tree.specs.declared.leaf.Leaf.TheVariants as leaf
 use Rattle.branch_tree.specs.declared.tree.TreeNode.{TreeNode}
@@ -37,11 +41,12 @@ use Rattle.dual_leaf.specs.Leaf.{IsLeafBound}
 use Rattle.dual_leaf.specs.Trees.{IsLeafBoundAt}
 use Rattle.certificate.specs.declared.item.CertItem.{CertItem}
 use Rattle.certificate.specs.declared.item.CertItem.TheVariants as item
-use Rattle.certificate.specs.ItemLines.{cert_items, leaf_items, plan_items, row_items, tree_items, trip_items}
+use Rattle.certificate.specs.ItemLines.{cert_items, leaf_items, plan_items, pool_items, row_items, tree_items, trip_items}
 use Rattle.certificate.specs.Texts.{Certified, cert_text}
 use Rattle.certificate.specs.Writable.{IsWritable}
 use Rattle.certificate.proofs.TextsBack.{text_reads}
 use Rattle.cert_checker.specs.declared.claim.CertClaim.{CertClaim}
+use Rattle.cert_checker.specs.declared.fault.StepFault.{StepFault}
 use Rattle.cert_checker.specs.declared.progress.LeafDraft.{LeafDraft}
 use Rattle.cert_checker.specs.declared.progress.Progress.{Progress}
 use Rattle.cert_checker.specs.declared.progress.RowLeaf.{RowLeaf}
@@ -51,7 +56,7 @@ use Rattle.cert_checker.specs.declared.progress.Told.TheVariants as told
 use Rattle.cert_checker.specs.Accepted.{IsLawfulCertificate, claim_of}
 use Rattle.cert_checker.specs.Checks.{IfThere}
 use Rattle.cert_checker.specs.Fronts.{Front, GoesOn, front_at, front_in, none_left}
-use Rattle.cert_checker.specs.Steps.{IsLeafAt, IsRowsAt, Outcome, begun, leaf_of, may_name, plan_fault, same_bound, same_cost, trips_told, with_bound, with_node}
+use Rattle.cert_checker.specs.Steps.{IsLeafAt, IsRowsAt, Outcome, at_front, begun, cut_told, leaf_of, may_name, plan_fault, same_bound, same_cost, trips_told, with_bound, with_cut, with_node}
 use Rattle.cert_checker.specs.Verdicts.{After, IsVerdict, IsVerdictOn, claim_told, in_line}
 use Rattle.cert_checker.proofs.OutsideFacts.{nowhere_outside}
 use Rattle.cert_checker.proofs.SoundFacts.{AreBoxesOf}
@@ -104,9 +109,53 @@ goes_on parts (box ∷ boxes) [] are = absurd are
 goes_on parts (box ∷ boxes) (tight ∷ tights) are =
     (front_at tight boxes, (tight, are.0, refl), (boxes, are.1, refl))
 
-abbrev AreNamed : Parts → RowLeaf → List Multiplier → Type 0
-AreNamed parts kind rows = (k : ℕ) (multiplier : Multiplier) → slice_get rows k ≡ Some multiplier
-    → may_name parts kind multiplier.row ≡ true
+abbrev AreNamed : Parts → List CutName → RowLeaf → List Multiplier → Type 0
+AreNamed parts pool kind rows = (k : ℕ) (multiplier : Multiplier)
+    → slice_get rows k ≡ Some multiplier → may_name parts pool kind multiplier.row ≡ true
+
+-- a cut of the scenario that comes after those before it is taken
+cut_taken : (parts : Parts) (progress : Progress) (cut : CutName)
+    → follows progress.pool cut ≡ true → is_cut parts cut ≡ true
+    → Ok (with_cut progress cut) ≡ cut_told parts progress cut
+cut_taken parts progress cut after there =
+    by (follows progress.pool cut) (is_cut parts cut) _ _ after there
+  where
+    by : (after there : Bool) (bad early : StepFault) → after ≡ true → there ≡ true
+        → Ok (with_cut progress cut)
+        ≡ (if after then (if there then Ok (with_cut progress cut) else Err bad) else Err early)
+    by true true bad early after there = refl
+    by true false bad early after there = absurd (let wrong : false ≡ true = there in cc wrong)
+    by false any bad early after there = absurd (let wrong : false ≡ true = after in cc wrong)
+
+-- these cuts were told, and nothing else
+abbrev taken : List CutName → Progress
+taken cuts = record { pool = cuts; bound = NoPlan; nodes = 0; told = told.Nothing }
+
+-- the next of these cuts, if there is one, comes after those before it
+abbrev IsNext : List CutName → List CutName → Type 0
+IsNext done [] = Unit {0}
+IsNext done (cut ∷ cuts) = follows done cut ≡ true
+
+none_before : (cuts : List CutName) → IsNext [] cuts
+none_before [] = tt
+none_before (cut ∷ cuts) = refl
+
+next_after : (cut : CutName) (cuts done : List CutName) → AllPairs IsBefore (cut ∷ cuts)
+    → IsNext (done ++ cut ∷ []) cuts
+next_after cut [] done order = tt
+next_after cut (next ∷ cuts) done order =
+    subst (λ last. follows_last last next ≡ true) (sym last_is)
+    (order 0 1 cut (omega arith) (omega arith))
+  where
+    last : length (done ++ cut ∷ []) - 1 ≡ length done
+    last = let size = length-append done (cut ∷ []) in omega (arith, size)
+
+    last_is : slice_get (done ++ cut ∷ []) (length (done ++ cut ∷ []) - 1) ≡ Some cut
+    last_is =
+        let size = length-append done (cut ∷ []) in
+        ap (slice_get (done ++ cut ∷ [])) last
+        ∙ slice_get-get_or (done ++ cut ∷ []) (length done) cut (omega (arith, size))
+        ∙ ap Some (get_or_push done cut cut (length done) refl)
 
 module _ (parts : Parts) (root : Box) (digest : List ℕ) (claim : CertClaim) where
   abbrev Accepts : ℕ → List CertItem → Front → Progress → Type 0
@@ -126,7 +175,7 @@ module _ (parts : Parts) (root : Box) (digest : List ℕ) (claim : CertClaim) wh
   module _ (box : Box) (waiting boxes : List Box) (are : AreTightOf parts waiting boxes)
       (progress : Progress) (bound : Bound) (more : List CertItem)
       (rest : AcceptsAt more boxes (with_bound progress bound)) where
-    leaf_done : (line : ℕ) (kind : LeafKind) → IsLeafBound parts box kind (Ok bound)
+    leaf_done : (line : ℕ) (kind : LeafKind) → IsLeafBound parts progress.pool box kind (Ok bound)
         → (outcome : Outcome) × IsLeafAt parts box waiting progress kind outcome
         × Goes line more outcome
     leaf_done line kind is =
@@ -137,20 +186,20 @@ module _ (parts : Parts) (root : Box) (digest : List ℕ) (claim : CertClaim) wh
         )
 
     rows_done : (rows : List Multiplier) (line : ℕ) (kind : RowLeaf) (weight : ℕ)
-        (done : List Multiplier) → AreNamed parts kind rows
-        → IsLeafBound parts box (leaf_of kind weight (done ++ rows)) (Ok bound)
+        (done : List Multiplier) → AreNamed parts progress.pool kind rows
+        → IsLeafBound parts progress.pool box (leaf_of kind weight (done ++ rows)) (Ok bound)
         → (outcome : Outcome)
         × IsRowsAt parts box waiting progress kind weight (length rows) done outcome
         × Goes line (row_items rows ++ more) outcome
     rows_done [] line kind weight done named is =
         leaf_done line (leaf_of kind weight done)
-        (subst (λ rows. IsLeafBound parts box (leaf_of kind weight rows) (Ok bound))
+        (subst (λ rows. IsLeafBound parts progress.pool box (leaf_of kind weight rows) (Ok bound))
         (append-nil done) is)
     rows_done (multiplier ∷ rows) line kind weight done named is =
         let (outcome, at, goes) =
         rows_done rows (line + 1) kind weight (done ++ multiplier ∷ [])
         (λ k. named (suc k))
-        (subst (λ all. IsLeafBound parts box (leaf_of kind weight all) (Ok bound))
+        (subst (λ all. IsLeafBound parts progress.pool box (leaf_of kind weight all) (Ok bound))
         (sym (append_assoc done (multiplier ∷ []) rows)) is) in
         let left : length rows ≡ suc (length rows) - 1 = omega arith in
         let draft : LeafDraft = record {
@@ -172,7 +221,8 @@ module _ (parts : Parts) (root : Box) (digest : List ℕ) (claim : CertClaim) wh
           ),
         )
 
-    leaf_accepted : (line : ℕ) (kind : LeafKind) → IsLeafBound parts box kind (Ok bound)
+    leaf_accepted : (line : ℕ) (kind : LeafKind)
+        → IsLeafBound parts progress.pool box kind (Ok bound)
         → Accepts line (leaf_items kind ++ more) (front_at box waiting) progress
     leaf_accepted line leaf.Empty is = leaf_done line leaf.Empty is
     leaf_accepted line leaf.Unit is = leaf_done line leaf.Unit is
@@ -185,18 +235,44 @@ module _ (parts : Parts) (root : Box) (digest : List ℕ) (claim : CertClaim) wh
         (outcome, inr (is.live, at), goes)
     leaf_accepted line (leaf.Lag weight rows) (inr none) = absurd none
 
+  cuts_accepted : (box : Box) (more : List CertItem) (cuts done : List CutName)
+      → ((line : ℕ) → Accepts line more (front_at box []) (taken (done ++ cuts)))
+      → All (λ cut. is_cut parts cut ≡ true) cuts → AllPairs IsBefore cuts → IsNext done cuts
+      → (line : ℕ) → Accepts line (pool_items cuts ++ more) (front_at box []) (taken done)
+  cuts_accepted box more [] done rest there order next line =
+      subst (λ cuts. Accepts line more (front_at box []) (taken cuts)) (append-nil done)
+      (rest line)
+  cuts_accepted box more (cut ∷ cuts) done rest there order next line = (
+    Ok (front_at box [], taken (done ++ cut ∷ [])),
+    ap (at_front (front_at box []))
+        (cut_taken parts (taken done) cut next (there 0 cut (omega arith))),
+    cuts_accepted box more cuts (done ++ cut ∷ [])
+        (λ at. subst (λ all. Accepts at more (front_at box []) (taken all))
+        (sym (append_assoc done (cut ∷ []) cuts)) (rest at))
+        (λ k d within. there (suc k) d (omega (arith, within)))
+        (λ i j d less within. order (suc i) (suc j) d (omega (arith, less))
+        (omega (arith, within)))
+        (next_after cut cuts done order) (line + 1),
+  )
+
   -- what was told, where so many nodes are behind
-  module _ (bounds : List Bound) where
+  module _ (pool : List CutName) (bounds : List Bound) where
     record IsSoFar (number : ℕ) (progress : Progress) : Type 0 where
+      cuts : progress.pool ≡ pool
       bound : lesser progress.bound (least_of (drop number bounds)) ≡ least_of bounds
       nodes : progress.nodes ≡ number
       told : progress.told ≡ told.Nothing
 
     abbrev over : Progress
-    over = record { bound = least_of bounds; nodes = length bounds; told = told.Nothing }
+    over = record {
+      pool = pool;
+      bound = least_of bounds;
+      nodes = length bounds;
+      told = told.Nothing;
+    }
 
     abbrev IsNode : ℕ → Box → TreeNode → Type 0
-    IsNode = IsLawfulAt parts (IsLeafBoundAt parts) bounds
+    IsNode = IsLawfulAt parts (IsLeafBoundAt parts pool) bounds
 
     all_over : (number : ℕ) (progress : Progress) → number ≡ length bounds
         → IsSoFar number progress → progress ≡ over
@@ -204,12 +280,14 @@ module _ (parts : Parts) (root : Box) (digest : List ℕ) (claim : CertClaim) wh
         let bound = least_all progress.bound bounds number (omega (arith, ends)) so.bound in
         let nodes = so.nodes ∙ ends in
         let told_is = so.told in
-        rw (bound, nodes, told_is) refl
+        let cuts = so.cuts in
+        rw (cuts, bound, nodes, told_is) refl
 
     leaf_more : (number : ℕ) (progress : Progress) → number < length bounds
         → IsSoFar number progress
         → IsSoFar (number + 1) (with_bound progress (slice_index_or bounds number NoPlan))
     leaf_more number progress within so = record {
+      cuts = so.cuts;
       bound = least_more progress.bound bounds number NoPlan within so.bound;
       nodes = ap (λ n. n + 1) so.nodes;
       told = so.told;
@@ -219,6 +297,7 @@ module _ (parts : Parts) (root : Box) (digest : List ℕ) (claim : CertClaim) wh
         → slice_index_or bounds number NoPlan ≡ NoPlan → IsSoFar number progress
         → IsSoFar (number + 1) (with_node progress)
     split_more number progress within none so = record {
+      cuts = so.cuts;
       bound = ap (λ b. lesser b (least_of (drop (number + 1) bounds)))
           (sym (ap (lesser progress.bound) none ∙ lesser_none progress.bound))
           ∙ least_more progress.bound bounds number NoPlan within so.bound;
@@ -247,7 +326,8 @@ module _ (parts : Parts) (root : Box) (digest : List ℕ) (claim : CertClaim) wh
         (sym (append_assoc (leaf_items kind) (tree_items nodes) more))
         (leaf_accepted box waiting boxes are progress bound (tree_items nodes ++ more)
         (nodes_accepted nodes (number + 1) boxes (with_bound progress bound) more leads.1
-        inside.1 next (leaf_more number progress within so) rest) line kind leads.0.1))
+        inside.1 next (leaf_more number progress within so) rest) line kind
+        (subst (λ cuts. IsLeafBound parts cuts box kind (Ok bound)) (sym so.cuts) leads.0.1)))
     nodes_accepted (Split f n t cutoff ∷ nodes) number [] progress more leads inside sized so rest
         line front is = absurd leads
     nodes_accepted (Split f n t cutoff ∷ nodes) number (box ∷ boxes) progress more
@@ -294,7 +374,12 @@ module _ (parts : Parts) (valid : IsScenario parts) (root : Box) (inside : IsBox
 
   -- all nodes are behind, and so much of the plan was told
   abbrev past : Told → Progress
-  past now = record { bound = cert.bound; nodes = length cert.tree; told = now }
+  past now = record {
+    pool = cert.pool;
+    bound = cert.bound;
+    nodes = length cert.tree;
+    told = now;
+  }
 
   ended : (line : ℕ) (now : Told)
       → in_line (line + 1 + 1) (claim_told (past now) now) ≡ Ok (claim_of parts cert)
@@ -384,12 +469,9 @@ module _ (parts : Parts) (valid : IsScenario parts) (root : Box) (inside : IsBox
   all_accepted = (
     Ok (front_at lawful.tight [], begun),
     rw ((bytes_eq-Decides cert.digest cert.digest).1 refl) refl,
-    nodes_accepted parts root cert.digest (claim_of parts cert) bounds cert.tree 0
-        (lawful.tight ∷ []) begun (plan_items parts cert.plan ++ last_items)
-        lawful.tree.lawful.nodes_are
-        (within_inside parts root lawful.tight lawful.tight_is.within inside, tt)
-        all_nodes (record { bound = refl; nodes = refl; told = refl })
-        after 2 (front_at lawful.tight []) ([], tt, refl),
+    cuts_accepted parts root cert.digest (claim_of parts cert) lawful.tight
+        (tree_items cert.tree ++ (plan_items parts cert.plan ++ last_items)) cert.pool []
+        tree_accepted lawful.cuts lawful.order (none_before cert.pool) 2,
   )
     where
       bounds : List Bound
@@ -398,25 +480,42 @@ module _ (parts : Parts) (valid : IsScenario parts) (root : Box) (inside : IsBox
       all_nodes : 0 + length cert.tree ≡ length bounds
       all_nodes = let same = lawful.tree.lawful.bounded in omega (arith, same)
 
-      past_is : record { bound = least_of bounds; nodes = length bounds; told = told.Nothing }
-          ≡ past told.Nothing
+      told_then : Progress
+      told_then = record {
+        pool = cert.pool;
+        bound = least_of bounds;
+        nodes = length bounds;
+        told = told.Nothing;
+      }
+
+      past_is : told_then ≡ past told.Nothing
       past_is =
           ap₂ (λ (least : Bound) (count : ℕ). record {
+            pool = cert.pool;
             bound = least;
             nodes = count;
             told = told.Nothing;
           }) (sym lawful.tree.least) lawful.tree.lawful.bounded
 
       after : AcceptsAt parts root cert.digest (claim_of parts cert)
-          (plan_items parts cert.plan ++ last_items) []
-          (record { bound = least_of bounds; nodes = length bounds; told = told.Nothing })
+          (plan_items parts cert.plan ++ last_items) [] told_then
       after line front is =
           subst (λ now. Accepts parts root cert.digest (claim_of parts cert) line
-          (plan_items parts cert.plan ++ last_items) now
-          (record { bound = least_of bounds; nodes = length bounds; told = told.Nothing }))
-          (sym is)
+          (plan_items parts cert.plan ++ last_items) now told_then) (sym is)
           (subst (λ progress. Ends line (plan_items parts cert.plan ++ last_items) progress)
           (sym past_is) (plan_end cert.plan refl line))
+
+      tree_accepted : (line : ℕ)
+          → Accepts parts root cert.digest (claim_of parts cert) line
+          (tree_items cert.tree ++ (plan_items parts cert.plan ++ last_items))
+          (front_at lawful.tight []) (taken cert.pool)
+      tree_accepted line =
+          nodes_accepted parts root cert.digest (claim_of parts cert) cert.pool bounds cert.tree 0
+          (lawful.tight ∷ []) (taken cert.pool) (plan_items parts cert.plan ++ last_items)
+          lawful.tree.lawful.nodes_are
+          (within_inside parts root lawful.tight lawful.tight_is.within inside, tt) all_nodes
+          (record { cuts = refl; bound = refl; nodes = refl; told = refl }) after line
+          (front_at lawful.tight []) ([], tt, refl)
 
   pub accepted : IsVerdict parts root cert.digest (cert_text parts cert)
       (Ok (claim_of parts cert))

@@ -103,7 +103,8 @@ module _ (parts : Parts) (valid : IsScenario parts) where
     leaf_at_once leaf first second =
         after_once first.answer first.after
         (subst (λ answer. IsAfterLeaf parts boxes progress answer b)
-        (leaf_one parts box leaf second.answer first.answer valid second.bound first.bound)
+        (leaf_one parts progress.pool box leaf second.answer first.answer valid second.bound
+        first.bound)
         second.after)
 
     rows_once : (kind : RowLeaf) (weight left : ℕ) (rows : List Multiplier)
@@ -145,6 +146,7 @@ module _ (parts : Parts) (valid : IsScenario parts) where
         (a b : Outcome) → IsTreeStep parts root digest front box progress item a
         → IsTreeStep parts root digest front box progress item b → a ≡ b
     tree_step_once front box progress (item.Head stated) a b first second = first ∙ sym second
+    tree_step_once front box progress (item.Cut cut) a b first second = first ∙ sym second
     tree_step_once front box progress (item.Split f n t cutoff) a b first second =
         split_once box front.waiting progress a b f n t first second
     tree_step_once front box progress item.Empty a b first second =

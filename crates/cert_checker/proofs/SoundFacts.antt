@@ -1,7 +1,7 @@
 -- An accepted claim holds, whoever made the text: each plan in the first box that keeps every rule
 -- is allowed by the bounds so far, or is in a box whose node is still to come.
 use Rattle.std.proofs.Common.{◌≡◌, ◌⊎◌, inl, inr, ℕ, zero, suc, ◌+◌, ◌-◌, Bool, true, false, List, [], ◌∷◌, ◌++◌, length, Option, None, Some, Result, Ok, Err, refl, sym, ap, subst, ℤ, arith}
-use Rattle.std.specs.Prelude.{IfOk, int_le, nat_lt}
+use Rattle.std.specs.Prelude.{IfOk, if◌then◌else◌, int_le, nat_lt}
 use Rattle.std.proofs.lemmas.Bool.{and_parts}
 use Rattle.std.proofs.lemmas.Int.{ints}
 use Rattle.flow_outside.specs.Held.{Held}
@@ -23,6 +23,9 @@ use Rattle.time_windows.proofs.LawFacts.{share_plan}
 use Rattle.time_windows.proofs.MadeFacts.{early_inside, late_inside, within_inside}
 use Rattle.time_windows.proofs.PlanFacts.{plan_kept}
 use Rattle.bytime_model.specs.declared.multiplier.Multiplier.{Multiplier}
+use Rattle.cut_rows.specs.declared.names.CutName.{CutName}
+use Rattle.cut_rows.specs.Cuts.{is_cut}
+use Rattle.cut_rows.specs.Order.{follows}
 use Rattle.branch_tree.specs.declared.leaf.Leaf.{Leaf as LeafKind}
 use Rattle.branch_tree.specs.declared.leaf.Leaf.TheVariants as leaf
 use Rattle.branch_tree.proofs.ForestFacts.{IsInOne}
@@ -48,7 +51,7 @@ use Rattle.cert_checker.specs.Checks.{IfThere, IsChecked}
 use Rattle.cert_checker.specs.Claims.{IsTrueClaim}
 use Rattle.cert_checker.specs.Fronts.{Front, GoesOn, front_at}
 use Rattle.cert_checker.specs.Outside.{first_outside}
-use Rattle.cert_checker.specs.Steps.{IsAfterLeaf, IsLeafAt, IsLeafLineAt, IsMadeSplit, IsRowAt, IsRowLine, IsRowsAt, IsSplitAt, IsStep, IsStepAt, IsTreeStep, Outcome, at_front, begun, bound_fault, count_fault, digest_fault, later_told, leaf_of, or_fault, outside_fault, plan_fault, plan_told, progress_told, same_cost, trip_told, trips_told, unless_fault, with_bound}
+use Rattle.cert_checker.specs.Steps.{IsAfterLeaf, IsLeafAt, IsLeafLineAt, IsMadeSplit, IsRowAt, IsRowLine, IsRowsAt, IsSplitAt, IsStep, IsStepAt, IsTreeStep, Outcome, at_front, begun, bound_fault, count_fault, cut_told, digest_fault, later_told, leaf_of, or_fault, outside_fault, plan_fault, plan_told, progress_told, same_cost, trip_told, trips_told, unless_fault, with_bound, with_cut}
 use Rattle.cert_checker.specs.Verdicts.{IsVerdict, IsVerdictOn, claim_at, claim_told, in_line}
 use Rattle.cert_checker.proofs.OutsideFacts.{in_box}
 
@@ -173,8 +176,9 @@ module _ (parts : Parts) (root : Box) (digest : List ℕ) (valid : IsScenario pa
     IsSafe (Err fault) = Unit {0}
 
     is_safe : (leaf : LeafKind) (answer : Result Bound LeafFault)
-        → IsLeafBound parts box leaf answer → IsSafe answer
-    is_safe leaf (Ok bound) is = leaf_bounds parts box leaf bound valid box_of is
+        → IsLeafBound parts progress.pool box leaf answer → IsSafe answer
+    is_safe leaf (Ok bound) is =
+        leaf_bounds parts progress.pool box leaf bound valid box_of is
     is_safe leaf (Err fault) is = tt
 
     after_sound : (answer : Result Bound LeafFault) → IsSafe answer
@@ -344,10 +348,26 @@ module _ (parts : Parts) (root : Box) (digest : List ℕ) (valid : IsScenario pa
   same_still old now None truth is =
       subst (IsStill old) (ap (ok_or now) is) (record { bound = refl; truth = truth })
 
+  -- a cut changes neither
+  cut_by : (after there : Bool) (old now : Progress) (cut : CutName) (bad early : StepFault)
+      → IsTruth old.told
+      → (if after then (if there then Ok (with_cut old cut) else Err bad) else Err early) ≡ Ok now
+      → IsStill old now
+  cut_by true true old now cut bad early truth is =
+      subst (IsStill old) (ap (ok_or now) is) (record { bound = refl; truth = truth })
+  cut_by true false old now cut bad early truth is = absurd (let e : ⊥ = cc is in e)
+  cut_by false there old now cut bad early truth is = absurd (let e : ⊥ = cc is in e)
+
+  cut_still : (old now : Progress) (cut : CutName) → IsTruth old.told
+      → cut_told parts old cut ≡ Ok now → IsStill old now
+  cut_still old now cut truth is =
+      cut_by (follows old.pool cut) (is_cut parts cut) old now cut _ _ truth is
+
   later_still : (old now : Progress) (it : CertItem) → IsTruth old.told
       → later_told parts root digest old it ≡ Ok now → IsStill old now
   later_still old now (item.Head stated) truth is =
       same_still old now (digest_fault digest stated) truth is
+  later_still old now (item.Cut cut) truth is = absurd (let e : ⊥ = cc is in e)
   later_still old now (item.Plan cost) truth is =
       told_still old now (plan_told parts root old.told cost)
       (λ next. plan_truth old.told next cost) is
@@ -402,6 +422,9 @@ module _ (parts : Parts) (root : Box) (digest : List ℕ) (valid : IsScenario pa
           (still_sound front progress sound
           (unless_fault progress (digest_fault digest stated))
           (λ now. same_still progress now (digest_fault digest stated) sound.truth))
+      by (item.Cut cut) is = subst OnOutcome (sym is)
+          (still_sound front progress sound (cut_told parts progress cut)
+          (λ now. cut_still progress now cut sound.truth))
       by (item.Split flight node time cutoff) is =
           split_at_sound box front.waiting progress outcome box_of sound.waiting sound.truth plans
           flight node time is

@@ -28,6 +28,7 @@ row_fits draft multiplier is value =
 
 pub item_fits : (it : CertItem) → IsRanged it → IsFitItem it
 item_fits (item.Head digest) is = tt
+item_fits (item.Cut cut) is = tt
 item_fits (item.Split flight node time cutoff) is = tt
 item_fits item.Empty is = tt
 item_fits item.Unit is = tt

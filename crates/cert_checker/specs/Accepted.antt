@@ -1,5 +1,5 @@
 -- Certificates that are accepted, whoever made them, and what they claim.
-use Rattle.std.specs.Prelude.{List, length, Option, None, Some, ℤ}
+use Rattle.std.specs.Prelude.{◌≡◌, true, All, AllPairs, List, length, Option, None, Some, ℤ}
 use Rattle.flow_types.specs.declared.parts.Parts.{Parts}
 use Rattle.flow_types.specs.declared.plan.Stop.{Stop}
 use Rattle.flow_types.specs.Costs.{plan_cost}
@@ -7,17 +7,21 @@ use Rattle.time_windows.specs.Boxes.{Box}
 use Rattle.time_windows.specs.Plans.{IsPlanIn}
 use Rattle.time_windows.specs.Tight.{IsTightened}
 use Rattle.branch_tree.specs.Lawful.{IsTreeBound}
+use Rattle.cut_rows.specs.Cuts.{is_cut}
+use Rattle.cut_rows.specs.Order.{IsBefore}
 use Rattle.dual_leaf.specs.Trees.{IsLeafBoundAt}
 use Rattle.certificate.specs.Texts.{Certified}
 use Rattle.cert_checker.specs.declared.claim.CertClaim.{CertClaim}
 use Rattle.cert_checker.specs.Checks.{IfThere}
 
--- A lawful tree on the tight first box, with the tree's bound, and no plan or one in the first box
--- that keeps every rule.
+-- Cuts of the scenario, in order; a lawful tree on the tight first box, whose leaves may name them,
+-- with the tree's bound; and no plan or one in the first box that keeps every rule.
 pub record IsLawfulCertificate (parts : Parts) (root : Box) (cert : Certified) : Type 0 where
   pub tight : Box
   pub tight_is : IsTightened parts root tight
-  pub tree : IsTreeBound parts (IsLeafBoundAt parts) tight cert.tree cert.bound
+  pub cuts : All (λ cut. is_cut parts cut ≡ true) cert.pool
+  pub order : AllPairs IsBefore cert.pool
+  pub tree : IsTreeBound parts (IsLeafBoundAt parts cert.pool) tight cert.tree cert.bound
   pub plan : IfThere (IsPlanIn parts root) cert.plan
 
 abbrev pub cost_of : Parts → Option (List (List Stop)) → Option ℤ

@@ -16,14 +16,18 @@ use Rattle.time_windows.specs.Splits.{IsBranching, early_branch, late_branch}
 use Rattle.time_windows.specs.Tight.{IsLive, IsTightened}
 use Rattle.bytime_model.specs.declared.multiplier.Multiplier.{Multiplier}
 use Rattle.bytime_model.specs.declared.names.RowName.{RowName}
-use Rattle.bytime_model.specs.Rows.{is_node, is_row}
+use Rattle.bytime_model.specs.Rows.{is_node}
 use Rattle.branch_tree.specs.declared.leaf.Leaf.{Leaf as LeafKind}
 use Rattle.branch_tree.specs.declared.leaf.Leaf.TheVariants as leaf
 use Rattle.dual_leaf.specs.declared.fault.LeafFault.{LeafFault}
 use Rattle.dual_leaf.specs.declared.fault.LeafFault.TheVariants as leaf_fault
+use Rattle.cut_rows.specs.declared.names.CutName.{CutName}
+use Rattle.cut_rows.specs.Cuts.{is_cut}
+use Rattle.cut_rows.specs.Order.{follows}
+use Rattle.cut_rows.specs.Pools.{is_row_with}
 use Rattle.dual_leaf.specs.Lag.{is_priceable}
 use Rattle.dual_leaf.specs.Leaf.{IsLeafBound}
-use Rattle.certificate.specs.declared.fault.TextCause.TheVariants.{BadKind}
+use Rattle.certificate.specs.declared.fault.TextCause.TheVariants.{BadCut, BadKind, Order}
 use Rattle.certificate.specs.declared.item.CertItem.{CertItem}
 use Rattle.certificate.specs.declared.item.CertItem.TheVariants as item
 use Rattle.cert_checker.specs.declared.fault.CertCause.{CertCause}
@@ -49,11 +53,21 @@ bad_kind = fault_in 1 (cause.Text BadKind)
 
 -- nothing was told
 abbrev pub begun : Progress
-begun = record { bound = NoPlan; nodes = 0; told = told.Nothing }
+begun = record { pool = []; bound = NoPlan; nodes = 0; told = told.Nothing }
+
+-- a cut more
+abbrev pub with_cut : Progress → CutName → Progress
+with_cut progress cut = record {
+  pool = progress.pool ++ cut ∷ [];
+  bound = progress.bound;
+  nodes = progress.nodes;
+  told = progress.told;
+}
 
 -- a split more
 abbrev pub with_node : Progress → Progress
 with_node progress = record {
+  pool = progress.pool;
   bound = progress.bound;
   nodes = progress.nodes + 1;
   told = progress.told;
@@ -62,6 +76,7 @@ with_node progress = record {
 -- a leaf more
 abbrev pub with_bound : Progress → Bound → Progress
 with_bound progress bound = record {
+  pool = progress.pool;
   bound = lesser progress.bound bound;
   nodes = progress.nodes + 1;
   told = progress.told;
@@ -70,6 +85,7 @@ with_bound progress bound = record {
 -- something of the plan
 abbrev pub with_told : Progress → Told → Progress
 with_told progress now = record {
+  pool = progress.pool;
   bound = progress.bound;
   nodes = progress.nodes;
   told = now;
@@ -127,7 +143,7 @@ IsAfterLeaf parts boxes progress (Ok bound) outcome =
 pub record IsLeafAt (parts : Parts) (box : Box) (boxes : List Box) (progress : Progress)
     (leaf : LeafKind) (outcome : Outcome) : Type 0 where
   pub answer : Result Bound LeafFault
-  pub bound : IsLeafBound parts box leaf answer
+  pub bound : IsLeafBound parts progress.pool box leaf answer
   pub after : IsAfterLeaf parts boxes progress answer outcome
 
 abbrev pub leaf_of : RowLeaf → ℕ → List Multiplier → LeafKind
@@ -153,15 +169,15 @@ IsLeafLineAt parts box boxes progress kind weight rows outcome =
     ⊎ (IsLive box × IsRowsAt parts box boxes progress kind weight rows [] outcome)
 
 -- a row that the leaf may name
-abbrev pub may_name : Parts → RowLeaf → RowName → Bool
-may_name parts Dual name = is_row parts name
-may_name parts Lag name = is_priceable parts name
+abbrev pub may_name : Parts → List CutName → RowLeaf → RowName → Bool
+may_name parts pool Dual name = is_row_with parts pool name
+may_name parts pool Lag name = is_priceable parts name
 
 abbrev pub IsRowAt : Parts → Box → List Box → Progress → LeafDraft → Multiplier → Outcome → Type 0
 IsRowAt parts box boxes progress draft multiplier outcome =
-    ((may_name parts draft.kind multiplier.row ≡ false)
+    ((may_name parts progress.pool draft.kind multiplier.row ≡ false)
     × (outcome ≡ Err (fault_in 2 cause.UnknownRow)))
-    ⊎ ((may_name parts draft.kind multiplier.row ≡ true)
+    ⊎ ((may_name parts progress.pool draft.kind multiplier.row ≡ true)
     × IsRowsAt parts box boxes progress draft.kind draft.weight (draft.left - 1)
     (draft.rows ++ multiplier ∷ []) outcome)
 
@@ -235,6 +251,14 @@ abbrev pub progress_told : Progress → Result Told StepFault → Result Progres
 progress_told progress (Ok now) = Ok (with_told progress now)
 progress_told progress (Err fault) = Err fault
 
+-- a cut comes after those before it, and is one of the scenario
+abbrev pub cut_told : Parts → Progress → CutName → Result Progress StepFault
+cut_told parts progress cut =
+    if follows progress.pool cut
+    then (if is_cut parts cut then Ok (with_cut progress cut)
+    else Err (fault_in 2 (cause.Text BadCut)))
+    else Err (fault_in 2 (cause.Text Order))
+
 -- the boxes stay
 abbrev pub at_front : Front → Result Progress StepFault → Outcome
 at_front front (Ok progress) = Ok (front, progress)
@@ -254,7 +278,7 @@ later_told parts root digest progress (item.End nodes) =
     unless_fault progress (count_fault progress nodes)
 later_told parts root digest progress other = Err bad_kind
 
--- where a node is to come no line of what follows the tree can stand, and no head
+-- where a node is to come no line of what follows the tree can stand, no head and no cut
 abbrev pub IsNodeStep : Parts → Front → Box → Progress → CertItem → Outcome → Type 0
 IsNodeStep parts front box progress (item.Split flight node time cutoff) outcome =
     IsSplitAt parts box front.waiting progress flight node time outcome
@@ -271,10 +295,12 @@ IsNodeStep parts front box progress (item.Row multiplier) outcome =
 IsNodeStep parts front box progress other outcome = outcome ≡ Err bad_kind
 
 module _ (parts : Parts) (root : Box) (digest : List ℕ) where
-  -- but the head of the text
+  -- but the head of the text, and the cuts
   abbrev pub IsTreeStep : Front → Box → Progress → CertItem → Outcome → Type 0
   IsTreeStep front box progress (item.Head stated) outcome =
       outcome ≡ at_front front (unless_fault progress (digest_fault digest stated))
+  IsTreeStep front box progress (item.Cut cut) outcome =
+      outcome ≡ at_front front (cut_told parts progress cut)
   IsTreeStep front box progress other outcome = IsNodeStep parts front box progress other outcome
 
   abbrev pub IsStepAt : Option Box → Front → Progress → CertItem → Outcome → Type 0

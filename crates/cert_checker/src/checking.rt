@@ -84,7 +84,7 @@ fn start(alloc: Global, s: &Scenario, root: &Boxes) -> Result<Standing, OutOfMem
     Ok(Standing {
         walk: Some(Walk::new(alloc, first)?),
         leaf: None,
-        progress: Progress::begun(),
+        progress: Progress::begun(alloc),
     })
 }
 
@@ -93,7 +93,12 @@ fn claim_of(now: Standing) -> Result<CertClaim, StepFault>
     ensures { result ≡ claim_at (front_of now.walk now.leaf).present now.progress }
 {
     let Standing { walk, progress, .. } = now;
-    let Progress { bound, nodes, told } = progress;
+    let Progress {
+        pool: _,
+        bound,
+        nodes,
+        told,
+    } = progress;
     if walk.is_some() {
         return Err(bad_kind());
     }
@@ -165,8 +170,8 @@ fn read_on<F: Files>(
 /// files' count of faults rose in this call or stands at its last value, or the files tell that
 /// they don't have the name; `TooLong` where the name holds more than 1 GiB, and says how many
 /// bytes. After any other answer than `Read` the count stays. It takes memory for the room of
-/// leaves (`LeafWork`), loads, the first box and the changes on the path down from it, a piece and a
-/// line of the text, and the rows of a leaf and the plan; so it doesn't grow with the text.
+/// leaves (`LeafWork`), loads, the first box and the changes on the path down from it, a piece and
+/// a line of the text, the rows of a leaf, the plan, and the cuts, which alone grow with the text.
 pub fn check_from<F: Files>(
     alloc: Global,
     s: &Scenario,

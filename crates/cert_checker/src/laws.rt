@@ -27,9 +27,9 @@ pub fn verdicts_are_one()
         → IsVerdict parts root digest text second → first ≡ second }
 {}
 
-/// A certificate of a lawful tree is accepted: for a valid scenario, with the tree's bound, no plan
-/// or one in the first box that keeps every rule, and numbers within the limits of lines, the
-/// verdict on its text is its claim.
+/// A certificate of a lawful tree is accepted: for a valid scenario, with cuts of it in order,
+/// which the leaves may name, the tree's bound, no plan or one in the first box that keeps every
+/// rule, and numbers within the limits of lines, the verdict on its text is its claim.
 pub fn lawful_certificates_are_accepted()
     ensures { (parts : Parts) (root : Box) (cert : Certified) → IsScenario parts
         → IsBoxOf parts root → IsWritable parts cert → IsLawfulCertificate parts root cert

@@ -3,7 +3,9 @@ ghost use Rattle.std.specs.Prelude.{◌≡◌};
 ghost use Rattle.cert_checker.specs.Steps.{begun};
 
 use bytime_model::Multipliers;
+use cut_rows::Pool;
 use flow_types::{Bound, Plan};
+use std::alloc::Global;
 
 /// The kinds of leaves that name rows.
 #[derive(Clone, Copy, Debug, PartialEq, Eq)]
@@ -37,6 +39,8 @@ pub enum Told {
 /// What was told so far.
 #[derive(Debug, Drop)]
 pub struct Progress {
+    /// The cuts, which come before the tree.
+    pub pool: Pool,
     /// The least of the bounds of the leaves.
     pub bound: Bound,
     pub nodes: u64,
@@ -48,10 +52,11 @@ impl Progress {
     ghost use Rattle.cert_checker.specs.Steps.{begun, with_bound, with_node};
 
     /// Nothing was told.
-    pub fn begun() -> Progress
+    pub fn begun(alloc: Global) -> Progress
         ensures { result ≡ begun }
     {
         Progress {
+            pool: Pool::empty(alloc),
             bound: Bound::NoPlan,
             nodes: 0,
             told: Told::Nothing,

@@ -7,7 +7,6 @@ use dual_leaf::LeafWork;
 use flow_types::{OutOfMemory, Scenario};
 use plan_rules::Loads;
 use std::alloc::Global;
-use valid_cuts::Pool;
 
 /// The room in which a check works: for the bounds of leaves, and for the loads of its plan; and
 /// where rows and trips are kept.
@@ -15,8 +14,6 @@ pub struct Rooms {
     pub alloc: Global,
     pub leaves: LeafWork,
     pub loads: Loads,
-    /// There are no cuts yet.
-    pub pool: Pool,
 }
 
 // Written out, so that proofs see one call where a room is let go of.
@@ -26,7 +23,6 @@ impl Drop for Rooms {
             alloc: _,
             leaves: _,
             loads: _,
-            pool: _,
         } = self;
     }
 }
@@ -39,6 +35,5 @@ pub fn rooms_for(alloc: Global, s: &Scenario) -> Result<Rooms, OutOfMemory>
         alloc,
         leaves: LeafWork::new(alloc, s)?,
         loads: Loads::new(alloc, s)?,
-        pool: Pool::empty(alloc),
     })
 }

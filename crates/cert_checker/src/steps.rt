@@ -6,6 +6,7 @@ ghost use Rattle.cert_checker.specs.Checks.{AreRoomsFor, GoesTo, IfThere, IsFitI
 ghost use Rattle.cert_checker.specs.Fronts.{front_of};
 ghost use Rattle.cert_checker.specs.Steps.{IsNodeStep, IsStep, later_told};
 
+use crate::cut_lines::cut_line;
 use crate::fault::{StepError, StepFault, bad_kind};
 use crate::given::Given;
 use crate::plan_lines::{check_bound, check_count, check_digest, plan_line, trip_line};
@@ -111,6 +112,10 @@ fn tree_line(
     match item {
         CertItem::Head(stated) => {
             or_fault(check_digest(given.digest, stated))?;
+            Ok(true)
+        }
+        CertItem::Cut(cut) => {
+            cut_line(rooms, given.s, progress, cut)?;
             Ok(true)
         }
         item => node_line(rooms, given.s, walk, leaf, progress, &item),

@@ -6,6 +6,7 @@ ghost use Rattle.time_windows.specs.Splits.{IsBranching};
 ghost use Rattle.bytime_model.specs.Rows.{is_node};
 ghost use Rattle.branch_tree.specs.Leaves.{IsInRange};
 ghost use Rattle.branch_tree.specs.Paths.{waiting_boxes};
+ghost use Rattle.cut_rows.specs.Routes.{AreRoutesOf};
 ghost use Rattle.cert_checker.specs.Checks.{AreRoomsFor, GoesTo, IfThere, IsFitDraft, IsGoodSplit, IsOnPath, IsOpenDraft, path_if};
 ghost use Rattle.cert_checker.specs.Fronts.{GoesOn, front_of};
 ghost use Rattle.cert_checker.specs.Steps.{IsBadSplit, IsLeafAt, IsLeafLineAt, IsRowLine, IsRowsAt, IsSplitAt, leaf_cause, leaf_of, may_name};
@@ -14,7 +15,8 @@ use crate::fault::{CertCause, StepError, StepFault, bad_kind, in_field};
 use crate::progress::{LeafDraft, Progress, RowLeaf};
 use crate::rooms::Rooms;
 use branch_tree::{Branch, Leaf, Walk};
-use bytime_model::{Multiplier, RowName, is_row};
+use bytime_model::{Multiplier, RowName};
+use cut_rows::{Pool, Routes, is_row_with};
 use dual_leaf::{LeafFault, is_priceable};
 use flow_types::{OutOfMemory, Scenario};
 use time_windows::{Access, Boxes};
@@ -133,7 +135,10 @@ fn leaf_read(
     ensures nodes { OnOk result (progress.new.nodes ≤ progress.old.nodes + 1) }
     ensures rooms { AreRoomsFor (parts_of s.now) rooms.new }
 {
-    match rooms.leaves.leaf_bound(s, &rooms.pool, walk.boxes(), leaf) {
+    match rooms
+        .leaves
+        .leaf_bound(s, &progress.pool, walk.boxes(), leaf)
+    {
         Err(fault) => Err(StepError::Fault(leaf_cause(fault))),
         Ok(bound) => {
             progress.add_bound(bound);
@@ -244,11 +249,12 @@ pub fn rows_line(
 }
 
 // Whether a leaf of this kind may name the row.
-fn may_name(s: &Scenario, kind: RowLeaf, row: RowName) -> bool
-    ensures { result ≡ may_name (parts_of s.now) kind row }
+fn may_name(s: &Scenario, routes: &Routes, pool: &Pool, kind: RowLeaf, row: RowName) -> bool
+    requires { AreRoutesOf (parts_of s.now) routes.now }
+    ensures { result ≡ may_name (parts_of s.now) pool.now kind row }
 {
     match kind {
-        RowLeaf::Dual => is_row(s, row),
+        RowLeaf::Dual => is_row_with(s, routes, pool, row),
         RowLeaf::Lag => is_priceable(s, row),
     }
 }
@@ -303,7 +309,8 @@ pub fn row_line(
     let Some(draft) = leaf.take() else {
         return Err(StepError::Fault(bad_kind()));
     };
-    if !may_name(s, draft.kind, multiplier.row) {
+    let routes = &rooms.leaves.table().routes;
+    if !may_name(s, routes, &progress.pool, draft.kind, multiplier.row) {
         return Err(StepError::Fault(in_field(2, CertCause::UnknownRow)));
     }
     rows_read(rooms, s, walk, leaf, progress, with_row(draft, multiplier)?)

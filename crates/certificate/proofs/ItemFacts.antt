@@ -1,5 +1,5 @@
 -- Lists of fields that are read one by one: what is left decides.
-use Rattle.std.proofs.Common.{◌≡◌, ℕ, zero, suc, ◌-◌, ◌<◌, ◌≤◌, Bool, true, false, List, [], ◌∷◌, ◌++◌, Result, Ok, Err, refl, sym, ap, ◌∙◌, arith, append_assoc}
+use Rattle.std.proofs.Common.{◌≡◌, ℕ, zero, suc, ◌-◌, Bool, true, false, List, [], ◌∷◌, ◌++◌, Result, Ok, Err, refl, sym, ap, ◌∙◌, arith, append_assoc}
 use Rattle.std.specs.Prelude.{not}
 use Rattle.std.proofs.lemmas.List.{append-nil}
 use Rattle.text_records.specs.Errors.{◌>>=◌}
@@ -7,7 +7,8 @@ use Rattle.flow_types.specs.declared.place.Place.{Place}
 use Rattle.flow_types.specs.declared.plan.Stop.{Stop}
 use Rattle.certificate.specs.declared.fault.LineFault.{LineFault}
 use Rattle.certificate.specs.Fields.{FieldsLeft, end_of_line, end_or_bad, has_more, is_nil, number_from}
-use Rattle.certificate.specs.Items.{heads_from, heads_to_end, stop_from, stops_from}
+use Rattle.certificate.specs.Cuts.{nodes_from}
+use Rattle.certificate.specs.Items.{stop_from, stops_from}
 use Rattle.certificate.specs.Limits.{most_node}
 
 not_nil : (b : Bool) → not b ≡ true → b ≡ false
@@ -26,60 +27,60 @@ none_is_end number (field ∷ fields) none = absurd (let e : ⊥ = cc in e)
 one_less : (more : ℕ) → more ≡ suc more - 1
 one_less more = omega arith
 
--- so many heads
-pub head_more : (left : ℕ) (fields next : FieldsLeft) (n : ℕ) → 0 < left
-    → number_from 0 most_node fields ≡ Ok (n, next)
-    → heads_from left fields ≡ heads_from (left - 1) next
-unfolding heads_from
-head_more zero fields next n some is = absurd (omega (arith, some))
-head_more (suc more) fields next n some is =
-    rw is (ap (λ (k : ℕ). heads_from k next) (one_less more))
+-- the nodes so far, and then the others
+abbrev pub with_nodes : List ℕ → Result (List ℕ × FieldsLeft) LineFault
+    → Result (List ℕ × FieldsLeft) LineFault
+with_nodes front read = read >>= λ found. Ok (front ++ found.0, found.1)
 
-pub head_bad : (left : ℕ) (fields : FieldsLeft) (fault : LineFault) → 0 < left
-    → number_from 0 most_node fields ≡ Err fault → heads_from left fields ≡ Err fault
-unfolding heads_from
-head_bad zero fields fault some is = absurd (omega (arith, some))
-head_bad (suc more) fields fault some is = rw is refl
+pub no_nodes : (read : Result (List ℕ × FieldsLeft) LineFault) → with_nodes [] read ≡ read
+no_nodes (Ok found) = refl
+no_nodes (Err fault) = refl
 
-pub head_none : (left : ℕ) (fields : FieldsLeft) → left ≤ 0
-    → heads_from left fields ≡ Ok (tt, fields)
-unfolding heads_from
-head_none zero fields none = refl
-head_none (suc more) fields none = absurd (omega (arith, none))
+regroup_nodes : (front : List ℕ) (node : ℕ) (read : Result (List ℕ × FieldsLeft) LineFault)
+    → with_nodes front (read >>= λ rest. Ok (node ∷ rest.0, rest.1))
+    ≡ with_nodes (front ++ node ∷ []) read
+regroup_nodes front node (Ok found) =
+    ap (λ (all : List ℕ). Ok (all, found.1)) (sym (append_assoc front (node ∷ []) found.0))
+regroup_nodes front node (Err fault) = refl
 
--- one head more, of at most so many
-head_step : (more : ℕ) (fields next : FieldsLeft) (n : ℕ) → is_nil fields.fields ≡ false
-    → number_from 0 most_node fields ≡ Ok (n, next)
-    → heads_to_end (suc more) fields ≡ heads_to_end more next
-unfolding heads_to_end
-head_step more fields next n here is = rw (here, is) refl
+module _ (front : List ℕ) where
+  node_step : (more : ℕ) (fields next : FieldsLeft) (node : ℕ) → is_nil fields.fields ≡ false
+      → number_from 0 most_node fields ≡ Ok (node, next)
+      → with_nodes front (nodes_from (suc more) fields)
+      ≡ with_nodes (front ++ node ∷ []) (nodes_from more next)
+  unfolding nodes_from
+  node_step more fields next node here is =
+      rw (here, is) (regroup_nodes front node (nodes_from more next))
 
-pub one_head : (left : ℕ) (fields next : FieldsLeft) (n : ℕ) → has_more left fields ≡ true
-    → number_from 0 most_node fields ≡ Ok (n, next)
-    → heads_to_end left fields ≡ heads_to_end (left - 1) next
-one_head zero fields next n some is = absurd (let e : ⊥ = cc in e)
-one_head (suc more) fields next n some is =
-    head_step more fields next n (not_nil (is_nil fields.fields) some) is
-    ∙ ap (λ (k : ℕ). heads_to_end k next) (one_less more)
+  pub one_node : (left : ℕ) (fields next : FieldsLeft) (node : ℕ) → has_more left fields ≡ true
+      → number_from 0 most_node fields ≡ Ok (node, next)
+      → with_nodes front (nodes_from left fields)
+      ≡ with_nodes (front ++ node ∷ []) (nodes_from (left - 1) next)
+  one_node zero fields next node some is = absurd (let e : ⊥ = cc in e)
+  one_node (suc more) fields next node some is =
+      node_step more fields next node (not_nil (is_nil fields.fields) some) is
+      ∙ ap (λ (k : ℕ). with_nodes (front ++ node ∷ []) (nodes_from k next)) (one_less more)
 
-head_refused : (more : ℕ) (fields : FieldsLeft) (fault : LineFault) → is_nil fields.fields ≡ false
-    → number_from 0 most_node fields ≡ Err fault → heads_to_end (suc more) fields ≡ Err fault
-unfolding heads_to_end
-head_refused more fields fault here is = rw (here, is) refl
+  node_refused : (more : ℕ) (fields : FieldsLeft) (fault : LineFault)
+      → is_nil fields.fields ≡ false → number_from 0 most_node fields ≡ Err fault
+      → with_nodes front (nodes_from (suc more) fields) ≡ Err fault
+  unfolding nodes_from
+  node_refused more fields fault here is = rw (here, is) refl
 
-pub bad_head : (left : ℕ) (fields : FieldsLeft) (fault : LineFault) → has_more left fields ≡ true
-    → number_from 0 most_node fields ≡ Err fault → heads_to_end left fields ≡ Err fault
-bad_head zero fields fault some is = absurd (let e : ⊥ = cc in e)
-bad_head (suc more) fields fault some is =
-    head_refused more fields fault (not_nil (is_nil fields.fields) some) is
+  pub bad_node : (left : ℕ) (fields : FieldsLeft) (fault : LineFault) → has_more left fields ≡ true
+      → number_from 0 most_node fields ≡ Err fault
+      → with_nodes front (nodes_from left fields) ≡ Err fault
+  bad_node zero fields fault some is = absurd (let e : ⊥ = cc in e)
+  bad_node (suc more) fields fault some is =
+      node_refused more fields fault (not_nil (is_nil fields.fields) some) is
 
-pub last_head : (left : ℕ) (fields : FieldsLeft) → has_more left fields ≡ false
-    → heads_to_end left fields ≡ end_of_line fields
-unfolding heads_to_end
-last_head zero fields none = refl
-last_head (suc more) fields none =
-    let nil : is_nil fields.fields ≡ true = nil_then (is_nil fields.fields) none in
-    rw nil (sym (none_is_end fields.number fields.fields nil))
+  pub last_node : (left : ℕ) (fields : FieldsLeft) → has_more left fields ≡ false
+      → with_nodes front (nodes_from left fields) ≡ Ok (front, fields)
+  unfolding nodes_from
+  last_node zero fields none = ap (λ (all : List ℕ). Ok (all, fields)) (append-nil front)
+  last_node (suc more) fields none =
+      rw (nil_then (is_nil fields.fields) none)
+      (ap (λ (all : List ℕ). Ok (all, fields)) (append-nil front))
 
 -- the stops so far, and then the others
 abbrev pub with_front : List Stop → Result (List Stop) LineFault → Result (List Stop) LineFault

@@ -101,7 +101,7 @@ name_fields name rest = record {
 abbrev after_name : RowName → List (List ℕ) → FieldsLeft
 after_name name rest = record { number = 3 + length (row_numbers name); fields = rest }
 
-node_time_back : (f n t : ℕ) (rest : List (List ℕ)) → IsNodeTime f n t
+pub node_time_back : (f n t : ℕ) (rest : List (List ℕ)) → IsNodeTime f n t
     → (number_from 0 most_position (record {
       number = 3;
       fields = decimal f ∷ decimal n ∷ decimal t ∷ rest;
@@ -119,7 +119,7 @@ node_time_back f n t rest is =
       number_back 5 rest 0 most_period t (omega arith) c (omega arith),
     )
 
-pair_back : (a b most : ℕ) (rest : List (List ℕ)) → a ≤ most_position → b ≤ most
+pub pair_back : (a b most : ℕ) (rest : List (List ℕ)) → a ≤ most_position → b ≤ most
     → most < 10 ^ 38
     → (number_from 0 most_position (record { number = 3; fields = decimal a ∷ decimal b ∷ rest })
     ≡ Ok (a, record { number = 4; fields = decimal b ∷ rest }))

@@ -11,6 +11,7 @@ pub mod ReaderFacts
 pub mod BackFacts
 pub mod PlainFacts
 pub mod ItemsBack
+pub mod CutsBack
 pub mod TripsBack
 pub mod ReadBack
 pub mod LinesBack

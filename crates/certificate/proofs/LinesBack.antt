@@ -5,6 +5,7 @@ use Rattle.std.specs.List.{list_all}
 use Rattle.std.specs.Fmt.{decimal, signed_decimal}
 use Rattle.std.proofs.lemmas.Bool.{and_parts, false≢true, leb-true}
 use Rattle.std.proofs.lemmas.Fmt.{length-decimal-le_wide}
+use Rattle.std.proofs.lemmas.List.{length-map}
 use Rattle.hex.specs.Hex.{encode_lower, lower_digits}
 use Rattle.hex.proofs.HexLemmas.{length-encode_with}
 use Rattle.flow_types.specs.declared.flight.Flight.{Flight}
@@ -17,6 +18,8 @@ use Rattle.flow_types.specs.Valid.{IsScenario}
 use Rattle.bytime_model.specs.declared.multiplier.Multiplier.{Multiplier}
 use Rattle.bytime_model.specs.declared.names.RowName.{RowName}
 use Rattle.bytime_model.specs.declared.names.RowName.TheVariants as row
+use Rattle.cut_rows.specs.declared.names.CutName.{CutName}
+use Rattle.cut_rows.specs.declared.names.CutName.TheVariants.{Apart, Departed, Heads}
 use Rattle.certificate.specs.declared.item.CertItem.{CertItem}
 use Rattle.certificate.specs.declared.item.CertItem.TheVariants as item
 use Rattle.certificate.specs.declared.kind.LineKind.{LineKind}
@@ -35,14 +38,16 @@ use Rattle.certificate.proofs.TripsBack.{trip_back}
 use Rattle.certificate.specs.ItemLines.{item_text, trip_fields}
 use Rattle.certificate.specs.Kinds.{kind_of, word_of}
 use Rattle.certificate.specs.Limits.{most_bound, most_cost, most_position}
-use Rattle.certificate.specs.Lines.{bound_number, leaf_fields, line_of, row_fields, split_fields, stop_fields, whole_word}
-use Rattle.certificate.specs.Ranges.{AreStopsInRange, IsDigest, IsItemInRange, IsLeafInRange, IsMultiplierInRange, IsNodeTime, IsRowInRange, IsSplitInRange, IsTripInRange, IsWithinEither}
+use Rattle.certificate.specs.Lines.{bound_number, cut_fields, leaf_fields, line_of, row_fields, split_fields, stop_fields, whole_word}
+use Rattle.certificate.specs.Ranges.{AreNodesInRange, AreStopsInRange, IsCutInRange, IsDigest, IsItemInRange, IsLeafInRange, IsMultiplierInRange, IsNodeTime, IsRowInRange, IsSplitInRange, IsTripInRange, IsWithinEither}
 use Rattle.certificate.specs.Rows.{row_numbers, row_word}
+use Rattle.certificate.proofs.CutsBack.{cut_back}
 use Rattle.certificate.proofs.ItemsBack.{bare_back, bound_back, dual_back, end_back, from_second, head_back, lag_back, plan_back, row_back, split_back}
 use Rattle.certificate.proofs.PlainFacts.{AreFields, IsField, after_commas, length_after, length_numbers, plain_decimal, plain_digest, plain_name, plain_signed}
 
 abbrev pub kind_told : CertItem → LineKind
 kind_told (item.Head digest) = kind.Head
+kind_told (item.Cut cut) = kind.Cut
 kind_told (item.Split flight node time cutoff) = kind.Split
 kind_told item.Empty = kind.Empty
 kind_told item.Unit = kind.Unit
@@ -57,6 +62,7 @@ kind_told (item.End nodes) = kind.End
 -- the fields after the word; a trip is of the flight of this number
 abbrev pub fields_told : Parts → ℕ → CertItem → List (List ℕ)
 fields_told parts next (item.Head digest) = codes "1" ∷ encode_lower digest ∷ []
+fields_told parts next (item.Cut cut) = cut_fields cut
 fields_told parts next (item.Split flight node time cutoff) = split_fields flight node time cutoff
 fields_told parts next item.Empty = []
 fields_told parts next item.Unit = []
@@ -72,6 +78,7 @@ fields_told parts next (item.End nodes) = decimal nodes ∷ []
 pub text_told : (parts : Parts) (next : ℕ) (is : CertItem)
     → item_text parts next is ≡ line_of (word_of (kind_told is)) (fields_told parts next is)
 text_told parts next (item.Head digest) = refl
+text_told parts next (item.Cut cut) = refl
 text_told parts next (item.Split flight node time cutoff) = refl
 text_told parts next item.Empty = refl
 text_told parts next item.Unit = refl
@@ -250,6 +257,31 @@ row_told multiplier is =
           (number_field multiplier.value (omega (arith, to)), tt),
     ) (omega (arith, few))
 
+nodes_told : (nodes : List ℕ) → AreNodesInRange nodes → AreFields 39 (map decimal nodes)
+nodes_told [] are = tt
+nodes_told (node ∷ nodes) are =
+    let to = are.0 in (number_field node (omega (arith, to)), nodes_told nodes are.1)
+
+cut_told : (cut : CutName) → IsCutInRange cut → AreTold (cut_fields cut)
+cut_told (Heads f n t heads) is =
+    let few = is.heads_in.few in
+    of_numbers (cut_fields (Heads f n t heads)) (
+      record { plain = refl; short = omega arith },
+      node_time_told f n t (map decimal heads) is.at (nodes_told heads is.heads_in.each),
+    ) (omega (arith, length-map heads decimal, few))
+cut_told (Apart f t nodes) is =
+    let few = is.nodes_in.few in
+    of_numbers (cut_fields (Apart f t nodes)) (
+      record { plain = refl; short = omega arith },
+      pair_told f t 511 (map decimal nodes) is.at.place_to is.at.period_to (omega arith)
+          (nodes_told nodes is.nodes_in.each),
+    ) (omega (arith, length-map nodes decimal, few))
+cut_told (Departed f n t) is =
+    of_numbers (cut_fields (Departed f n t)) (
+      record { plain = refl; short = omega arith },
+      node_time_told f n t [] is tt,
+    ) (omega arith)
+
 name_field : (name : List ℕ) → is_name name ≡ true → IsField 39 name
 name_field name is =
     let outer = and_parts (nat_le 1 (length name) && nat_le (length name) most_name_bytes)
@@ -314,6 +346,7 @@ module _ (parts : Parts) (valid : IsScenario parts) where
   item_told : (next : ℕ) (is : CertItem) → IsItemInRange parts next is
       → AreTold (fields_told parts next is)
   item_told next (item.Head digest) range = head_told digest range
+  item_told next (item.Cut cut) range = cut_told cut range
   item_told next (item.Split flight node time cutoff) range =
       split_told flight node time cutoff range
   item_told next item.Empty range = of_numbers [] tt (omega arith)
@@ -333,6 +366,7 @@ module _ (parts : Parts) (valid : IsScenario parts) where
   item_back : (next : ℕ) (is : CertItem) → IsItemInRange parts next is
       → item_of parts next (kind_told is) (from_second (fields_told parts next is)) ≡ Ok is
   item_back next (item.Head digest) range = head_back digest range
+  item_back next (item.Cut cut) range = cut_back cut range
   item_back next (item.Split flight node time cutoff) range =
       split_back flight node time cutoff range
   item_back next item.Empty range = bare_back item.Empty

@@ -11,6 +11,7 @@ use Rattle.flow_types.specs.declared.parts.Parts.{Parts}
 use Rattle.flow_types.specs.declared.plan.Stop.{Stop}
 use Rattle.flow_types.specs.Valid.{IsScenario}
 use Rattle.bytime_model.specs.declared.multiplier.Multiplier.{Multiplier}
+use Rattle.cut_rows.specs.declared.names.CutName.{CutName}
 use Rattle.branch_tree.specs.declared.leaf.Leaf.TheVariants as leaf
 use Rattle.branch_tree.specs.declared.tree.TreeNode.{TreeNode}
 use Rattle.branch_tree.specs.declared.tree.TreeNode.TheVariants.{Leaf, Split}
@@ -18,7 +19,7 @@ use Rattle.certificate.specs.declared.fault.TextCause.TheVariants.{AfterEnd}
 use Rattle.certificate.specs.declared.item.CertItem.{CertItem}
 use Rattle.certificate.specs.declared.item.CertItem.TheVariants as item
 use Rattle.certificate.specs.declared.stage.Stage.TheVariants as stage
-use Rattle.certificate.specs.ItemLines.{cert_items, plan_items, row_items, tree_items, trip_items}
+use Rattle.certificate.specs.ItemLines.{cert_items, plan_items, pool_items, row_items, tree_items, trip_items}
 use Rattle.certificate.specs.Reading.{Read, in_first, is_feed, pieces_of, read_from, read_on, read_whole, stopped}
 use Rattle.certificate.specs.Texts.{Certified, cert_text}
 use Rattle.certificate.specs.Writable.{IsWritable}
@@ -29,6 +30,12 @@ abbrev digest_in : List CertItem → List ℕ
 digest_in (item.Head digest ∷ items) = digest
 digest_in other = []
 
+-- the cuts up to the tree
+abbrev pool_in : List CertItem → List CutName
+pool_in (item.Head digest ∷ items) = pool_in items
+pool_in (item.Cut cut ∷ items) = cut ∷ pool_in items
+pool_in other = []
+
 -- the rows in front
 abbrev rows_in : List CertItem → List Multiplier
 rows_in (item.Row multiplier ∷ items) = multiplier ∷ rows_in items
@@ -38,6 +45,7 @@ rows_in other = []
 abbrev tree_in : List CertItem → List TreeNode
 tree_in [] = []
 tree_in (item.Head digest ∷ items) = tree_in items
+tree_in (item.Cut cut ∷ items) = tree_in items
 tree_in (item.Split flight node time cutoff ∷ items) =
     Split flight node time cutoff ∷ tree_in items
 tree_in (item.Empty ∷ items) = Leaf leaf.Empty ∷ tree_in items
@@ -63,6 +71,7 @@ plan_from (Some cost) items = Some (trips_in items)
 abbrev plan_in : List CertItem → Option (List (List Stop))
 plan_in [] = None
 plan_in (item.Head digest ∷ items) = plan_in items
+plan_in (item.Cut cut ∷ items) = plan_in items
 plan_in (item.Split flight node time cutoff ∷ items) = plan_in items
 plan_in (item.Empty ∷ items) = plan_in items
 plan_in (item.Unit ∷ items) = plan_in items
@@ -78,6 +87,7 @@ plan_in (item.End nodes ∷ items) = None
 abbrev bound_in : List CertItem → Bound
 bound_in [] = NoPlan
 bound_in (item.Head digest ∷ items) = bound_in items
+bound_in (item.Cut cut ∷ items) = bound_in items
 bound_in (item.Split flight node time cutoff ∷ items) = bound_in items
 bound_in (item.Empty ∷ items) = bound_in items
 bound_in (item.Unit ∷ items) = bound_in items
@@ -88,6 +98,38 @@ bound_in (item.Plan cost ∷ items) = bound_in items
 bound_in (item.Trip trip ∷ items) = bound_in items
 bound_in (item.Bound bound ∷ items) = bound
 bound_in (item.End nodes ∷ items) = NoPlan
+
+-- of cuts, and of what follows them
+pool_back : (pool : List CutName) (more : List CertItem) → pool_in more ≡ []
+    → pool_in (pool_items pool ++ more) ≡ pool
+pool_back [] more none = none
+pool_back (cut ∷ pool) more none =
+    ap (λ (rest : List CutName). cut ∷ rest) (pool_back pool more none)
+
+tree_past_cuts : (pool : List CutName) (more : List CertItem)
+    → tree_in (pool_items pool ++ more) ≡ tree_in more
+tree_past_cuts [] more = refl
+tree_past_cuts (cut ∷ pool) more = tree_past_cuts pool more
+
+plan_past_cuts : (pool : List CutName) (more : List CertItem)
+    → plan_in (pool_items pool ++ more) ≡ plan_in more
+plan_past_cuts [] more = refl
+plan_past_cuts (cut ∷ pool) more = plan_past_cuts pool more
+
+bound_past_cuts : (pool : List CutName) (more : List CertItem)
+    → bound_in (pool_items pool ++ more) ≡ bound_in more
+bound_past_cuts [] more = refl
+bound_past_cuts (cut ∷ pool) more = bound_past_cuts pool more
+
+-- no cut stands among a tree's items
+no_cuts : (nodes : List TreeNode) (more : List CertItem) → pool_in more ≡ []
+    → pool_in (tree_items nodes ++ more) ≡ []
+no_cuts [] more none = none
+no_cuts (Leaf leaf.Empty ∷ nodes) more none = refl
+no_cuts (Leaf leaf.Unit ∷ nodes) more none = refl
+no_cuts (Leaf (leaf.Dual weight rows) ∷ nodes) more none = refl
+no_cuts (Leaf (leaf.Lag weight rows) ∷ nodes) more none = refl
+no_cuts (Split flight node time cutoff ∷ nodes) more none = refl
 
 -- of rows, and of what follows them
 rows_back : (rows : List Multiplier) (more : List CertItem) → rows_in more ≡ []
@@ -198,13 +240,15 @@ module _ (parts : Parts) where
   plan_first : (plan : Option (List (List Stop))) (more : List CertItem)
       → (rows_in (plan_items parts plan ++ more) ≡ [])
       × (tree_in (plan_items parts plan ++ more) ≡ [])
-  plan_first None more = (refl, refl)
-  plan_first (Some plan) more = (refl, refl)
+      × (pool_in (plan_items parts plan ++ more) ≡ [])
+  plan_first None more = (refl, refl, refl)
+  plan_first (Some plan) more = (refl, refl, refl)
 
   -- what the items of a certificate tell is that
   abbrev told_in : List CertItem → Certified
   told_in items = record {
     digest = digest_in items;
+    pool = pool_in items;
     tree = tree_in items;
     plan = plan_in items;
     bound = bound_in items;
@@ -214,11 +258,17 @@ module _ (parts : Parts) where
   told_back cert =
       let last : List CertItem = item.Bound cert.bound ∷ item.End (length cert.tree) ∷ [] in
       let first = plan_first cert.plan last in
+      let planned : List CertItem = plan_items parts cert.plan ++ last in
+      let grown : List CertItem = tree_items cert.tree ++ planned in
       rw (
-        tree_back cert.tree (plan_items parts cert.plan ++ last) first.0 first.1,
-        plan_after cert.tree (plan_items parts cert.plan ++ last),
+        pool_back cert.pool grown (no_cuts cert.tree planned first.2),
+        tree_past_cuts cert.pool grown,
+        tree_back cert.tree planned first.0 first.1,
+        plan_past_cuts cert.pool grown,
+        plan_after cert.tree planned,
         plan_back cert.plan last refl,
-        bound_after cert.tree (plan_items parts cert.plan ++ last),
+        bound_past_cuts cert.pool grown,
+        bound_after cert.tree planned,
         bound_past_plan cert.plan last,
       ) refl
 

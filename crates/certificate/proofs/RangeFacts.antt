@@ -7,15 +7,16 @@ use Rattle.flow_types.specs.declared.parts.Parts.{Parts}
 use Rattle.flow_types.specs.declared.place.Place.{Place}
 use Rattle.flow_types.specs.Bounds.{bound_of}
 use Rattle.flow_types.specs.Limits.{most_nodes}
+use Rattle.certificate.specs.Cuts.{cut_name_from}
 use Rattle.certificate.specs.Digests.{digest_of_word}
 use Rattle.certificate.specs.Fields.{FieldsLeft, end_of_line, field_from, fields_of, number_from, whole_from, within}
-use Rattle.certificate.specs.Items.{bare_line, bound_line, cut_fields, cut_of, digest_or_bad, dual_of, end_line, head_of, is_trip, item_of, lag_of, leaf_of, plain_item, plan_of, row_of, same_name, split_of, stops_from, trip_for, trip_of}
+use Rattle.certificate.specs.Items.{bare_line, bound_line, cut_of, digest_or_bad, dual_of, end_line, head_of, is_trip, item_of, lag_of, leaf_of, plain_item, plan_of, row_of, same_name, split_of, stops_from, trip_for, trip_of}
 use Rattle.certificate.specs.Kinds.{kind_of}
 use Rattle.certificate.specs.Limits.{most_bound, most_cost, most_line_bytes, most_node, most_period, most_position, most_rows, most_tree_nodes, most_weight}
 use Rattle.certificate.specs.Numbers.{natural_of}
 use Rattle.certificate.specs.Reading.{fields_step, kind_here, line_step, whole_line}
 use Rattle.certificate.specs.Rows.{name_from}
-use Rattle.certificate.specs.Stages.{is_ended, next_at, stage_after}
+use Rattle.certificate.specs.Stages.{is_cut, is_ended, next_at, stage_after}
 use Rattle.certificate.specs.declared.fault.LineFault.{LineFault}
 use Rattle.certificate.specs.declared.item.CertItem.{CertItem}
 use Rattle.certificate.specs.declared.item.CertItem.TheVariants as item
@@ -108,8 +109,9 @@ module _ (left : FieldsLeft) (it : CertItem) where
   unfolding cut_of
   cut_ranged is =
       let family = bind_ok (field_from left) _ it is in
-      let right = bind_ok (cut_fields family.0.0 family.0.1) _ it family.2 in
-      absurd (let e : ⊥ = cc (right.2) in e)
+      let name = bind_ok (cut_name_from family.0.0 family.0.1) _ it family.2 in
+      let ended = bind_ok (end_of_line name.0.1) _ it name.2 in
+      is_item (item.Cut name.0.0) it tt ended.2
 
   split_ranged : split_of left ≡ Ok it → IsRanged it
   unfolding split_of
@@ -184,7 +186,7 @@ module _ (left : FieldsLeft) (it : CertItem) where
 
   plain_ranged : (kind : LineKind) → plain_item kind left ≡ Ok it → IsRanged it
   plain_ranged kind.Head is = head_ranged is
-  plain_ranged kind.Cut is = cut_ranged is
+  plain_ranged kind.Cut is = absurd (let e : ⊥ = cc in e)
   plain_ranged kind.Split is = split_ranged is
   plain_ranged kind.Empty is = bare_ranged item.Empty tt is
   plain_ranged kind.Unit is = bare_ranged item.Unit tt is
@@ -198,12 +200,13 @@ module _ (left : FieldsLeft) (it : CertItem) where
 
   item_ranged : (parts : Parts) (next : ℕ) (kind : LineKind)
       → item_of parts next kind left ≡ Ok it → IsRanged it
-  item_ranged parts next kind is = by (is_trip kind) refl
+  item_ranged parts next kind is = by (is_trip kind) refl (is_cut kind) refl
     where
-      by : (b : Bool) → is_trip kind ≡ b → IsRanged it
-      by true trip =
+      by : (a : Bool) → is_trip kind ≡ a → (b : Bool) → is_cut kind ≡ b → IsRanged it
+      by true trip b cut =
           trip_ranged parts.places (slice_get parts.flights next) (rw trip at is)
-      by false plain = plain_ranged kind (rw plain at is)
+      by false plain true cut = cut_ranged (rw (plain, cut) at is)
+      by false plain false other = plain_ranged kind (rw (plain, other) at is)
 
 item_in : CertItem → Result (CertItem × Stage) LineFault → CertItem
 item_in other (Ok it) = it.0

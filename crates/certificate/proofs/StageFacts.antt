@@ -86,6 +86,8 @@ pub item_near : (parts : Parts) (now after : Stage) (item : CertItem)
     → stage_after parts now item ≡ Ok after → IsNear parts now after
 item_near parts now after (item.Head digest) is =
     subst (IsNear parts now) (ok_is _ _ is) (record { waiting = omega arith; next = omega arith })
+item_near parts now after (item.Cut cut) is =
+    subst (IsNear parts now) (ok_is _ _ is) (record { waiting = omega arith; next = omega arith })
 item_near parts now after (item.Split flight node time cutoff) is =
     subst (IsNear parts now) (ok_is _ _ is) (record { waiting = omega arith; next = omega arith })
 item_near parts now after item.Empty is =

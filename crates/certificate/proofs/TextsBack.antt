@@ -10,6 +10,7 @@ use Rattle.flow_types.specs.Costs.{plan_cost}
 use Rattle.flow_types.specs.Valid.{IsScenario}
 use Rattle.bytime_model.specs.declared.multiplier.Multiplier.{Multiplier}
 use Rattle.bytime_model.specs.declared.names.RowName.{RowName}
+use Rattle.cut_rows.specs.declared.names.CutName.{CutName}
 use Rattle.branch_tree.specs.declared.leaf.Leaf.{Leaf as LeafKind}
 use Rattle.branch_tree.specs.declared.leaf.Leaf.TheVariants as leaf
 use Rattle.branch_tree.specs.declared.tree.TreeNode.{TreeNode}
@@ -20,13 +21,13 @@ use Rattle.certificate.specs.declared.item.CertItem.TheVariants as item
 use Rattle.certificate.specs.declared.kind.LineKind.{LineKind}
 use Rattle.certificate.specs.declared.stage.Stage.{Stage}
 use Rattle.certificate.specs.declared.stage.Stage.TheVariants as stage
-use Rattle.certificate.specs.ItemLines.{cert_items, item_text, leaf_items, node_items, plan_items, row_items, tree_items, trip_items}
-use Rattle.certificate.specs.Lines.{line_of, row_fields, stop_fields}
+use Rattle.certificate.specs.ItemLines.{cert_items, item_text, leaf_items, node_items, plan_items, pool_items, row_items, tree_items, trip_items}
+use Rattle.certificate.specs.Lines.{cut_fields, line_of, row_fields, stop_fields}
 use Rattle.certificate.specs.Ranges.{IsItemInRange, IsTripInRange}
 use Rattle.certificate.specs.Reading.{Read, read_from, read_whole, with_item}
 use Rattle.certificate.specs.Stages.{is_cut, is_node, may_stand, next_at, rows_left, stage_after, trees_left, trips_left, waiting_at}
-use Rattle.certificate.specs.Texts.{Certified, bound_text, cert_text, count_text, head_text, leaf_text, node_text, plan_text, rows_text, tree_text, trips_text}
-use Rattle.certificate.specs.Writable.{AreAbove, AreLeafRows, AreNodesWritable, AreRowsInRange, AreTripsWritable, IfPlanWritable, IsLeafWritable, IsNodeWritable, IsWritable}
+use Rattle.certificate.specs.Texts.{Certified, bound_text, cert_text, count_text, head_text, leaf_text, node_text, plan_text, pool_text, rows_text, tree_text, trips_text}
+use Rattle.certificate.specs.Writable.{AreAbove, AreCutsWritable, AreLeafRows, AreNodesWritable, AreRowsInRange, AreTripsWritable, IfPlanWritable, IsLeafWritable, IsNodeWritable, IsWritable}
 use Rattle.certificate.proofs.LinesBack.{item_reads}
 
 abbrev pub with_items : List CertItem → Read → Read
@@ -69,6 +70,18 @@ forest_on waiting (Split flight node time cutoff) nodes is =
     rw (one_more (suc waiting)) is
 
 module _ (parts : Parts) (valid : IsScenario parts) where
+  -- after a cut another one may stand
+  pool_reads : (pool : List CutName) (more : List ℕ) → AreCutsWritable pool
+      → read_from parts stage.Pool (pool_text pool ++ more)
+      ≡ with_items (pool_items pool) (read_from parts stage.Pool more)
+  pool_reads [] more are = refl
+  pool_reads (cut ∷ pool) more are =
+      ap (read_from parts stage.Pool)
+      (append_assoc (line_of (codes "cut") (cut_fields cut)) (pool_text pool) more)
+      ∙ item_reads parts valid stage.Pool stage.Pool (item.Cut cut) (pool_text pool ++ more) are.0
+      refl refl
+      ∙ ap (with_item (item.Cut cut)) (pool_reads pool more are.1)
+
   rows_back : (rows : List Multiplier) (last : Option RowName) (waiting : ℕ) (more : List ℕ)
       → AreRowsInRange rows → AreAbove last rows
       → read_from parts (rows_left (length rows) last waiting) (rows_text rows ++ more)
@@ -241,16 +254,13 @@ module _ (parts : Parts) (valid : IsScenario parts) where
       → read_from parts stage.Head (cert_text parts cert ++ more)
       ≡ with_items (cert_items parts cert) (read_from parts stage.Ended more)
   text_reads_on cert more is =
-      ap (read_from parts stage.Head) (append_assoc (head_text cert.digest) grown more)
-      ∙ item_reads parts valid stage.Head stage.Pool (item.Head cert.digest) (grown ++ more)
+      ap (read_from parts stage.Head) (append_assoc (head_text cert.digest) pooled more)
+      ∙ item_reads parts valid stage.Head stage.Pool (item.Head cert.digest) (pooled ++ more)
       is.digest refl refl
       ∙ ap (with_item (item.Head cert.digest))
-      (ap (read_from parts stage.Pool) (append_assoc (tree_text cert.tree) planned more)
-      ∙ tree_reads cert.tree (planned ++ more) is.nodes is.tree
-      ∙ ap (with_items (tree_items cert.tree))
-      (ap (read_from parts stage.Plan) (append_assoc (plan_text parts cert.plan) bounded more)
-      ∙ plan_reads cert.plan (bounded ++ more) is.plan
-      ∙ ap (with_items (plan_items parts cert.plan)) last_reads)
+      (ap (read_from parts stage.Pool) (append_assoc (pool_text cert.pool) grown more)
+      ∙ pool_reads cert.pool (grown ++ more) is.pool
+      ∙ ap (with_items (pool_items cert.pool)) tree_on
       ∙ together)
     where
       nodes : ℕ
@@ -264,6 +274,9 @@ module _ (parts : Parts) (valid : IsScenario parts) where
 
       grown : List ℕ
       grown = tree_text cert.tree ++ planned
+
+      pooled : List ℕ
+      pooled = pool_text cert.pool ++ grown
 
       last : List CertItem
       last = item.Bound cert.bound ∷ item.End nodes ∷ []
@@ -280,12 +293,27 @@ module _ (parts : Parts) (valid : IsScenario parts) where
           ∙ ap (with_item (item.Bound cert.bound))
           (item_reads parts valid stage.End stage.Ended (item.End nodes) more is.count refl refl)
 
-      together : with_items (tree_items cert.tree) (with_items (plan_items parts cert.plan)
+      tree_on : read_from parts stage.Pool (grown ++ more)
+          ≡ with_items (tree_items cert.tree) (with_items (plan_items parts cert.plan)
           (with_items last end))
-          ≡ with_items (tree_items cert.tree ++ (plan_items parts cert.plan ++ last)) end
+      tree_on =
+          ap (read_from parts stage.Pool) (append_assoc (tree_text cert.tree) planned more)
+          ∙ tree_reads cert.tree (planned ++ more) is.nodes is.tree
+          ∙ ap (with_items (tree_items cert.tree))
+          (ap (read_from parts stage.Plan) (append_assoc (plan_text parts cert.plan) bounded more)
+          ∙ plan_reads cert.plan (bounded ++ more) is.plan
+          ∙ ap (with_items (plan_items parts cert.plan)) last_reads)
+
+      together : with_items (pool_items cert.pool) (with_items (tree_items cert.tree)
+          (with_items (plan_items parts cert.plan) (with_items last end)))
+          ≡ with_items (pool_items cert.pool ++ (tree_items cert.tree
+          ++ (plan_items parts cert.plan ++ last))) end
       together =
-          ap (with_items (tree_items cert.tree)) (with_both (plan_items parts cert.plan) last end)
-          ∙ with_both (tree_items cert.tree) (plan_items parts cert.plan ++ last) end
+          ap (with_items (pool_items cert.pool))
+          (ap (with_items (tree_items cert.tree)) (with_both (plan_items parts cert.plan) last end)
+          ∙ with_both (tree_items cert.tree) (plan_items parts cert.plan ++ last) end)
+          ∙ with_both (pool_items cert.pool)
+          (tree_items cert.tree ++ (plan_items parts cert.plan ++ last)) end
 
   -- and has no fault
   pub text_reads : (cert : Certified) → IsWritable parts cert

@@ -6,13 +6,14 @@ use Rattle.flow_types.specs.declared.place.Place.{Place}
 use Rattle.flow_types.specs.declared.plan.Stop.{Stop}
 use Rattle.flow_types.specs.Costs.{plan_cost}
 use Rattle.bytime_model.specs.declared.multiplier.Multiplier.{Multiplier}
+use Rattle.cut_rows.specs.declared.names.CutName.{CutName}
 use Rattle.branch_tree.specs.declared.leaf.Leaf.{Leaf as LeafKind}
 use Rattle.branch_tree.specs.declared.leaf.Leaf.TheVariants as leaf
 use Rattle.branch_tree.specs.declared.tree.TreeNode.{TreeNode}
 use Rattle.branch_tree.specs.declared.tree.TreeNode.TheVariants.{Leaf, Split}
 use Rattle.certificate.specs.declared.item.CertItem.{CertItem}
 use Rattle.certificate.specs.declared.item.CertItem.TheVariants as item
-use Rattle.certificate.specs.Lines.{leaf_fields, line_of, row_fields, split_fields, stop_fields, whole_word}
+use Rattle.certificate.specs.Lines.{cut_fields, leaf_fields, line_of, row_fields, split_fields, stop_fields, whole_word}
 use Rattle.certificate.specs.Texts.{Certified, bound_text, count_text, head_text}
 
 -- no fields where there is no such flight
@@ -23,6 +24,7 @@ trip_fields places (Some flight) stops = flight.name ∷ stop_fields places flig
 -- a trip is of the flight of this number
 abbrev pub item_text : Parts → ℕ → CertItem → List ℕ
 item_text parts next (item.Head digest) = head_text digest
+item_text parts next (item.Cut cut) = line_of (codes "cut") (cut_fields cut)
 item_text parts next (item.Split flight node time cutoff) =
     line_of (codes "split") (split_fields flight node time cutoff)
 item_text parts next item.Empty = line_of (codes "empty") []
@@ -35,6 +37,9 @@ item_text parts next (item.Trip stops) =
     line_of (codes "trip") (trip_fields parts.places (slice_get parts.flights next) stops)
 item_text parts next (item.Bound bound) = bound_text bound
 item_text parts next (item.End nodes) = count_text nodes
+
+abbrev pub pool_items : List CutName → List CertItem
+pool_items pool = map (λ cut. item.Cut cut) pool
 
 abbrev pub row_items : List Multiplier → List CertItem
 row_items rows = map (λ multiplier. item.Row multiplier) rows
@@ -64,5 +69,5 @@ plan_items parts (Some plan) =
 
 abbrev pub cert_items : Parts → Certified → List CertItem
 cert_items parts cert =
-    item.Head cert.digest ∷ (tree_items cert.tree ++ (plan_items parts cert.plan
-    ++ item.Bound cert.bound ∷ item.End (length cert.tree) ∷ []))
+    item.Head cert.digest ∷ (pool_items cert.pool ++ (tree_items cert.tree
+    ++ (plan_items parts cert.plan ++ item.Bound cert.bound ∷ item.End (length cert.tree) ∷ [])))

@@ -1,5 +1,5 @@
 -- What the fields of a line tell, after the word of its kind.
-use Rattle.std.specs.Prelude.{ℕ, zero, suc, Bool, false, true, List, [], ◌∷◌, Option, None, Some, Result, Ok, Err, codes, position, slice_get, if◌then◌else◌}
+use Rattle.std.specs.Prelude.{ℕ, zero, suc, Bool, false, true, List, [], ◌∷◌, Option, None, Some, Result, Ok, Err, position, slice_get, if◌then◌else◌}
 use Rattle.std.specs.Str.{bytes_eq}
 use Rattle.text_records.specs.Errors.{◌>>=◌}
 use Rattle.flow_types.specs.declared.flight.Flight.{Flight}
@@ -10,15 +10,16 @@ use Rattle.flow_types.specs.Bounds.{bound_of}
 use Rattle.flow_types.specs.Limits.{most_nodes}
 use Rattle.plan_text.specs.Lines.{place_name}
 use Rattle.certificate.specs.declared.fault.LineFault.{LineFault}
-use Rattle.certificate.specs.declared.fault.TextCause.TheVariants.{BadCut}
 use Rattle.certificate.specs.declared.item.CertItem.{CertItem}
 use Rattle.certificate.specs.declared.item.CertItem.TheVariants as item
 use Rattle.certificate.specs.declared.kind.LineKind.{LineKind}
 use Rattle.certificate.specs.declared.kind.LineKind.TheVariants as kind
+use Rattle.certificate.specs.Cuts.{cut_name_from}
 use Rattle.certificate.specs.Digests.{digest_of_word}
 use Rattle.certificate.specs.Fields.{FieldsLeft, bad, end_of_line, field_from, is_nil, number_from, whole_from}
 use Rattle.certificate.specs.Limits.{most_bound, most_cost, most_node, most_period, most_position, most_rows, most_tree_nodes, most_weight}
 use Rattle.certificate.specs.Rows.{name_from}
+use Rattle.certificate.specs.Stages.{is_cut}
 
 -- the version, which is 1, and the digest of the day's text
 abbrev pub digest_or_bad : ℕ → Option (List ℕ) → Result (List ℕ) LineFault
@@ -33,48 +34,13 @@ head_of left = do
   ended ← end_of_line word.1
   Ok (item.Head digest)
 
--- so many nodes follow
-unfoldable pub heads_from : ℕ → FieldsLeft → Result (Unit {0} × FieldsLeft) LineFault
-heads_from zero left = Ok (tt, left)
-heads_from (suc more) left = number_from 0 most_node left >>= λ head. heads_from more head.1
-
--- at most so many follow, and nothing else
-unfoldable pub heads_to_end : ℕ → FieldsLeft → Result (Unit {0}) LineFault
-heads_to_end zero left = end_of_line left
-heads_to_end (suc more) left =
-    if is_nil left.fields then Ok tt
-    else (number_from 0 most_node left >>= λ head. heads_to_end more head.1)
-
--- a cut at a node: a flight, the node, a period, and so many heads and up to 30 more
-unfoldable pub node_cut : ℕ → ℕ → FieldsLeft → Result (Unit {0}) LineFault
-node_cut must may left = do
-  flight ← number_from 0 most_position left
-  node ← number_from 0 most_node flight.1
-  time ← number_from 0 most_period node.1
-  heads ← heads_from must time.1
-  heads_to_end may heads.1
-
--- one over a whole way: without a node, and with two heads at least
-unfoldable pub way_cut : FieldsLeft → Result (Unit {0}) LineFault
-way_cut left = do
-  flight ← number_from 0 most_position left
-  time ← number_from 0 most_period flight.1
-  heads ← heads_from 2 time.1
-  heads_to_end 30 heads.1
-
-abbrev pub cut_fields : List ℕ → FieldsLeft → Result (Unit {0}) LineFault
-cut_fields family left =
-    if bytes_eq family (codes "v1") then node_cut 1 30 left
-    else if bytes_eq family (codes "v2") then way_cut left
-    else if bytes_eq family (codes "v3") then node_cut 0 0 left
-    else Err (bad 2)
-
--- There are no cuts yet: where all fields of one are right, it is refused by its name.
+-- a cut, by the word of its family. Whether there is one isn't asked.
 unfoldable pub cut_of : FieldsLeft → Result CertItem LineFault
 cut_of left = do
   family ← field_from left
-  right ← cut_fields family.0 family.1
-  Err (record { field = 2; cause = BadCut })
+  name ← cut_name_from family.0 family.1
+  ended ← end_of_line name.1
+  Ok (item.Cut name.0)
 
 unfoldable pub split_of : FieldsLeft → Result CertItem LineFault
 split_of left = do
@@ -177,10 +143,10 @@ bare_line is left = do
   ended ← end_of_line left
   Ok is
 
--- a line of this kind that isn't a trip's
+-- a line of this kind that is neither a trip's nor a cut's
 abbrev pub plain_item : LineKind → FieldsLeft → Result CertItem LineFault
 plain_item kind.Head left = head_of left
-plain_item kind.Cut left = cut_of left
+plain_item kind.Cut left = Err (bad 1)
 plain_item kind.Split left = split_of left
 plain_item kind.Empty left = bare_line item.Empty left
 plain_item kind.Unit left = bare_line item.Unit left
@@ -200,4 +166,5 @@ is_trip other = false
 abbrev pub item_of : Parts → ℕ → LineKind → FieldsLeft → Result CertItem LineFault
 item_of parts next kind left =
     if is_trip kind then trip_of parts.places (slice_get parts.flights next) left
+    else if is_cut kind then cut_of left
     else plain_item kind left

@@ -5,8 +5,9 @@ pub mod Found
 pub mod Fields
 pub mod Kinds
 pub mod Rows
-pub mod Items
+pub mod Cuts
 pub mod Stages
+pub mod Items
 pub mod Reading
 pub mod Lines
 pub mod Texts

@@ -19,6 +19,10 @@ most_weight = 2 ^ 62 - 1
 abbrev pub most_rows : ℕ
 most_rows = 100000000
 
+-- heads of a cut; of nodes that are apart it may name as many as a flight has
+abbrev pub most_heads : ℕ
+most_heads = 31
+
 -- costs and cutoffs, and bounds, either way
 abbrev pub most_cost : ℕ
 most_cost = 10000000000000

@@ -9,6 +9,8 @@ use Rattle.flow_types.specs.declared.plan.Stop.{Stop}
 use Rattle.flow_types.specs.Trips.{place_at}
 use Rattle.bytime_model.specs.declared.multiplier.Multiplier.{Multiplier}
 use Rattle.text_records.specs.Lines.{field_text}
+use Rattle.cut_rows.specs.declared.names.CutName.{CutName}
+use Rattle.certificate.specs.Cuts.{cut_numbers, family_word}
 use Rattle.certificate.specs.Items.{name_at}
 use Rattle.certificate.specs.Rows.{row_numbers, row_word}
 
@@ -29,6 +31,9 @@ fields_text (field ∷ fields) = field_text field ++ fields_text fields
 -- a word and fields after it
 abbrev pub line_of : List ℕ → List (List ℕ) → List ℕ
 line_of word fields = word ++ fields_text fields
+
+abbrev pub cut_fields : CutName → List (List ℕ)
+cut_fields cut = family_word cut ∷ map decimal (cut_numbers cut)
 
 abbrev pub split_fields : ℕ → ℕ → ℕ → Option ℤ → List (List ℕ)
 split_fields flight node time cutoff =

@@ -8,17 +8,19 @@ use Rattle.flow_types.specs.Limits.{most_nodes}
 use Rattle.bytime_model.specs.declared.multiplier.Multiplier.{Multiplier}
 use Rattle.bytime_model.specs.declared.names.RowName.{RowName}
 use Rattle.bytime_model.specs.declared.names.RowName.TheVariants as row
+use Rattle.cut_rows.specs.declared.names.CutName.{CutName}
+use Rattle.cut_rows.specs.declared.names.CutName.TheVariants.{Apart, Departed, Heads}
 use Rattle.certificate.specs.declared.item.CertItem.{CertItem}
 use Rattle.certificate.specs.declared.item.CertItem.TheVariants as item
 use Rattle.certificate.specs.Digests.{digest_size}
-use Rattle.certificate.specs.Limits.{most_bound, most_cost, most_node, most_period, most_position, most_rows, most_tree_nodes, most_weight}
+use Rattle.certificate.specs.Limits.{most_bound, most_cost, most_heads, most_node, most_period, most_position, most_rows, most_tree_nodes, most_weight}
 use Rattle.certificate.specs.Lines.{bound_number}
 
 pub record IsDigest (digest : List ℕ) : Type 0 where
   pub size : length digest ≡ digest_size
   pub bytes : IsBytes digest
 
--- a place or a connection, and a period
+-- a place, a connection or a flight, and a period
 pub record IsPlaceTime (place period : ℕ) : Type 0 where
   pub place_to : place ≤ most_position
   pub period_to : period ≤ most_period
@@ -42,6 +44,29 @@ IsRowInRange (row.Enter f n t) = IsNodeTime f n t
 IsRowInRange (row.Leave f n) = IsNodeOf f n
 IsRowInRange (row.Connect c t) = IsPlaceTime c t
 IsRowInRange (row.Cut i) = i ≤ most_position
+
+abbrev pub AreNodesInRange : List ℕ → Type 0
+AreNodesInRange [] = Unit {0}
+AreNodesInRange (node ∷ nodes) = (node ≤ most_node) × AreNodesInRange nodes
+
+-- so many nodes at least, and at most so many
+pub record IsListInRange (least most : ℕ) (nodes : List ℕ) : Type 0 where
+  pub each : AreNodesInRange nodes
+  pub enough : least ≤ length nodes
+  pub few : length nodes ≤ most
+
+pub record IsHeadsInRange (flight node time : ℕ) (heads : List ℕ) : Type 0 where
+  pub at : IsNodeTime flight node time
+  pub heads_in : IsListInRange 1 most_heads heads
+
+pub record IsApartInRange (flight time : ℕ) (nodes : List ℕ) : Type 0 where
+  pub at : IsPlaceTime flight time
+  pub nodes_in : IsListInRange 2 most_nodes nodes
+
+abbrev pub IsCutInRange : CutName → Type 0
+IsCutInRange (Heads f n t heads) = IsHeadsInRange f n t heads
+IsCutInRange (Apart f t nodes) = IsApartInRange f t nodes
+IsCutInRange (Departed f n t) = IsNodeTime f n t
 
 -- no further from 0 than this, where there is a number
 abbrev pub IsWithinEither : ℕ → Option ℤ → Type 0
@@ -80,6 +105,7 @@ pub record IsCountInRange (nodes : ℕ) : Type 0 where
 -- a trip is of the flight of this number
 abbrev pub IsItemInRange : Parts → ℕ → CertItem → Type 0
 IsItemInRange parts next (item.Head digest) = IsDigest digest
+IsItemInRange parts next (item.Cut cut) = IsCutInRange cut
 IsItemInRange parts next (item.Split flight node time cutoff) =
     IsSplitInRange flight node time cutoff
 IsItemInRange parts next item.Empty = Unit {0}

@@ -91,6 +91,7 @@ row_at other name = Err bad_kind
 
 abbrev pub stage_after : Parts → Stage → CertItem → Result Stage LineFault
 stage_after parts now (item.Head digest) = Ok stage.Pool
+stage_after parts now (item.Cut cut) = Ok stage.Pool
 stage_after parts now (item.Split flight node time cutoff) =
     Ok (stage.Tree (waiting_at now + 1))
 stage_after parts now item.Empty = Ok (trees_left (waiting_at now - 1))

@@ -1,5 +1,5 @@
--- The text of a certificate: the digest of the day's text, the nodes of a tree, each Dual and Lag
--- leaf with its rows, a plan, if there is one, and the bound.
+-- The text of a certificate: the digest of the day's text, the cuts of a pool, the nodes of a tree,
+-- each Dual and Lag leaf with its rows, a plan, if there is one, and the bound.
 use Rattle.std.specs.Prelude.{ℕ, List, [], ◌∷◌, ◌++◌, length, Option, None, Some, codes}
 use Rattle.std.specs.Fmt.{decimal, signed_decimal}
 use Rattle.hex.specs.Hex.{encode_lower}
@@ -10,21 +10,27 @@ use Rattle.flow_types.specs.declared.place.Place.{Place}
 use Rattle.flow_types.specs.declared.plan.Stop.{Stop}
 use Rattle.flow_types.specs.Costs.{plan_cost}
 use Rattle.bytime_model.specs.declared.multiplier.Multiplier.{Multiplier}
+use Rattle.cut_rows.specs.declared.names.CutName.{CutName}
 use Rattle.branch_tree.specs.declared.leaf.Leaf.{Leaf as LeafKind}
 use Rattle.branch_tree.specs.declared.leaf.Leaf.TheVariants as leaf
 use Rattle.branch_tree.specs.declared.tree.TreeNode.{TreeNode}
 use Rattle.branch_tree.specs.declared.tree.TreeNode.TheVariants.{Leaf, Split}
-use Rattle.certificate.specs.Lines.{bound_number, leaf_fields, line_of, row_fields, split_fields, stop_fields, whole_word}
+use Rattle.certificate.specs.Lines.{bound_number, cut_fields, leaf_fields, line_of, row_fields, split_fields, stop_fields, whole_word}
 
 -- what a certificate says
 pub record Certified : Type 0 where
   pub digest : List ℕ
+  pub pool : List CutName
   pub tree : List TreeNode
   pub plan : Option (List (List Stop))
   pub bound : Bound
 
 abbrev pub head_text : List ℕ → List ℕ
 head_text digest = line_of (codes "cert") (codes "1" ∷ encode_lower digest ∷ [])
+
+abbrev pub pool_text : List CutName → List ℕ
+pool_text [] = []
+pool_text (cut ∷ pool) = line_of (codes "cut") (cut_fields cut) ++ pool_text pool
 
 abbrev pub rows_text : List Multiplier → List ℕ
 rows_text [] = []
@@ -70,5 +76,5 @@ count_text nodes = line_of (codes "end") (decimal nodes ∷ [])
 
 abbrev pub cert_text : Parts → Certified → List ℕ
 cert_text parts cert =
-    head_text cert.digest ++ (tree_text cert.tree ++ (plan_text parts cert.plan
-    ++ (bound_text cert.bound ++ count_text (length cert.tree))))
+    head_text cert.digest ++ (pool_text cert.pool ++ (tree_text cert.tree
+    ++ (plan_text parts cert.plan ++ (bound_text cert.bound ++ count_text (length cert.tree)))))

@@ -1,5 +1,5 @@
 -- What it takes for a certificate to be read back from its text: a tree, rows that ascend, and
--- numbers within the limits of lines.
+-- numbers and lists of nodes within the limits of lines.
 use Rattle.std.specs.Prelude.{◌≡◌, ℕ, ◌≤◌, true, List, [], ◌∷◌, length, Option, Some, None}
 use Rattle.flow_types.specs.declared.flight.Flight.{Flight}
 use Rattle.flow_types.specs.declared.parts.Parts.{Parts}
@@ -8,6 +8,7 @@ use Rattle.flow_types.specs.Costs.{plan_cost}
 use Rattle.flow_types.specs.Limits.{most_nodes}
 use Rattle.bytime_model.specs.declared.multiplier.Multiplier.{Multiplier}
 use Rattle.bytime_model.specs.declared.names.RowName.{RowName}
+use Rattle.cut_rows.specs.declared.names.CutName.{CutName}
 use Rattle.branch_tree.specs.declared.leaf.Leaf.{Leaf as LeafKind}
 use Rattle.branch_tree.specs.declared.leaf.Leaf.TheVariants as leaf
 use Rattle.branch_tree.specs.declared.tree.TreeNode.{TreeNode}
@@ -15,9 +16,13 @@ use Rattle.branch_tree.specs.declared.tree.TreeNode.TheVariants.{Leaf, Split}
 use Rattle.branch_tree.specs.Trees.{is_tree}
 use Rattle.certificate.specs.Limits.{most_bound, most_cost}
 use Rattle.certificate.specs.Lines.{bound_number}
-use Rattle.certificate.specs.Ranges.{AreStopsInRange, IsCountInRange, IsDigest, IsLeafInRange, IsMultiplierInRange, IsSplitInRange, IsWithinEither}
+use Rattle.certificate.specs.Ranges.{AreStopsInRange, IsCountInRange, IsCutInRange, IsDigest, IsLeafInRange, IsMultiplierInRange, IsSplitInRange, IsWithinEither}
 use Rattle.certificate.specs.Stages.{is_above}
 use Rattle.certificate.specs.Texts.{Certified}
+
+abbrev pub AreCutsWritable : List CutName → Type 0
+AreCutsWritable [] = Unit {0}
+AreCutsWritable (cut ∷ pool) = IsCutInRange cut × AreCutsWritable pool
 
 -- rows that ascend from the last one on
 abbrev pub AreAbove : Option RowName → List Multiplier → Type 0
@@ -67,6 +72,7 @@ IfPlanWritable parts (Some plan) = IsPlanWritable parts plan
 -- what the text of a certificate is read back for
 pub record IsWritable (parts : Parts) (cert : Certified) : Type 0 where
   pub digest : IsDigest cert.digest
+  pub pool : AreCutsWritable cert.pool
   pub nodes : AreNodesWritable cert.tree
   pub tree : is_tree cert.tree ≡ true
   pub plan : IfPlanWritable parts cert.plan

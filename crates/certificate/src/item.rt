@@ -2,6 +2,7 @@
 
 use crate::digest::Digest;
 use bytime_model::Multiplier;
+use cut_rows::CutName;
 use flow_types::{Bound, Trip};
 
 /// What a line of a certificate tells. Whether that is so isn't asked.
@@ -9,6 +10,8 @@ use flow_types::{Bound, Trip};
 pub enum CertItem {
     /// The digest of the text of the day that the certificate is of.
     Head(Digest),
+    /// A cut of the pool.
+    Cut(CutName),
     /// The box is split: on the early side the flight enters the node by the period, on the late
     /// side after it or not at all. The cutoff is what the best plan cost that was known then.
     Split {

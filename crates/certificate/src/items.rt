@@ -6,12 +6,14 @@ ghost use Rattle.flow_types.specs.Scenario.{parts_of};
 ghost use Rattle.plan_text.specs.Lines.{place_name};
 ghost use Rattle.certificate.specs.Fields.{whole_from};
 ghost use Rattle.certificate.specs.Found.{Finds, Gives};
-ghost use Rattle.certificate.specs.Items.{bare_line, bound_line, cut_fields, cut_of, digest_or_bad, dual_of, end_line, head_of, heads_from, heads_to_end, is_trip, item_of, lag_of, leaf_of, name_at, node_called, node_cut, node_or_bad, plain_item, plan_of, row_of, same_name, split_of, stop_from, stops_from, trip_for, trip_of, way_cut};
+ghost use Rattle.certificate.specs.Items.{bare_line, bound_line, cut_of, digest_or_bad, dual_of, end_line, head_of, is_trip, item_of, lag_of, leaf_of, name_at, node_called, node_or_bad, plain_item, plan_of, row_of, same_name, split_of, stop_from, stops_from, trip_for, trip_of};
 ghost use Rattle.certificate.specs.Limits.{most_cost};
+ghost use Rattle.certificate.specs.Stages.{is_cut};
 ghost use Rattle.certificate.specs.declared.item.CertItem.TheVariants as item;
 
+use crate::cut_names::cut_name_from;
 use crate::digest::{Digest, digest_of_word};
-use crate::fault::{LineError, LineFault, TextCause, bad};
+use crate::fault::{LineError, LineFault, bad};
 use crate::fields::LineFields;
 use crate::item::CertItem;
 use crate::kind::LineKind;
@@ -20,6 +22,7 @@ use crate::limits::{
     MOST_WEIGHT,
 };
 use crate::row_names::name_from;
+use crate::stage::is_cut;
 use bytime_model::Multiplier;
 use flow_types::{Bound, Flight, MOST_NODES, Place, Scenario, Stop, Trip};
 use std::alloc::Global;
@@ -41,6 +44,17 @@ fn head_of(fields: &mut LineFields<'_>) -> Result<CertItem, LineFault>
     let digest = digest_or_bad(field, digest_of_word(word))?;
     fields.end()?;
     Ok(CertItem::Head(digest))
+}
+
+// A cut, whose nodes take memory.
+#[tactic(auto, unfolding(crate::specs::Items::cut_of))]
+fn cut_of(alloc: Global, fields: &mut LineFields<'_>) -> Result<CertItem, LineError>
+    ensures { Gives (λ item. item) result (cut_of fields.old) }
+{
+    let family = fields.field()?;
+    let name = cut_name_from(alloc, family, fields)?;
+    fields.end()?;
+    Ok(CertItem::Cut(name))
 }
 
 #[tactic(auto, unfolding(crate::specs::Items::split_of))]
@@ -141,79 +155,6 @@ fn bare_line(is: CertItem, fields: &mut LineFields<'_>) -> Result<CertItem, Line
 {
     fields.end()?;
     Ok(is)
-}
-
-// So many nodes.
-fn heads_from(count: u32, fields: &mut LineFields<'_>) -> Result<(), LineFault>
-    ensures { Finds (λ done. (done, fields.new)) result (heads_from count fields.old) }
-{
-    let mut left = count;
-    'heads: while left > 0 {
-        fields.number(0, MOST_NODE)?;
-        left -= 1;
-    }
-    Ok(())
-}
-
-// At most so many nodes, and nothing else.
-fn heads_to_end(most: usize, fields: &mut LineFields<'_>) -> Result<(), LineFault>
-    ensures { Finds (λ done. done) result (heads_to_end most fields.old) }
-{
-    let mut left = most;
-    'heads: while fields.has_more(left) {
-        fields.number(0, MOST_NODE)?;
-        left -= 1;
-    }
-    fields.end()
-}
-
-#[tactic(auto, unfolding(crate::specs::Items::node_cut))]
-fn node_cut(must: u32, may: usize, fields: &mut LineFields<'_>) -> Result<(), LineFault>
-    ensures { Finds (λ done. done) result (node_cut must may fields.old) }
-{
-    fields.number(0, MOST_POSITION)?;
-    fields.number(0, MOST_NODE)?;
-    fields.number(0, MOST_PERIOD)?;
-    heads_from(must, fields)?;
-    heads_to_end(may, fields)
-}
-
-#[tactic(auto, unfolding(crate::specs::Items::way_cut))]
-fn way_cut(fields: &mut LineFields<'_>) -> Result<(), LineFault>
-    ensures { Finds (λ done. done) result (way_cut fields.old) }
-{
-    fields.number(0, MOST_POSITION)?;
-    fields.number(0, MOST_PERIOD)?;
-    heads_from(2, fields)?;
-    heads_to_end(30, fields)
-}
-
-// The fields of a cut of this family.
-fn cut_fields(family: &[u8], fields: &mut LineFields<'_>) -> Result<(), LineFault>
-    ensures { Finds (λ done. done) result (cut_fields family.now fields.old) }
-{
-    if family == b"v1".as_slice() {
-        node_cut(1, 30, fields)
-    } else if family == b"v2".as_slice() {
-        way_cut(fields)
-    } else if family == b"v3".as_slice() {
-        node_cut(0, 0, fields)
-    } else {
-        Err(bad(2))
-    }
-}
-
-// There are no cuts yet: where all fields of one are right, it is refused by its name.
-#[tactic(auto, unfolding(crate::specs::Items::cut_of))]
-fn cut_of(fields: &mut LineFields<'_>) -> Result<CertItem, LineFault>
-    ensures { Finds (λ item. item) result (cut_of fields.old) }
-{
-    let family = fields.field()?;
-    cut_fields(family, fields)?;
-    Err(LineFault {
-        field: 2,
-        cause: TextCause::BadCut,
-    })
 }
 
 /// The name of the place at this position, empty where there is none.
@@ -319,13 +260,13 @@ fn trip_of(
     }
 }
 
-// What a line of this kind tells that isn't a trip's.
+// What a line of this kind tells that is neither a trip's nor a cut's.
 fn plain_item(kind: LineKind, fields: &mut LineFields<'_>) -> Result<CertItem, LineFault>
     ensures { Finds (λ item. item) result (plain_item kind fields.old) }
 {
     match kind {
         LineKind::Head => head_of(fields),
-        LineKind::Cut => cut_of(fields),
+        LineKind::Cut => Err(bad(1)),
         LineKind::Split => split_of(fields),
         LineKind::Empty => bare_line(CertItem::Empty, fields),
         LineKind::Unit => bare_line(CertItem::Unit, fields),
@@ -346,7 +287,7 @@ fn is_trip(kind: LineKind) -> bool
 }
 
 /// What a line of this kind tells. A trip is of the flight of this number; it takes memory for its
-/// stops, and any other line none.
+/// stops, a cut for its nodes, and any other line none.
 pub fn item_of(
     alloc: Global,
     s: &Scenario,
@@ -358,6 +299,9 @@ pub fn item_of(
 {
     if is_trip(kind) {
         return trip_of(alloc, s, next, fields);
+    }
+    if is_cut(kind) {
+        return cut_of(alloc, fields);
     }
     Ok(plain_item(kind, fields)?)
 }

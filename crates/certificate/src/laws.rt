@@ -12,8 +12,9 @@ ghost use Rattle.certificate.specs.Texts.{Certified, cert_text};
 ghost use Rattle.certificate.specs.Writable.{IsWritable};
 
 /// The text of a certificate is read as what it tells: for a valid scenario, a tree whose leaves'
-/// rows ascend, and numbers within the limits, its lines tell the digest, the nodes of the tree
-/// with their rows, the plan's cost and trips, the bound and the count, and it has no fault.
+/// rows ascend, and numbers and lists of nodes within the limits, its lines tell the digest, the
+/// cuts of the pool, the nodes of the tree with their rows, the plan's cost and trips, the bound
+/// and the count, and it has no fault.
 pub fn texts_are_read()
     ensures { (parts : Parts) (cert : Certified) → IsScenario parts → IsWritable parts cert
         → read_from parts stages.Head (cert_text parts cert)

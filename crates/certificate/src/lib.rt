@@ -4,6 +4,9 @@
 //! most 4,096 bytes long without it:
 //!
 //!     cert,1,<digest of the day's text, 64 digits>
+//!     cut,v1,<flight>,<node>,<period>,<head>,..         a cut of heads, 1 to 31
+//!     cut,v2,<flight>,<period>,<node>,..                of nodes that are apart, 2 to 32
+//!     cut,v3,<flight>,<node>,<period>                   of having departed
 //!     split,<flight>,<node>,<period>,<cutoff or none>   a split, then its early and its late side
 //!     empty                                             or a leaf: Empty
 //!     unit                                              Unit
@@ -16,19 +19,20 @@
 //!     end,<nodes of the tree>
 //!
 //! The rows are `mono`, `top`, `dep`, `arr`, `sector`, `occupy`, `enter`, `leave`, `connect` and
-//! `cut`, with the numbers of their names (`specs/Rows`). Before the tree a `cut` line may stand;
-//! there are no cuts yet, so one whose fields are right is refused as `BadCut`. Numbers are written
-//! in one way each, and are within the limits of `specs/Limits`; a trip has at most 32 stops.
+//! `cut`, with the numbers of their names (`specs/Rows`). That of a cut is its position in the
+//! pool, which is the list of the `cut` lines. Numbers are written in one way each, and are within
+//! the limits of `specs/Limits`; a trip has at most 32 stops.
 //!
 //! Only the text is judged here: whether the digest, the cost, the count and the bound are right is
-//! not asked, nor whether the rows exist. What a tree, a leaf and a bound are is said in
+//! not asked, nor whether the rows and the cuts are there, nor whether the cuts ascend. What cuts
+//! are, and their order, is said in `cut_rows`; what a tree, a leaf and a bound are, in
 //! `branch_tree` and `dual_leaf`.
 //!
 //! A caller writes one, after asking how long it will be:
 //!
 //!     let digest = Digest::of(text_of_the_day);
 //!     let plan = found.plans.items().last();
-//!     let certificate = Certificate::new(digest, &found.tree, plan, found.bound);
+//!     let certificate = Certificate::new(digest, &found.pool, &found.tree, plan, found.bound);
 //!     let length = cert_length(&s, &certificate);
 //!     if length > MOST_CERT_BYTES {
 //!         return Err(TooLong(length));
@@ -47,9 +51,9 @@
 //!     }
 //!
 //! The definitions stand in `specs/`. `Lines` and `Texts` say what is written. `Numbers`, `Fields`,
-//! `Rows` and `Items` say what a line tells or which field is wrong, field by field, so that the
-//! fault that is told is the line's first; `Kinds` has the words of lines, `Digests` those of
-//! digests, `Stages` is the grammar, and `Reading` puts a text's lines together. `Readers` says
+//! `Rows`, `Cuts` and `Items` say what a line tells or which field is wrong, field by field, so
+//! that the fault that is told is the line's first; `Kinds` has the words of lines, `Digests` those
+//! of digests, `Stages` is the grammar, and `Reading` puts a text's lines together. `Readers` says
 //! what contracts see of a reader. `ItemLines` has the items of a certificate, and `Ranges` and
 //! `Writable` say what it takes for it to be read back; `Found` and `Put` serve the proofs.
 //!
@@ -62,16 +66,17 @@
 //! (`answers_are_the_items`). No more is read than there was (`within`, `bounded`). A refusal is
 //! kept and answered again (`keeps`, `again`), and so is the end (`ended`); a read fails only where
 //! the files' count of faults rose or stands at its last value, or the name isn't there (`failed`,
-//! `unfailed`). By the definition of reading, what is written of a tree with ascending rows, and of
-//! numbers within the limits, is read back whole (`texts_are_read`); so a certificate has one text,
-//! and no text of one begins that of another (`texts_are_one`).
+//! `unfailed`). By the definition of reading, what is written of a pool, of a tree with ascending
+//! rows, and of numbers within the limits, is read back whole (`texts_are_read`); so a certificate
+//! has one text, and no text of one begins that of another (`texts_are_one`).
 //!
 //! Memory: a text is made in blocks that grow by doubling. A reader takes a piece of 64 KiB and a
-//! line of at most 4,097 bytes, in a block that grows by doubling, and a trip its stops; nothing
-//! grows with the text. Time: each byte of a text is read once.
+//! line of at most 4,097 bytes, in a block that grows by doubling, a trip its stops and a cut its
+//! nodes; nothing grows with the text. Time: each byte of a text is read once.
 #![tactic(auto)]
 
 mod certificate;
+mod cut_names;
 mod digest;
 mod digits;
 mod fault;

@@ -13,6 +13,9 @@ pub const MOST_WEIGHT: u64 = (1 << 62) - 1;
 
 pub const MOST_ROWS: u64 = 100_000_000;
 
+/// How many heads a cut may have.
+pub const MOST_HEADS: usize = 31;
+
 /// How far from 0 a cost or a cutoff may be.
 pub const MOST_COST: u128 = 10_000_000_000_000;
 

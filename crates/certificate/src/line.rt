@@ -88,7 +88,7 @@ fn fields_step(
 }
 
 /// What a line tells, given without its line feed, and what may stand after it. A trip takes memory
-/// for its stops, and any other line none.
+/// for its stops, a cut for its nodes, and any other line none.
 pub fn line_step(
     alloc: Global,
     s: &Scenario,

@@ -211,7 +211,7 @@ impl CertReader {
     /// last line. A refusal is kept and answered again, and after the end each call answers that.
     /// What is said of the text holds where the files tell what the name holds, and that is what it
     /// was when the reader was made. It takes memory for the longest line so far, and for the stops
-    /// of a trip.
+    /// of a trip or the nodes of a cut.
     pub fn next<F: Files>(
         &mut self,
         files: &mut F,

@@ -61,7 +61,8 @@ fn is_node(kind: LineKind) -> bool
     )
 }
 
-fn is_cut(kind: LineKind) -> bool
+/// Whether a line tells a cut.
+pub fn is_cut(kind: LineKind) -> bool
     ensures { result ≡ is_cut kind }
 {
     matches!(kind, LineKind::Cut)
@@ -196,7 +197,7 @@ pub fn stage_after(s: &Scenario, stage: Stage, item: &CertItem) -> Result<Stage,
     ensures { Finds (λ stage. stage) result (stage_after (parts_of s.now) stage item.now) }
 {
     match item {
-        CertItem::Head(_) => Ok(Stage::Pool),
+        CertItem::Head(_) | CertItem::Cut(_) => Ok(Stage::Pool),
         CertItem::Split { .. } => Ok(Stage::Tree {
             waiting: waiting_at(stage) + 1,
         }),

@@ -1,5 +1,5 @@
 //! The text of a certificate, and how long it is.
-ghost use Rattle.std.specs.Prelude.{◌≡◌, ◌∷◌, ◌++◌, ◌-◌, ◌^◌, IfOk, IfSome, [], codes, length, min};
+ghost use Rattle.std.specs.Prelude.{◌≡◌, ◌∷◌, ◌++◌, ◌-◌, ◌^◌, IfOk, IfSome, [], codes, length, map, min};
 ghost use Rattle.std.specs.Fmt.{decimal, signed_decimal};
 ghost use Rattle.std.specs.Option.{option_copied};
 ghost use Rattle.flow_types.specs.Feasible.{IsFeasible};
@@ -7,9 +7,9 @@ ghost use Rattle.flow_types.specs.Scenario.{parts_of};
 ghost use Rattle.flow_types.specs.Trips.{place_at};
 ghost use Rattle.text_records.specs.Lines.{field_text};
 ghost use Rattle.certificate.specs.Items.{name_at};
-ghost use Rattle.certificate.specs.Lines.{bound_number, fields_text, leaf_fields, line_of, row_fields, split_fields, stop_fields, whole_word};
+ghost use Rattle.certificate.specs.Lines.{bound_number, cut_fields, fields_text, leaf_fields, line_of, row_fields, split_fields, stop_fields, whole_word};
 ghost use Rattle.certificate.specs.Put.{Puts};
-ghost use Rattle.certificate.specs.Texts.{bound_text, cert_text, count_text, head_text, leaf_text, node_text, plan_text, rows_text, tree_text, trips_text};
+ghost use Rattle.certificate.specs.Texts.{bound_text, cert_text, count_text, head_text, leaf_text, node_text, plan_text, pool_text, rows_text, tree_text, trips_text};
 
 use crate::certificate::Certificate;
 use crate::digest::Digest;
@@ -18,6 +18,7 @@ use crate::items::name_at;
 use crate::out::{Count, Out, Text};
 use branch_tree::{Leaf, TreeNode};
 use bytime_model::{Multiplier, RowName};
+use cut_rows::CutName;
 use flow_types::{Bound, Flight, OutOfMemory, Place, Plan, Scenario, Stop, Trip, place_at};
 use plan_rules::cost;
 use std::alloc::Global;
@@ -81,6 +82,88 @@ fn put_bare<O: Out>(out: &mut O, word: &[u8]) -> Result<(), O::Error>
 {
     out.put(word)?;
     out.put(b"\n")
+}
+
+// Adds fields that are nodes, and the line feed.
+fn put_nodes<O: Out>(out: &mut O, nodes: &[u16]) -> Result<(), O::Error>
+    ensures { Puts (O.holds out.old) (O.holds out.new) result
+        (fields_text (map decimal nodes.now)) }
+{
+    for node in nodes {
+        put_number(out, (*node).into())?;
+    }
+    out.put(b"\n")
+}
+
+// Adds the begin of the line of a cut: the word of its family, and the flight.
+fn put_cut_begin<O: Out>(out: &mut O, word: &[u8], flight: u32) -> Result<(), O::Error>
+    ensures { Puts (O.holds out.old) (O.holds out.new) result
+        (codes "cut" ++ (field_text word.now ++ field_text (decimal flight))) }
+{
+    out.put(b"cut")?;
+    put_field(out, word)?;
+    put_number(out, flight.into())
+}
+
+// Adds the line of a cut of a node.
+fn put_node_cut<O: Out>(
+    out: &mut O,
+    word: &[u8],
+    flight: u32,
+    node: u16,
+    time: u16,
+    heads: &[u16],
+) -> Result<(), O::Error>
+    ensures { Puts (O.holds out.old) (O.holds out.new) result (line_of (codes "cut")
+        (word.now ∷ map decimal (flight ∷ node ∷ time ∷ heads.now))) }
+{
+    put_cut_begin(out, word, flight)?;
+    put_number(out, node.into())?;
+    put_number(out, time.into())?;
+    put_nodes(out, heads)
+}
+
+// Adds the line of a cut of nodes that are apart.
+fn put_apart_cut<O: Out>(out: &mut O, flight: u32, time: u16, nodes: &[u16]) -> Result<(), O::Error>
+    ensures { Puts (O.holds out.old) (O.holds out.new) result (line_of (codes "cut")
+        (codes "v2" ∷ map decimal (flight ∷ time ∷ nodes.now))) }
+{
+    put_cut_begin(out, b"v2", flight)?;
+    put_number(out, time.into())?;
+    put_nodes(out, nodes)
+}
+
+// Adds the line of a cut.
+fn put_cut_name<O: Out>(out: &mut O, cut: &CutName) -> Result<(), O::Error>
+    ensures { Puts (O.holds out.old) (O.holds out.new) result
+        (line_of (codes "cut") (cut_fields cut.now)) }
+{
+    match cut {
+        CutName::Heads {
+            flight,
+            node,
+            time,
+            heads,
+        } => put_node_cut(out, b"v1", *flight, *node, *time, heads.items()),
+        CutName::Apart {
+            flight,
+            time,
+            heads,
+        } => put_apart_cut(out, *flight, *time, heads.items()),
+        CutName::Departed { flight, node, time } => {
+            put_node_cut(out, b"v3", *flight, *node, *time, &[])
+        }
+    }
+}
+
+// Adds the lines of a pool.
+fn put_pool<O: Out>(out: &mut O, cuts: &[CutName]) -> Result<(), O::Error>
+    ensures { Puts (O.holds out.old) (O.holds out.new) result (pool_text cuts.now) }
+{
+    for cut in cuts {
+        put_cut_name(out, cut)?;
+    }
+    Ok(())
 }
 
 // Adds a split.
@@ -174,7 +257,7 @@ fn put_row3<O: Out>(
     put_row_end(out, third.into(), value)
 }
 
-// Adds the line of a cut, by its position.
+// Adds the line of the row of a cut, by its position.
 fn put_cut<O: Out>(out: &mut O, index: u32, value: u64) -> Result<(), O::Error>
     ensures { Puts (O.holds out.old) (O.holds out.new) result
         (line_of (codes "y") (codes "cut" ∷ decimal index ∷ decimal value ∷ [])) }
@@ -396,6 +479,7 @@ fn put_certificate<O: Out>(
         (cert_text (parts_of s.now) certificate.now) }
 {
     put_head(out, &certificate.digest)?;
+    put_pool(out, certificate.pool.items())?;
     put_tree(out, certificate.tree.items())?;
     put_claim(out, s, certificate)
 }

@@ -86,7 +86,8 @@ returns-in-Err-step-clause-refused g c =
     c.next.new.self c.in-Some.item
     (subst (λ held. IsItemRead parts held c.loop-now.reader c.in-Some.item c.next.new.self)
     c.loop-now.invariant.held read) c.in_ok-item.ensures.bounded c.loop-now.now
-    c.loop-now.invariant.come c.in-Err-step.error c.in-Err-step.ensures.step c.in_line-in-Err-step.result
+    c.loop-now.invariant.come c.in-Err-step.error c.in-Err-step.ensures.step
+    c.in_line-in-Err-step.result
     (subst (λ number. c.in_line-in-Err-step.result ≡ check_fault number c.in-Err-step.error)
     c.line-line.ensures.number c.in_line-in-Err-step.ensures)
 
