@@ -6,6 +6,7 @@ pub mod JudgingFacts
 pub mod OwnDigest
 pub mod OwnSizes
 pub mod OwnRows
+pub mod OwnCuts
 pub mod OwnPlan
 pub mod OwnNodes
 pub mod OwnFacts

@@ -23,7 +23,7 @@ use Rattle.bytime_model.specs.AllRows.{rows_of}
 use Rattle.certificate.specs.Limits.{most_bound, most_tree_nodes}
 use Rattle.certificate.specs.Lines.{bound_number, whole_word}
 use Rattle.certificate.specs.Ranges.{IsWithinEither}
-use Rattle.certificate.specs.Texts.{Certified, bound_text, cert_text, count_text, head_text, plan_text, tree_text}
+use Rattle.certificate.specs.Texts.{Certified, bound_text, cert_text, count_text, head_text, plan_text, pool_text, tree_text}
 use Rattle.certificate.specs.Writable.{IfPlanWritable, IsWritable}
 use Rattle.cert_checker.specs.Accepted.{IsLawfulCertificate, claim_of}
 use Rattle.cert_checker.specs.Checks.{IfThere}
@@ -36,6 +36,7 @@ use Rattle.tree_search.specs.Nodes.{IsNodeOf}
 use Rattle.tree_search.specs.Records.{IsSearchRecord, last_plan}
 use Rattle.tree_search.proofs.SoundFacts.{record_tree}
 use Rattle.flow_cli.specs.Own.{certified, most_bytes_of}
+use Rattle.flow_cli.proofs.OwnCuts.{short_cuts}
 use Rattle.flow_cli.proofs.OwnDigest.{is_digest}
 use Rattle.flow_cli.proofs.OwnNodes.{AreFitNodes, node_bytes, nodes_fit}
 use Rattle.flow_cli.proofs.OwnPlan.{plan_size, plan_writable}
@@ -83,7 +84,7 @@ module _ (parts : Parts) (root : Box) (budget : Budget) (found : Found) (day : L
 
   is_one_tree : is_tree found.tree ≡ true
   is_one_tree =
-      lawful_tree parts (IsNodeOf parts budget found.plans found.counts) searched.tight found.tree
+      lawful_tree parts (IsNodeOf parts found.pool budget found.plans found.counts) searched.tight found.tree
       found.bounds searched.tree
 
   last_in : (plan : List (List Stop)) → last_plan found ≡ Some plan → IsPlanIn parts root plan
@@ -92,8 +93,8 @@ module _ (parts : Parts) (root : Box) (budget : Budget) (found : Found) (day : L
 
   own_nodes : AreFitNodes parts found.tree
   own_nodes =
-      nodes_fit parts valid root budget found.plans found.counts searched.plans found.bounds
-      found.tree 0 (searched.tight ∷ []) [] searched.tree.nodes_are
+      nodes_fit parts valid found.pool searched.pool.few root budget found.plans found.counts
+      searched.plans found.bounds found.tree 0 (searched.tight ∷ []) [] searched.tree.nodes_are
 
   pub own_writable : IsWritable parts own
   own_writable =
@@ -101,6 +102,7 @@ module _ (parts : Parts) (root : Box) (budget : Budget) (found : Found) (day : L
       let nodes = searched.nodes in
       record {
         digest = is_digest day;
+        pool = (short_cuts parts valid found.pool searched.pool.cuts.cuts).writable;
         nodes = own_nodes.writable;
         tree = is_one_tree;
         plan = by (last_plan found) refl;
@@ -117,11 +119,15 @@ module _ (parts : Parts) (root : Box) (budget : Budget) (found : Found) (day : L
   pub own_short : length (cert_text parts own) ≤ most_bytes_of parts budget.nodes
   own_short =
       let head = head_size (sha256 day) (length-sha256 day) in
+      let cuts = (short_cuts parts valid found.pool searched.pool.cuts.cuts).short in
+      let pool_few = searched.pool.few in
       let nodes = own_nodes.short in
       let plan = plan_size parts valid own.plan own_writable.plan in
       let bound = bound_size found.bound (near_within found.bound searched.near) in
       let count = count_size (length found.tree) own_writable.count.to in
-      let first = length-append (head_text own.digest) (tree_text own.tree
+      let first = length-append (head_text own.digest) (pool_text own.pool ++ (tree_text own.tree
+      ++ (plan_text parts own.plan ++ (bound_text own.bound ++ count_text (length own.tree))))) in
+      let pool = length-append (pool_text own.pool) (tree_text own.tree
       ++ (plan_text parts own.plan ++ (bound_text own.bound ++ count_text (length own.tree)))) in
       let second = length-append (tree_text own.tree) (plan_text parts own.plan
       ++ (bound_text own.bound ++ count_text (length own.tree))) in
@@ -134,12 +140,30 @@ module _ (parts : Parts) (root : Box) (budget : Budget) (found : Found) (day : L
       let all : length found.tree * (48 * (length (rows_of parts) + 10001))
       ≤ budget.nodes * (48 * (length (rows_of parts) + 10001)) =
       mul-le-mul_right (48 * (length (rows_of parts) + 10001)) searched.nodes in
-      omega (arith, head, nodes, plan, bound, count, first, second, third, fourth, each, all)
+      omega (
+        arith,
+        head,
+        cuts,
+        pool_few,
+        nodes,
+        plan,
+        bound,
+        count,
+        first,
+        pool,
+        second,
+        third,
+        fourth,
+        each,
+        all,
+      )
 
   own_lawful : IsLawfulCertificate parts root own
   own_lawful = record {
     tight = searched.tight;
     tight_is = searched.tight_is;
+    cuts = searched.pool.cuts.cuts;
+    order = searched.pool.order;
     tree = record_tree parts root budget found searched;
     plan = by (last_plan found) refl;
   }

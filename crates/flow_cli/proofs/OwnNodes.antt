@@ -21,6 +21,9 @@ use Rattle.bytime_model.specs.declared.multiplier.Multiplier.{Multiplier}
 use Rattle.bytime_model.specs.AllRows.{rows_of}
 use Rattle.bytime_model.specs.Rows.{is_row, node_count}
 use Rattle.bytime_model.proofs.AllRowsFacts.{nodes_few}
+use Rattle.cut_rows.specs.declared.names.CutName.{CutName}
+use Rattle.cut_rows.specs.Pools.{cut_names}
+use Rattle.cut_rows.proofs.PoolRows.{names_long}
 use Rattle.branch_tree.specs.declared.leaf.Leaf.{Leaf as LeafKind}
 use Rattle.branch_tree.specs.declared.leaf.Leaf.TheVariants as leaf
 use Rattle.branch_tree.specs.declared.tree.TreeNode.{TreeNode}
@@ -38,12 +41,12 @@ use Rattle.certificate.specs.Writable.{AreNodesWritable, IsLeafWritable}
 use Rattle.tree_search.specs.declared.found.Budget.{Budget}
 use Rattle.tree_search.specs.Nodes.{IsLeafNode, IsNodeOf, cost_of, cutoff_after}
 use Rattle.flow_cli.proofs.OwnPlan.{cost_to}
-use Rattle.flow_cli.proofs.OwnRows.{AreFitRows, AreRows, fit_rows}
+use Rattle.flow_cli.proofs.OwnRows.{AreFitRows, AreListed, fit_rows, listed}
 use Rattle.flow_cli.proofs.OwnSizes.{digits_to, field_to, line_size, whole_to}
 
--- no node of a tree has more bytes
+-- no node of a tree has more bytes, whatever cuts its leaves name
 abbrev pub node_bytes : Parts → ℕ
-node_bytes parts = 48 * (length (rows_of parts) + 1)
+node_bytes parts = 48 * (length (rows_of parts) + 10001)
 
 record IsFitLeaf (parts : Parts) (kind : LeafKind) : Type 0 where
   writable : IsLeafWritable kind
@@ -58,11 +61,14 @@ pub record AreFitNodes (parts : Parts) (nodes : List TreeNode) : Type 0 where
   pub short : length (tree_text nodes) ≤ length nodes * node_bytes parts
 
 -- a leaf with its rows
-leaf_size : (parts : Parts) {valid : IsScenario parts} (word : List ℕ) (weight : ℕ)
-    (rows : List Multiplier) → length word ≤ 4 → AreFitRows parts valid weight rows
+leaf_size : (parts : Parts) {valid : IsScenario parts} (pool : List CutName)
+    (few : length pool ≤ 10000) (word : List ℕ) (weight : ℕ) (rows : List Multiplier)
+    → length word ≤ 4 → AreFitRows parts valid pool few weight rows
     → length (line_of word (leaf_fields weight (length rows)) ++ rows_text rows)
     ≤ node_bytes parts
-leaf_size parts word weight rows few fit =
+leaf_size parts pool few word weight rows short fit =
+    let both = length-append (rows_of parts) (cut_names pool) in
+    let cuts = names_long pool in
     let sizes = fit.writable.sizes in
     let weight_to = sizes.weight_to in
     let rows_to = sizes.rows_to in
@@ -73,9 +79,9 @@ leaf_size parts word weight rows few fit =
     let first = field_to 19 11 (decimal weight) (decimal (length rows) ∷ []) weight_size second in
     let line = line_size word (leaf_fields weight (length rows)) in
     let all = length-append (line_of word (leaf_fields weight (length rows))) (rows_text rows) in
-    let listed = fit.few in
+    let listed = fit.no_more in
     let lines = fit.short in
-    omega (arith, few, first, line, all, listed, lines)
+    omega (arith, short, first, line, all, listed, lines, both, cuts, few)
 
 both_short : (first rest : List ℕ) (nodes most : ℕ) → length first ≤ most
     → length rest ≤ nodes * most → length (first ++ rest) ≤ suc nodes * most
@@ -127,8 +133,9 @@ module _ (parts : Parts) (valid : IsScenario parts) where
                 time_to = omega (arith, inner.1, last, to, periods);
               }
 
-  module _ (root : Box) (budget : Budget) (plans : List (List (List Stop))) (counts : List ℕ)
-      (in_root : All (IsPlanIn parts root) plans) (bounds : List Bound) where
+  module _ (pool : List CutName) (few : length pool ≤ 10000) (root : Box) (budget : Budget)
+      (plans : List (List (List Stop))) (counts : List ℕ) (in_root : All (IsPlanIn parts root) plans)
+      (bounds : List Bound) where
     cutoff_to : (count : ℕ) → IsWithinEither most_cost (cutoff_after parts plans count)
     cutoff_to zero = tt
     cutoff_to (suc k) = by (slice_get plans k) refl
@@ -141,38 +148,39 @@ module _ (parts : Parts) (valid : IsScenario parts) where
             (All-item (IsPlanIn parts root) plans k plan in_root is).feasible.trips
 
     leaf_fit : (cutoff : Option ℤ) (bound : Bound) (box : Box) (kind : LeafKind)
-        → IsLeafNode parts budget cutoff bound box kind → IsFitLeaf parts kind
+        → IsLeafNode parts pool budget cutoff bound box kind → IsFitLeaf parts kind
     leaf_fit cutoff bound box leaf.Empty is = record { writable = tt; short = omega arith }
     leaf_fit cutoff bound box leaf.Unit is = record { writable = tt; short = omega arith }
     leaf_fit cutoff bound box (leaf.Dual weight rows) is =
-        let fit = fit_rows parts valid weight rows is.range
-        (run_positive parts box budget.limits cutoff weight rows is.kind.is)
-        (run_ascends parts box budget.limits cutoff weight rows is.kind.is)
+        let fit = fit_rows parts valid pool few weight rows is.range
+        (run_positive parts pool box budget.limits cutoff weight rows is.kind.is)
+        (run_ascends parts pool box budget.limits cutoff weight rows is.kind.is)
         (known is.bound_is) in
         record {
           writable = fit.writable;
-          short = leaf_size parts (codes "dual") weight rows (omega arith) fit;
+          short = leaf_size parts pool few (codes "dual") weight rows (omega arith) fit;
         }
       where
-        known : IsDualAnswer parts box weight rows (Ok bound) → AreRows parts valid rows
-        known (inl told) = told.known
-        known (inr none) = absurd none
-    leaf_fit cutoff bound box (leaf.Lag weight rows) is =
-        let fit = fit_rows parts valid weight rows is.range is.kind.positive is.kind.ascending
-        (known is.bound_is) in
-        record {
-          writable = fit.writable;
-          short = leaf_size parts (codes "lag") weight rows (omega arith) fit;
-        }
-      where
-        known : IsLagAnswer parts box weight rows (Ok bound) → AreRows parts valid rows
+        known : IsDualAnswer parts pool box weight rows (Ok bound) → AreListed parts valid pool few rows
         known (inl told) k multiplier at =
-            (and_parts (is_some (key_of multiplier.row)) (is_row parts multiplier.row)
+            listed parts valid pool few multiplier.row (told.known k multiplier at)
+        known (inr none) k multiplier at = absurd none
+    leaf_fit cutoff bound box (leaf.Lag weight rows) is =
+        let fit = fit_rows parts valid pool few weight rows is.range is.kind.positive is.kind.ascending
+        (known is.bound_is) in
+        record {
+          writable = fit.writable;
+          short = leaf_size parts pool few (codes "lag") weight rows (omega arith) fit;
+        }
+      where
+        known : IsLagAnswer parts box weight rows (Ok bound) → AreListed parts valid pool few rows
+        known (inl told) k multiplier at =
+            inl (and_parts (is_some (key_of multiplier.row)) (is_row parts multiplier.row)
             (told.priceable k multiplier at)).1
         known (inr none) k multiplier at = absurd none
 
     abbrev IsNode : ℕ → Box → TreeNode → Type 0
-    IsNode = IsLawfulAt parts (IsNodeOf parts budget plans counts) bounds
+    IsNode = IsLawfulAt parts (IsNodeOf parts pool budget plans counts) bounds
 
     split_fit : (f n t : ℕ) (named : Option ℤ) → f < 2000 → IsOpenAt parts f n t
         → IsWithinEither most_cost named → IsFitSplit parts f n t named

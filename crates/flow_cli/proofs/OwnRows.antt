@@ -1,12 +1,12 @@
 -- The rows of a leaf are within the limits of lines: their numbers, how many there are, and how
 -- many bytes their lines have.
-use Rattle.std.proofs.Common.{◌≡◌, ℕ, suc, ◌^◌, ◌<◌, ◌≤◌, ◌&&◌, nat_lt, true, false, List, [], ◌∷◌, length, get_or, All, AllPairs, ◌++◌, ◌*◌, map, Option, None, Some, slice_get, inl, inr, refl, sym, ◌∙◌, subst, arith, length-append}
+use Rattle.std.proofs.Common.{◌≡◌, ℕ, suc, ◌^◌, ◌<◌, ◌≤◌, ◌&&◌, ◌⊎◌, nat_lt, true, false, List, [], ◌∷◌, length, get_or, All, AllPairs, ◌++◌, ◌*◌, map, Option, None, Some, slice_get, inl, inr, refl, sym, ◌∙◌, subst, arith, length-append}
 use Rattle.std.specs.Prelude.{codes}
 use Rattle.std.specs.Fmt.{decimal}
 use Rattle.std.specs.List.{Any}
 use Rattle.std.proofs.lemmas.Bool.{and_parts, ltb-true}
 use Rattle.std.proofs.lemmas.List.Elements.{All-tail}
-use Rattle.std.proofs.lemmas.Option.{slice_get-get_or}
+use Rattle.std.proofs.lemmas.Option.{slice_get-get_or, slice_get_within}
 use Rattle.flow_types.specs.declared.parts.Parts.{Parts}
 use Rattle.flow_types.specs.declared.place.CapKind.{CapKind}
 use Rattle.flow_types.specs.declared.place.CapKind.TheVariants as cap
@@ -24,8 +24,12 @@ use Rattle.bytime_model.specs.Rows.{is_capacity, is_node, is_row, node_count}
 use Rattle.bytime_model.specs.Values.{has_inside}
 use Rattle.bytime_model.proofs.AllRowsFacts.{flight_within, goes_within, inside_within, node_within, nodes_few}
 use Rattle.bytime_model.proofs.KindLaws.{rows_ascend, rows_each, rows_few}
-use Rattle.bytime_model.proofs.NameLists.{Each}
+use Rattle.bytime_model.proofs.NameLists.{Each, any_first, any_map, any_second}
 use Rattle.bytime_model.proofs.OrderFacts.{before_on, not_before_itself}
+use Rattle.cut_rows.specs.declared.names.CutName.{CutName}
+use Rattle.cut_rows.specs.Pools.{cut_names, is_cut_at, is_row_with, rows_with}
+use Rattle.cut_rows.proofs.PoolRows.{names_long}
+use Rattle.relaxed_bound.proofs.RowsFacts.{rows_with_ascend}
 use Rattle.certificate.specs.Limits.{most_weight}
 use Rattle.certificate.specs.Lines.{line_of, row_fields}
 use Rattle.certificate.specs.Ranges.{IsNodeOf, IsNodeTime, IsPlaceTime, IsRowInRange}
@@ -79,27 +83,33 @@ no_longer name (x ∷ xs) (y ∷ ys) pairs ascending each =
           | inr there ↦ there
         ]
 
+-- the row of a cut of a pool
+pub record IsCutRow (pool : List CutName) (name : RowName) : Type 0 where
+  position : ℕ
+  name_is : name ≡ Cut position
+  within : position < length pool
+
 -- the numbers of a row are within the limits of its line, and have at most four digits
 abbrev IsSmallRow : RowName → Type 0
 IsSmallRow name = IsRowInRange name × Each (λ n. n < 10000) (row_numbers name)
 
 module _ (parts : Parts) (valid : IsScenario parts) where
-  flight_to : (f n : ℕ) → n < node_count (slice_get parts.flights f) → f < 2000
+  pub flight_to : (f n : ℕ) → n < node_count (slice_get parts.flights f) → f < 2000
   flight_to f n within =
       let flight = flight_within parts.flights f n within in
       let flights = valid.flights.few in
       omega (arith, flight, flights)
 
-  node_to : (f n : ℕ) → n < node_count (slice_get parts.flights f) → n < 32
+  pub node_to : (f n : ℕ) → n < node_count (slice_get parts.flights f) → n < 32
   node_to f n within = let nodes = nodes_few parts f valid in omega (arith, within, nodes)
 
-  period_to : (t : ℕ) → nat_lt t parts.day.periods ≡ true → t < 512
+  pub period_to : (t : ℕ) → nat_lt t parts.day.periods ≡ true → t < 512
   period_to t is =
       let within = ltb-true t parts.day.periods is in
       let most = valid.day.periods_to in
       omega (arith, within, most)
 
-  two_numbers : (f n : ℕ) → n < node_count (slice_get parts.flights f)
+  pub two_numbers : (f n : ℕ) → n < node_count (slice_get parts.flights f)
       → IsNodeOf f n × Each (λ k. k < 10000) (f ∷ n ∷ [])
   two_numbers f n within =
       let flight = flight_to f n within in
@@ -108,7 +118,7 @@ module _ (parts : Parts) (valid : IsScenario parts) where
         (omega (arith, flight), (omega (arith, node), tt)),
       )
 
-  three_numbers : (f n t : ℕ) → n < node_count (slice_get parts.flights f)
+  pub three_numbers : (f n t : ℕ) → n < node_count (slice_get parts.flights f)
       → nat_lt t parts.day.periods ≡ true
       → IsNodeTime f n t × Each (λ k. k < 10000) (f ∷ n ∷ t ∷ [])
   three_numbers f n t within is =
@@ -168,10 +178,6 @@ module _ (parts : Parts) (valid : IsScenario parts) where
       place_numbers c t (omega (arith, connection, connections)) both.1
   small_row (Cut i) is = absurd (let e : ⊥ = cc is in e)
 
-  abbrev pub AreRows : List Multiplier → Type 0
-  AreRows rows = (k : ℕ) (multiplier : Multiplier) → slice_get rows k ≡ Some multiplier
-      → is_row parts multiplier.row ≡ true
-
   -- a line of at most 48 bytes
   row_size : (multiplier : Multiplier) → IsSmallRow multiplier.row
       → multiplier.value ≤ most_weight
@@ -213,72 +219,121 @@ module _ (parts : Parts) (valid : IsScenario parts) where
       word_size (Connect c t) = omega arith
       word_size (Cut i) = omega arith
 
-  -- rows with their multipliers are within the limits of lines, in lines of at most 48 bytes
-  record AreShortRows (rows : List Multiplier) : Type 0 where
-    each : AreRowsInRange rows
-    short : length (rows_text rows) ≤ 48 * length rows
+  module _ (pool : List CutName) (few : length pool ≤ 10000) where
+    -- a row of the day, or of a cut of the pool
+    abbrev pub IsListed : RowName → Type 0
+    IsListed name = (is_row parts name ≡ true) ⊎ IsCutRow pool name
 
-  short_rows : (rows : List Multiplier) → AreRows rows
-      → All (λ multiplier. multiplier.value < 2 ^ 62) rows → ArePositive rows
-      → AreShortRows rows
-  short_rows [] are values positive = record { each = tt; short = omega arith }
-  short_rows (multiplier ∷ rows) are values positive =
-      let value = values 0 multiplier (omega arith) in
-      let some = positive 0 multiplier (omega arith) in
-      let row = small_row multiplier.row (are 0 multiplier refl) in
-      let more = short_rows rows (λ k. are (suc k))
-      (All-tail (λ (m : Multiplier). m.value < 2 ^ 62) multiplier rows values)
-      (All-tail (λ (m : Multiplier). 0 < m.value) multiplier rows positive) in
-      let size = row_size multiplier row (omega (arith, value)) in
-      let both = length-append (line_of (codes "y") (row_fields multiplier)) (rows_text rows) in
-      let behind = more.short in
-      record {
-        each = (
-          record {
-            name = row.0;
-            from = omega (arith, some);
-            to = omega (arith, value);
-          },
-          more.each,
-        );
-        short = omega (arith, size, both, behind);
-      }
+    abbrev pub AreListed : List Multiplier → Type 0
+    AreListed rows = (k : ℕ) (multiplier : Multiplier) → slice_get rows k ≡ Some multiplier
+        → IsListed multiplier.row
 
-  above_last : (last : Option RowName) (rows : List Multiplier) → AreAscending rows
-      → All (λ (m : Multiplier). is_above last m.row ≡ true) rows → AreAbove last rows
-  above_last last [] ascending above = tt
-  above_last last (multiplier ∷ rows) ascending above = (
-    above 0 multiplier (omega arith),
-    above_last (Some multiplier.row) rows
-        (λ i j d less within.
-        ascending (suc i) (suc j) d (omega (arith, less)) (omega (arith, within)))
-        (λ k d within. ascending 0 (suc k) d (omega arith) (omega (arith, within))),
-  )
+    small_listed : (name : RowName) → IsListed name → IsSmallRow name
+    small_listed name (inl day) = small_row name day
+    small_listed name (inr cut) =
+        let within = cut.within in
+        subst IsSmallRow (sym cut.name_is) (
+          omega (arith, within, few),
+          (omega (arith, within, few), tt),
+        )
 
-  -- the rows of a leaf are within the limits of lines, and no more than there are
-  pub record AreFitRows (weight : ℕ) (rows : List Multiplier) : Type 0 where
-    pub writable : AreLeafRows weight rows
-    pub few : length rows ≤ length (rows_of parts)
-    pub short : length (rows_text rows) ≤ 48 * length rows
+    any_listed : (name : RowName) → IsListed name
+        → Any (λ other. other ≡ name) (rows_with parts pool)
+    any_listed name (inl day) =
+        any_first (λ other. other ≡ name) (rows_of parts) (cut_names pool)
+        ((rows_each parts name).1 day)
+    any_listed name (inr cut) =
+        let within = cut.within in
+        any_second (λ other. other ≡ name) (rows_of parts) (cut_names pool)
+        (any_map (λ other. other ≡ name) Cut 0 (length pool) cut.position (omega arith)
+        (omega (arith, within)) (sym cut.name_is))
 
-  pub fit_rows : (weight : ℕ) (rows : List Multiplier) → HasRange weight rows
-      → ArePositive rows → AreAscending rows → AreRows rows → AreFitRows weight rows
-  fit_rows weight rows range positive ascending are =
-      let few = no_longer (λ (m : Multiplier). m.row) rows (rows_of parts) ascending
-      (rows_ascend parts) (λ k d within. (rows_each parts (get_or rows k d).row).1
-      (are k (get_or rows k d) (slice_get-get_or rows k d within))) in
-      let most = rows_few parts valid in
-      let weight_to = range.weight_to in
-      let each = short_rows rows are range.values positive in
-      record {
-        writable = record {
-          sizes = record {
-            weight_to = omega (arith, weight_to);
-            rows_to = omega (arith, few, most);
+    pub listed : (name : RowName) → is_row_with parts pool name ≡ true → IsListed name
+    listed (Mono f n t) is = inl is
+    listed (Top f n) is = inl is
+    listed (Dep p t) is = inl is
+    listed (Arr p t) is = inl is
+    listed (Sector p t) is = inl is
+    listed (Occupy f n t) is = inl is
+    listed (Enter f n t) is = inl is
+    listed (Leave f n) is = inl is
+    listed (Connect c t) is = inl is
+    listed (Cut i) is = inr (by (slice_get pool i) refl is)
+      where
+        by : (found : Option CutName) → slice_get pool i ≡ found
+            → is_cut_at parts found ≡ true → IsCutRow pool (Cut i)
+        by None at there = absurd (let e : ⊥ = cc there in e)
+        by (Some cut) at there =
+            record { position = i; name_is = refl; within = slice_get_within pool i cut at }
+
+    -- rows with their multipliers are within the limits of lines, in lines of at most 48 bytes
+    record AreShortRows (rows : List Multiplier) : Type 0 where
+      each : AreRowsInRange rows
+      short : length (rows_text rows) ≤ 48 * length rows
+
+    short_rows : (rows : List Multiplier) → AreListed rows
+        → All (λ multiplier. multiplier.value < 2 ^ 62) rows → ArePositive rows
+        → AreShortRows rows
+    short_rows [] are values positive = record { each = tt; short = omega arith }
+    short_rows (multiplier ∷ rows) are values positive =
+        let value = values 0 multiplier (omega arith) in
+        let some = positive 0 multiplier (omega arith) in
+        let row = small_listed multiplier.row (are 0 multiplier refl) in
+        let more = short_rows rows (λ k. are (suc k))
+        (All-tail (λ (m : Multiplier). m.value < 2 ^ 62) multiplier rows values)
+        (All-tail (λ (m : Multiplier). 0 < m.value) multiplier rows positive) in
+        let size = row_size multiplier row (omega (arith, value)) in
+        let both = length-append (line_of (codes "y") (row_fields multiplier)) (rows_text rows) in
+        let behind = more.short in
+        record {
+          each = (
+            record {
+              name = row.0;
+              from = omega (arith, some);
+              to = omega (arith, value);
+            },
+            more.each,
+          );
+          short = omega (arith, size, both, behind);
+        }
+
+    above_last : (last : Option RowName) (rows : List Multiplier) → AreAscending rows
+        → All (λ (m : Multiplier). is_above last m.row ≡ true) rows → AreAbove last rows
+    above_last last [] ascending above = tt
+    above_last last (multiplier ∷ rows) ascending above = (
+      above 0 multiplier (omega arith),
+      above_last (Some multiplier.row) rows
+          (λ i j d less within.
+          ascending (suc i) (suc j) d (omega (arith, less)) (omega (arith, within)))
+          (λ k d within. ascending 0 (suc k) d (omega arith) (omega (arith, within))),
+    )
+
+    -- the rows of a leaf are within the limits of lines, and no more than there are with the pool
+    pub record AreFitRows (weight : ℕ) (rows : List Multiplier) : Type 0 where
+      pub writable : AreLeafRows weight rows
+      pub no_more : length rows ≤ length (rows_with parts pool)
+      pub short : length (rows_text rows) ≤ 48 * length rows
+
+    pub fit_rows : (weight : ℕ) (rows : List Multiplier) → HasRange weight rows
+        → ArePositive rows → AreAscending rows → AreListed rows → AreFitRows weight rows
+    fit_rows weight rows range positive ascending are =
+        let within = no_longer (λ (m : Multiplier). m.row) rows (rows_with parts pool) ascending
+        (rows_with_ascend parts pool) (λ k d within. any_listed (get_or rows k d).row
+        (are k (get_or rows k d) (slice_get-get_or rows k d within))) in
+        let most = rows_few parts valid in
+        let both = length-append (rows_of parts) (cut_names pool) in
+        let cuts = names_long pool in
+        let weight_to = range.weight_to in
+        let each = short_rows rows are range.values positive in
+        record {
+          writable = record {
+            sizes = record {
+              weight_to = omega (arith, weight_to);
+              rows_to = omega (arith, within, most, both, cuts, few);
+            };
+            each = each.each;
+            ascending = above_last None rows ascending (λ k d within. refl);
           };
-          each = each.each;
-          ascending = above_last None rows ascending (λ k d within. refl);
-        };
-        few = few;
-        short = each.short;
-      }
+          no_more = within;
+          short = each.short;
+        }

@@ -9,6 +9,7 @@ use Rattle.tree_search.specs.Records.{last_plan}
 abbrev pub certified : List ℕ → Found → Certified
 certified digest found = record {
   digest = digest;
+  pool = found.pool;
   tree = found.tree;
   plan = last_plan found;
   bound = found.bound;
