@@ -109,7 +109,7 @@ module _ (parts : Parts) (pool : List CutName) (budget : Budget) (cutoff : Optio
     (branch : Branch) (made : IsBoxOf parts box) (live : IsLive box)
     (branch_is : IsBranchOf parts box branch) (run priced : Bound)
     (rounds : IsMostOfRounds parts box budget.rounds priced) where
-  open_is : (bound : Bound) → IsAtMost priced bound → IsOpenLeaf parts pool budget bound box
+  open_is : (bound : Bound) → IsAtMost priced bound → IsOpenLeaf parts budget bound box
   open_is bound le = record {
     live = live;
     choice = branch_choice parts box branch branch_is;

@@ -41,25 +41,23 @@ pub record HasChoice (box : Box) : Type 0 where
 
 -- a box that is neither empty nor a unit one; the bound of its leaf is no less than what any round
 -- of prices tells
-pub record IsOpenLeaf (parts : Parts) (pool : List CutName) (budget : Budget) (bound : Bound)
-    (box : Box) : Type 0 where
+pub record IsOpenLeaf (parts : Parts) (budget : Budget) (bound : Bound) (box : Box)
+    : Type 0 where
   pub live : IsLive box
   pub choice : HasChoice box
   pub rounds : IsMostOfRounds parts box budget.rounds bound
 
 -- its leaf is that of its relaxation's run
 pub record IsRunLeaf (parts : Parts) (pool : List CutName) (budget : Budget) (cutoff : Option ℤ)
-    (bound : Bound)
-    (box : Box) (leaf : LeafKind) : Type 0 where
-  pub box_is : IsOpenLeaf parts pool budget bound box
+    (bound : Bound) (box : Box) (leaf : LeafKind) : Type 0 where
+  pub box_is : IsOpenLeaf parts budget bound box
   pub is : leaf ≡ relaxed_leaf parts pool box budget.limits cutoff
 
 -- or a leaf of prices, none of which is 0, in the order of their rows; its bound is above that of
 -- the run's leaf
 pub record IsPriceLeaf (parts : Parts) (pool : List CutName) (budget : Budget) (cutoff : Option ℤ)
-    (bound : Bound)
-    (box : Box) (rows : List Multiplier) : Type 0 where
-  pub box_is : IsOpenLeaf parts pool budget bound box
+    (bound : Bound) (box : Box) (rows : List Multiplier) : Type 0 where
+  pub box_is : IsOpenLeaf parts budget bound box
   pub positive : ArePositive rows
   pub ascending : AreAscending rows
   pub run : Bound
@@ -78,8 +76,7 @@ IsLeafKind parts pool budget cutoff bound box (Lag weight rows) =
     IsPriceLeaf parts pool budget cutoff bound box rows
 
 pub record IsLeafNode (parts : Parts) (pool : List CutName) (budget : Budget) (cutoff : Option ℤ)
-    (bound : Bound)
-    (box : Box) (leaf : LeafKind) : Type 0 where
+    (bound : Bound) (box : Box) (leaf : LeafKind) : Type 0 where
   pub inside : IsBoxOf parts box
   pub range : IsInRange leaf
   pub bound_is : IsLeafBound parts pool box leaf (Ok bound)
@@ -88,8 +85,7 @@ pub record IsLeafNode (parts : Parts) (pool : List CutName) (budget : Budget) (c
 -- A split names its cutoff, and is licensed. Each round of prices tells a bound, and none one that
 -- reaches the cutoff.
 pub record IsSplitNode (parts : Parts) (pool : List CutName) (budget : Budget) (cutoff : Option ℤ)
-    (box : Box)
-    (named : Option ℤ) : Type 0 where
+    (box : Box) (named : Option ℤ) : Type 0 where
   pub inside : IsBoxOf parts box
   pub choice : HasChoice box
   pub cutoff_is : named ≡ cutoff

@@ -45,16 +45,14 @@ may_split more cutoff run priced =
 
 -- a leaf; where there is room for two nodes more, its bound reaches the cutoff
 pub record IsLeafSeen (parts : Parts) (pool : List CutName) (budget : Budget) (cutoff : Option ℤ)
-    (more : Bool)
-    (box : Box) (leaf : LeafKind) (bound : Bound) : Type 0 where
+    (more : Bool) (box : Box) (leaf : LeafKind) (bound : Bound) : Type 0 where
   pub node : IsLeafNode parts pool budget cutoff bound box leaf
   pub reached : more ≡ true → is_reached cutoff bound ≡ true
   pub near : IsNearBound bound
 
 -- a split, for which there is room
 pub record IsSplitSeen (parts : Parts) (pool : List CutName) (budget : Budget) (cutoff : Option ℤ)
-    (more : Bool)
-    (box : Box) (branch : Branch) : Type 0 where
+    (more : Bool) (box : Box) (branch : Branch) : Type 0 where
   pub live : IsLive box
   pub node : IsSplitNode parts pool budget cutoff box cutoff
   pub branch_is : IsBranchOf parts box branch
