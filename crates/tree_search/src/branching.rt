@@ -1,8 +1,9 @@
 //! Where a box is split.
 ghost use Rattle.std.specs.Prelude.{◌≡◌, ◌≤◌, ◌<◌, ℕ, All, IfOk, IfSome, IsTrue, MatchOption};
+ghost use Rattle.flow_types.specs.declared.parts.Parts.{Parts};
 ghost use Rattle.flow_types.specs.Limits.{most_nodes};
 ghost use Rattle.flow_types.specs.Scenario.{parts_of};
-ghost use Rattle.time_windows.specs.Boxes.{IsProper, options_of};
+ghost use Rattle.time_windows.specs.Boxes.{Box, IsProper, options_of};
 ghost use Rattle.time_windows.specs.Held.{IsMadeFor, box_of};
 ghost use Rattle.time_windows.specs.Splits.{IsBranching};
 ghost use Rattle.tree_search.specs.Seen.{IsBranchOf, IsChoiceIn};
@@ -52,23 +53,37 @@ pub fn nearest_half(s: &Scenario, boxes: &Boxes, point: &Point, known: Branch) -
     best
 }
 
-/// The branches of the box at which the last climb left most open, so many at the most: each is the
-/// mean period in which a flight entered a node in its steps, where these differ; first that where
-/// they differ the most.
+/// The branch that is near, if there is one, and the branches of the box at which the last climb
+/// left most open, so many at the most: each is the mean period in which a flight entered a node in
+/// its steps, where these differ; first that where they differ the most.
 pub fn most_spread(
     alloc: Global,
     s: &Scenario,
     boxes: &Boxes,
     ascent: &Ascent,
     count: usize,
+    near: Option<Branch>,
 ) -> Result<Vec<Branch>, OutOfMemory>
+    requires { IfSome near (IsBranchOf (parts_of s.now) (box_of boxes.now)) }
     ensures { IfOk result
         (λ found. All (IsBranchOf (parts_of s.now) (box_of boxes.now)) found.items) }
 {
-    let mut found = Vec::new(alloc);
+    let mut found = list_of(alloc, near)?;
     let mut below = Rank::first();
     for _ in 0..count {
         below = add_next(s, boxes, ascent, below, &mut found)?;
+    }
+    Ok(found)
+}
+
+// A list of the branch, if there is one.
+fn list_of(alloc: Global, branch: Option<Branch>) -> Result<Vec<Branch>, OutOfMemory>
+    ensures { (parts : Parts) (box : Box) → IfSome branch (IsBranchOf parts box)
+        → IfOk result (λ found. All (IsBranchOf parts box) found.items) }
+{
+    let mut found = Vec::new(alloc);
+    if let Some(branch) = branch {
+        found.push(branch)?;
     }
     Ok(found)
 }

@@ -1,6 +1,6 @@
 //! At which branch prices tell the most of both sides: strong branching (Applegate, Bixby, Chvátal
 //! and Cook, "Finding cuts in the TSP", 1995).
-ghost use Rattle.std.specs.Prelude.{IfOk};
+ghost use Rattle.std.specs.Prelude.{IfOk, IfSome};
 ghost use Rattle.flow_types.specs.declared.parts.Parts.{Parts};
 ghost use Rattle.flow_types.specs.Scenario.{parts_of};
 ghost use Rattle.time_windows.specs.Held.{IsMadeFor, box_of};
@@ -43,9 +43,10 @@ struct Tried {
     gain: i128,
 }
 
-/// The branch of those at which the last climb left most open whose sides gain the most by a few
-/// steps of a climb from the kept prices, the lesser gain before the greater; the known one where
-/// none is open. The kept prices stay; what else is told of the last climb goes.
+/// The branch whose sides gain the most by a few steps of a climb from the kept prices, the lesser
+/// gain before the greater: of the one that is near, if there is one, and those at which the last
+/// climb left most open. The known one where there is none of these. The kept prices stay; what
+/// else is told of the last climb goes.
 pub fn strongest(
     alloc: Global,
     s: &Scenario,
@@ -53,14 +54,16 @@ pub fn strongest(
     rooms: &mut PriceRooms,
     cutoff: Option<i64>,
     known: Branch,
+    near: Option<Branch>,
 ) -> Result<Branch, OutOfMemory>
     requires made { IsMadeFor (parts_of s.now) boxes.now }
     requires known { IsBranchOf (parts_of s.now) (box_of boxes.now) known }
+    requires near { IfSome near (IsBranchOf (parts_of s.now) (box_of boxes.now)) }
     requires rooms { ArePriceRoomsFor (parts_of s.now) rooms.old }
     ensures branch { IfOk result (IsBranchOf (parts_of s.now) (box_of boxes.now)) }
     ensures rooms { ArePriceRoomsFor (parts_of s.now) rooms.new }
 {
-    let candidates = most_spread(alloc, s, boxes, &rooms.ascent, CANDIDATES)?;
+    let candidates = most_spread(alloc, s, boxes, &rooms.ascent, CANDIDATES, near)?;
     let before = rooms.ascent.value().unwrap_or(0);
     rooms.ascent.put_by(s, &mut rooms.kept)?;
     let mut best = Tried {

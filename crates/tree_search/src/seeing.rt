@@ -247,8 +247,8 @@ fn may_split(more: bool, cutoff: Option<i64>, run: Bound, priced: Bound) -> bool
     more && !run.is_reached(cutoff) && !priced.is_reached(cutoff)
 }
 
-// Where to split the box, which has this branch: by the run's point, where there is one, and else
-// by what prices tell of its sides.
+// Where to split the box, which has this branch: where prices tell the most of both sides, of the
+// branch that is nearest to a half at the run's point, if there is one, and some others.
 fn choose(
     alloc: Global,
     s: &Scenario,
@@ -265,8 +265,11 @@ fn choose(
     ensures rooms { ArePriceRoomsFor (parts_of s.now) rooms.new }
 {
     match point {
-        None => strongest(alloc, s, boxes, rooms, cutoff, known),
-        Some(point) => Ok(nearest_half(s, boxes, point, known)),
+        None => strongest(alloc, s, boxes, rooms, cutoff, known, None),
+        Some(point) => {
+            let near = nearest_half(s, boxes, point, known);
+            strongest(alloc, s, boxes, rooms, cutoff, near, Some(near))
+        }
     }
 }
 
