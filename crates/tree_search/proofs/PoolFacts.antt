@@ -155,10 +155,10 @@ module _ (parts : Parts) (limits : Limits) (cutoff : Option ℤ) (box : Box) (po
 
     -- and of a box with a choice
     pub told_first : (found : Option Point) (branch : Branch)
-        → IsToldPoint parts [] box limits cutoff found
+        → IsToldPoint parts [] box limits cutoff found → IfSome found (IsPointIn parts [] box)
         → pool ≡ cuts_by parts box found → IsLive box → IsBranchOf parts box branch
         → IsFirstPool parts limits cutoff box pool
-    told_first found branch told are live branch_is = record {
+    told_first found branch told point are live branch_is = record {
       cuts = subst (IsPoolOf parts) (sym are) (cuts_pool found);
       order = subst (AllPairs IsBefore) (sym are) (cuts_order found);
       few = subst (λ cuts. length cuts ≤ most_cuts) (sym are) (cuts_few found);
@@ -167,5 +167,10 @@ module _ (parts : Parts) (limits : Limits) (cutoff : Option ℤ) (box : Box) (po
           let choice = branch_choice parts box branch branch_is in
           let several = choice.several in let one = few choice.flight choice.node in
           absurd (omega (arith, several, one));
-      told = λ alive choice. record { found = found; told = told; are = are };
+      told = λ alive choice. record {
+        found = found;
+        told = told;
+        columns = point;
+        are = are;
+      };
     }

@@ -1,5 +1,5 @@
 -- The pool of a search: the cuts that the point of its first box exceeds.
-use Rattle.std.specs.Prelude.{◌≡◌, ℕ, ◌≤◌, false, List, [], AllPairs, length, map, slice_index_or, Option, None, Some, ℤ, pos}
+use Rattle.std.specs.Prelude.{◌≡◌, ℕ, ◌≤◌, false, List, [], AllPairs, length, map, slice_index_or, Option, None, Some, IfSome, ℤ, pos}
 use Rattle.std.specs.List.{range_with_len}
 use Rattle.flow_types.specs.declared.parts.Parts.{Parts}
 use Rattle.time_windows.specs.Boxes.{Box, IsClosedMust, options_of}
@@ -12,7 +12,7 @@ use Rattle.cut_separation.specs.Exceeding.{exceeded_cuts, most_cuts}
 use Rattle.presolve.specs.Points.{turned}
 use Rattle.relaxed_bound.specs.declared.leaf.Point.{Point}
 use Rattle.relaxed_bound.specs.declared.limits.Limits.{Limits}
-use Rattle.relaxed_bound.specs.Point.{IsToldPoint}
+use Rattle.relaxed_bound.specs.Point.{IsPointIn, IsToldPoint}
 use Rattle.tree_search.specs.Nodes.{HasChoice}
 
 -- the numerator of a column's variable
@@ -34,11 +34,12 @@ abbrev pub cuts_by : Parts → Box → Option Point → List CutName
 cuts_by parts box None = []
 cuts_by parts box (Some point) = exceeded_cuts parts box (free_point point)
 
--- those of the point of the run without cuts
+-- those of the point of the run without cuts, by the columns of the box
 pub record AreToldCuts (parts : Parts) (limits : Limits) (cutoff : Option ℤ) (box : Box)
     (pool : List CutName) : Type 0 where
   pub found : Option Point
   pub told : IsToldPoint parts [] box limits cutoff found
+  pub columns : IfSome found (IsPointIn parts [] box)
   pub are : pool ≡ cuts_by parts box found
 
 -- cuts of the scenario, in order and no more than so many: those in a box with a choice, and none
