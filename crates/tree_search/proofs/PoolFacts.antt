@@ -1,6 +1,6 @@
 -- The pool of a search: the point is turned back column by column, and the cuts that it exceeds are
 -- a pool.
-use Rattle.std.proofs.Common.{◌≡◌, ◌∙◌, ℕ, ◌+◌, ◌^◌, ◌<◌, ◌≤◌, Bool, true, false, List, [], ◌∷◌, ◌++◌, length, map, get_or, slice_index_or, All, AllPairs, Option, None, Some, IfSome, ℤ, pos, ◌-ℤ◌, ◌≤ℤ◌, ◌<ℤ◌, if◌then◌else◌, refl, sym, ap, subst, arith}
+use Rattle.std.proofs.Common.{◌≡◌, ◌∙◌, ℕ, ◌+◌, ◌<◌, ◌≤◌, Bool, true, false, List, [], ◌∷◌, ◌++◌, length, map, get_or, slice_index_or, All, AllPairs, Option, None, Some, IfSome, ℤ, pos, refl, sym, ap, subst, arith}
 use Rattle.std.specs.List.{range_with_len}
 use Rattle.std.proofs.lemmas.Int.{ints}
 use Rattle.std.proofs.lemmas.List.FromFn.{map-range_with_len_more}
@@ -10,10 +10,9 @@ use Rattle.exact_sums.proofs.ShortLists.{no_pairs}
 use Rattle.std.proofs.lemmas.List.Elements.{All-nil}
 use Rattle.std.specs.List.{filter}
 use Rattle.flow_types.specs.declared.parts.Parts.{Parts}
-use Rattle.time_windows.specs.Boxes.{Box, IsBoxOf, IsClosedMust, options_of}
+use Rattle.time_windows.specs.Boxes.{Box, IsClosedMust, options_of}
 use Rattle.time_windows.specs.Tight.{IsLive}
 use Rattle.branch_tree.specs.declared.walk.Branch.{Branch}
-use Rattle.bytime_model.specs.declared.variables.Var.{Var}
 use Rattle.cut_rows.specs.declared.names.CutName.{CutName}
 use Rattle.cut_rows.specs.Cuts.{is_cut}
 use Rattle.cut_rows.specs.Order.{IsBefore}
@@ -26,8 +25,7 @@ use Rattle.presolve.specs.Points.{IsNumerator, turned}
 use Rattle.presolve.proofs.FreeFacts.{IsFreed, all_freed}
 use Rattle.relaxed_bound.specs.declared.leaf.Point.{Point}
 use Rattle.relaxed_bound.specs.declared.limits.Limits.{Limits}
-use Rattle.relaxed_bound.specs.Point.{AreFractions, IsPointIn, IsToldPoint}
-use Rattle.tree_search.specs.Nodes.{HasChoice}
+use Rattle.relaxed_bound.specs.Point.{IsPointIn, IsToldPoint}
 use Rattle.tree_search.specs.Pools.{IsFirstPool, cuts_by, free_point, turned_at}
 use Rattle.relaxed_bound.specs.declared.leaf.Relaxed.{Relaxed}
 use Rattle.tree_search.specs.Seen.{IsBranchOf, IsRelaxedIn}

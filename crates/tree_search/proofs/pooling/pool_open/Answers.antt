@@ -1,4 +1,4 @@
-use Rattle.std.proofs.Common.{[], IfSome, sym, subst}
+use Rattle.std.proofs.Common.{IfSome, subst}
 use Rattle.flow_types.specs.Scenario.{parts_of}
 use Rattle.time_windows.specs.Held.{box_of}
 use Rattle.relaxed_bound.specs.Point.{IsPointIn, IsToldPoint}
