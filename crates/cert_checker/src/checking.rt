@@ -148,7 +148,7 @@ fn read_on<F: Files>(
     let mut now = begun;
     loop {
         let line = reader.line();
-        let Some(item) = reader.next(files, given.s)? else {
+        let Some(item) = reader.next(files, given.s, &rooms.leaves.table().routes)? else {
             return match claim_of(now) {
                 Ok(claim) => Ok(claim),
                 Err(fault) => Err(in_line(line, StepError::Fault(fault))),

@@ -20,7 +20,8 @@ fn cut_fault(found: TextCause) -> StepError
     StepError::Fault(in_field(2, CertCause::Text(found)))
 }
 
-/// A cut, which has to come after those before it, and to be one of the scenario.
+/// A cut, which has to come after those before it, and to be one of the scenario. A reader finds
+/// both; a step is said of every item, and asks too.
 pub fn cut_line(
     rooms: &Rooms,
     s: &Scenario,

@@ -298,7 +298,7 @@ length_stops places flight (stop ∷ stops) = omega (arith, length_stops places 
 
 goes_on : (now : Stage) (is : LineKind) → may_stand now is ≡ true → is_ended now ≡ false
 goes_on stage.Head is may = refl
-goes_on stage.Pool is may = refl
+goes_on (stage.Pool last) is may = refl
 goes_on (stage.Tree waiting) is may = refl
 goes_on (stage.Rows left last waiting) is may = refl
 goes_on stage.Plan is may = refl

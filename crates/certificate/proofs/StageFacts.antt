@@ -4,13 +4,16 @@ use Rattle.std.specs.Prelude.{nat_lt, if◌then◌else◌, ℤ}
 use Rattle.std.proofs.lemmas.Bool.{ltb-true}
 use Rattle.text_records.specs.Errors.{◌>>=◌}
 use Rattle.bytime_model.specs.declared.names.RowName.{RowName}
+use Rattle.cut_rows.specs.declared.names.CutName.{CutName}
+use Rattle.cut_rows.specs.Cuts.{is_cut as is_cut_of}
+use Rattle.cut_rows.specs.Order.{follows_last}
 use Rattle.flow_types.specs.declared.parts.Parts.{Parts}
 use Rattle.certificate.specs.Fields.{FieldsLeft, field_from, fields_of}
 use Rattle.certificate.specs.Items.{item_of}
 use Rattle.certificate.specs.Kinds.{kind_of}
 use Rattle.certificate.specs.Limits.{most_line_bytes}
 use Rattle.certificate.specs.Reading.{fields_step, kind_here, line_step, whole_line}
-use Rattle.certificate.specs.Stages.{after_cost, is_above, is_ended, next_at, row_at, rows_left, stage_after, trees_left, trips_left, waiting_at}
+use Rattle.certificate.specs.Stages.{after_cost, cut_at, is_above, is_ended, next_at, row_at, rows_left, stage_after, trees_left, trips_left, waiting_at}
 use Rattle.certificate.specs.declared.fault.LineFault.{LineFault}
 use Rattle.certificate.specs.declared.item.CertItem.{CertItem}
 use Rattle.certificate.specs.declared.item.CertItem.TheVariants as item
@@ -75,6 +78,21 @@ after_a_row parts (stage.Rows left last waiting) after name is = by (is_above la
   by false above = absurd (let e : ⊥ = cc (rw above at is) in e)
 after_a_row parts other after name is = absurd (let e : ⊥ = cc in e)
 
+after_a_cut : (parts : Parts) (now after : Stage) (cut : CutName) → cut_at parts now cut ≡ Ok after
+    → IsNear parts now after
+after_a_cut parts (stage.Pool last) after cut is =
+    by (follows_last last cut) refl (is_cut_of parts cut) refl
+  where
+    by : (b : Bool) → follows_last last cut ≡ b → (c : Bool) → is_cut_of parts cut ≡ c
+        → IsNear parts (stage.Pool last) after
+    by true above true there =
+        let e : stage.Pool (Some cut) ≡ after = cc (rw (above, there) at is) in
+        subst (IsNear parts (stage.Pool last)) e
+        (record { waiting = omega arith; next = omega arith })
+    by true above false there = absurd (let e : ⊥ = cc (rw (above, there) at is) in e)
+    by false above c there = absurd (let e : ⊥ = cc (rw above at is) in e)
+after_a_cut parts other after cut is = absurd (let e : ⊥ = cc in e)
+
 abbrev found : Stage → Result Stage LineFault
 found after = Ok after
 
@@ -86,8 +104,7 @@ pub item_near : (parts : Parts) (now after : Stage) (item : CertItem)
     → stage_after parts now item ≡ Ok after → IsNear parts now after
 item_near parts now after (item.Head digest) is =
     subst (IsNear parts now) (ok_is _ _ is) (record { waiting = omega arith; next = omega arith })
-item_near parts now after (item.Cut cut) is =
-    subst (IsNear parts now) (ok_is _ _ is) (record { waiting = omega arith; next = omega arith })
+item_near parts now after (item.Cut cut) is = after_a_cut parts now after cut is
 item_near parts now after (item.Split flight node time cutoff) is =
     subst (IsNear parts now) (ok_is _ _ is) (record { waiting = omega arith; next = omega arith })
 item_near parts now after item.Empty is =

@@ -69,18 +69,27 @@ forest_on waiting (Leaf leaf) nodes is = rw (one_less waiting) is
 forest_on waiting (Split flight node time cutoff) nodes is =
     rw (one_more (suc waiting)) is
 
+-- the last of these cuts, or the one before them
+abbrev last_of : Option CutName → List CutName → Option CutName
+last_of last [] = last
+last_of last (cut ∷ pool) = last_of (Some cut) pool
+
 module _ (parts : Parts) (valid : IsScenario parts) where
   -- after a cut another one may stand
-  pool_reads : (pool : List CutName) (more : List ℕ) → AreCutsWritable pool
-      → read_from parts stage.Pool (pool_text pool ++ more)
-      ≡ with_items (pool_items pool) (read_from parts stage.Pool more)
-  pool_reads [] more are = refl
-  pool_reads (cut ∷ pool) more are =
-      ap (read_from parts stage.Pool)
+  pool_reads : (pool : List CutName) (last : Option CutName) (more : List ℕ)
+      → AreCutsWritable parts last pool
+      → read_from parts (stage.Pool last) (pool_text pool ++ more)
+      ≡ with_items (pool_items pool) (read_from parts (stage.Pool (last_of last pool)) more)
+  pool_reads [] last more are = refl
+  pool_reads (cut ∷ pool) last more are =
+      let now : Stage = stage.Pool last in
+      let next : stage_after parts now (item.Cut cut) ≡ Ok (stage.Pool (Some cut)) =
+      rw (are.0.1, are.0.2) refl in
+      ap (read_from parts now)
       (append_assoc (line_of (codes "cut") (cut_fields cut)) (pool_text pool) more)
-      ∙ item_reads parts valid stage.Pool stage.Pool (item.Cut cut) (pool_text pool ++ more) are.0
-      refl refl
-      ∙ ap (with_item (item.Cut cut)) (pool_reads pool more are.1)
+      ∙ item_reads parts valid now (stage.Pool (Some cut)) (item.Cut cut)
+      (pool_text pool ++ more) are.0.0 refl next
+      ∙ ap (with_item (item.Cut cut)) (pool_reads pool (Some cut) more are.1)
 
   rows_back : (rows : List Multiplier) (last : Option RowName) (waiting : ℕ) (more : List ℕ)
       → AreRowsInRange rows → AreAbove last rows
@@ -173,19 +182,19 @@ module _ (parts : Parts) (valid : IsScenario parts) where
       (forest_on waiting node nodes is))
       ∙ with_both (node_items node) (tree_items nodes) (read_from parts stage.Plan more)
 
-  pool_stage : IsTreeStage stage.Pool 1
-  pool_stage = record { may = pool_may; waits = refl } where
-    pool_may : (kind : LineKind) → is_node kind ≡ true → may_stand stage.Pool kind ≡ true
+  pool_stage : (last : Option CutName) → IsTreeStage (stage.Pool last) 1
+  pool_stage last = record { may = pool_may; waits = refl } where
+    pool_may : (kind : LineKind) → is_node kind ≡ true → may_stand (stage.Pool last) kind ≡ true
     pool_may kind is = or_right (is_cut kind) (is_node kind) is
 
-  pub tree_reads : (nodes : List TreeNode) (more : List ℕ) → AreNodesWritable nodes
-      → is_forest 1 nodes ≡ true
-      → read_from parts stage.Pool (tree_text nodes ++ more)
+  pub tree_reads : (nodes : List TreeNode) (last : Option CutName) (more : List ℕ)
+      → AreNodesWritable nodes → is_forest 1 nodes ≡ true
+      → read_from parts (stage.Pool last) (tree_text nodes ++ more)
       ≡ with_items (tree_items nodes) (read_from parts stage.Plan more)
-  tree_reads [] more are is = absurd (false≢true is)
-  tree_reads (node ∷ nodes) more are is =
-      ap (read_from parts stage.Pool) (append_assoc (node_text node) (tree_text nodes) more)
-      ∙ node_reads stage.Pool 0 pool_stage node (tree_text nodes ++ more) are.0
+  tree_reads [] last more are is = absurd (false≢true is)
+  tree_reads (node ∷ nodes) last more are is =
+      ap (read_from parts (stage.Pool last)) (append_assoc (node_text node) (tree_text nodes) more)
+      ∙ node_reads (stage.Pool last) 0 (pool_stage last) node (tree_text nodes ++ more) are.0
       ∙ ap (with_items (node_items node))
       (forest_reads nodes (left_after 1 node) more are.1 (forest_on 0 node nodes is))
       ∙ with_both (node_items node) (tree_items nodes) (read_from parts stage.Plan more)
@@ -255,11 +264,11 @@ module _ (parts : Parts) (valid : IsScenario parts) where
       ≡ with_items (cert_items parts cert) (read_from parts stage.Ended more)
   text_reads_on cert more is =
       ap (read_from parts stage.Head) (append_assoc (head_text cert.digest) pooled more)
-      ∙ item_reads parts valid stage.Head stage.Pool (item.Head cert.digest) (pooled ++ more)
+      ∙ item_reads parts valid stage.Head (stage.Pool None) (item.Head cert.digest) (pooled ++ more)
       is.digest refl refl
       ∙ ap (with_item (item.Head cert.digest))
-      (ap (read_from parts stage.Pool) (append_assoc (pool_text cert.pool) grown more)
-      ∙ pool_reads cert.pool (grown ++ more) is.pool
+      (ap (read_from parts (stage.Pool None)) (append_assoc (pool_text cert.pool) grown more)
+      ∙ pool_reads cert.pool None (grown ++ more) is.pool
       ∙ ap (with_items (pool_items cert.pool)) tree_on
       ∙ together)
     where
@@ -293,12 +302,15 @@ module _ (parts : Parts) (valid : IsScenario parts) where
           ∙ ap (with_item (item.Bound cert.bound))
           (item_reads parts valid stage.End stage.Ended (item.End nodes) more is.count refl refl)
 
-      tree_on : read_from parts stage.Pool (grown ++ more)
+      pooled_at : Stage
+      pooled_at = stage.Pool (last_of None cert.pool)
+
+      tree_on : read_from parts pooled_at (grown ++ more)
           ≡ with_items (tree_items cert.tree) (with_items (plan_items parts cert.plan)
           (with_items last end))
       tree_on =
-          ap (read_from parts stage.Pool) (append_assoc (tree_text cert.tree) planned more)
-          ∙ tree_reads cert.tree (planned ++ more) is.nodes is.tree
+          ap (read_from parts pooled_at) (append_assoc (tree_text cert.tree) planned more)
+          ∙ tree_reads cert.tree (last_of None cert.pool) (planned ++ more) is.nodes is.tree
           ∙ ap (with_items (tree_items cert.tree))
           (ap (read_from parts stage.Plan) (append_assoc (plan_text parts cert.plan) bounded more)
           ∙ plan_reads cert.plan (bounded ++ more) is.plan

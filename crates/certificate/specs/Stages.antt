@@ -3,8 +3,11 @@ use Rattle.std.specs.Prelude.{ℕ, zero, suc, ◌+◌, ◌-◌, ◌^◌, ◌<◌
 use Rattle.flow_types.specs.declared.parts.Parts.{Parts}
 use Rattle.bytime_model.specs.declared.names.RowName.{RowName}
 use Rattle.bytime_model.specs.Order.{is_before}
+use Rattle.cut_rows.specs.declared.names.CutName.{CutName}
+use Rattle.cut_rows.specs.Cuts.{is_cut as is_cut_of}
+use Rattle.cut_rows.specs.Order.{follows_last}
 use Rattle.certificate.specs.declared.fault.LineFault.{LineFault}
-use Rattle.certificate.specs.declared.fault.TextCause.TheVariants.{BadKind, Order}
+use Rattle.certificate.specs.declared.fault.TextCause.TheVariants.{BadCut, BadKind, Order}
 use Rattle.certificate.specs.declared.item.CertItem.{CertItem}
 use Rattle.certificate.specs.declared.item.CertItem.TheVariants as item
 use Rattle.certificate.specs.declared.kind.LineKind.{LineKind}
@@ -27,7 +30,7 @@ is_cut other = false
 
 abbrev pub may_stand : Stage → LineKind → Bool
 may_stand stage.Head kind.Head = true
-may_stand stage.Pool kind = is_cut kind || is_node kind
+may_stand (stage.Pool last) kind = is_cut kind || is_node kind
 may_stand (stage.Tree waiting) kind = is_node kind
 may_stand (stage.Rows left last waiting) kind.Row = true
 may_stand stage.Plan kind.Plan = true
@@ -43,7 +46,7 @@ is_ended other = false
 -- how many trees wait: at the start of the tree one, later the late sides of splits too, and while
 -- rows are read those that wait after their leaf
 abbrev pub waiting_at : Stage → ℕ
-waiting_at stage.Pool = 1
+waiting_at (stage.Pool last) = 1
 waiting_at (stage.Tree waiting) = waiting
 waiting_at (stage.Rows left last waiting) = waiting
 waiting_at other = 0
@@ -89,9 +92,20 @@ abbrev pub row_at : Stage → RowName → Result Stage LineFault
 row_at (stage.Rows left last waiting) name = after_row left last waiting name
 row_at other name = Err bad_kind
 
+-- each cut comes after the one before it, and is one of the scenario
+abbrev pub after_cut : Parts → Option CutName → CutName → Result Stage LineFault
+after_cut parts last cut =
+    if follows_last last cut then (if is_cut_of parts cut then Ok (stage.Pool (Some cut))
+    else Err (record { field = 2; cause = BadCut }))
+    else Err (record { field = 2; cause = Order })
+
+abbrev pub cut_at : Parts → Stage → CutName → Result Stage LineFault
+cut_at parts (stage.Pool last) cut = after_cut parts last cut
+cut_at parts other cut = Err bad_kind
+
 abbrev pub stage_after : Parts → Stage → CertItem → Result Stage LineFault
-stage_after parts now (item.Head digest) = Ok stage.Pool
-stage_after parts now (item.Cut cut) = Ok stage.Pool
+stage_after parts now (item.Head digest) = Ok (stage.Pool None)
+stage_after parts now (item.Cut cut) = cut_at parts now cut
 stage_after parts now (item.Split flight node time cutoff) =
     Ok (stage.Tree (waiting_at now + 1))
 stage_after parts now item.Empty = Ok (trees_left (waiting_at now - 1))

@@ -1,5 +1,5 @@
--- What it takes for a certificate to be read back from its text: a tree, rows that ascend, and
--- numbers and lists of nodes within the limits of lines.
+-- What it takes for a certificate to be read back from its text: a tree, cuts of the scenario and
+-- rows that ascend, and numbers and lists of nodes within the limits of lines.
 use Rattle.std.specs.Prelude.{◌≡◌, ℕ, ◌≤◌, true, List, [], ◌∷◌, length, Option, Some, None}
 use Rattle.flow_types.specs.declared.flight.Flight.{Flight}
 use Rattle.flow_types.specs.declared.parts.Parts.{Parts}
@@ -9,6 +9,8 @@ use Rattle.flow_types.specs.Limits.{most_nodes}
 use Rattle.bytime_model.specs.declared.multiplier.Multiplier.{Multiplier}
 use Rattle.bytime_model.specs.declared.names.RowName.{RowName}
 use Rattle.cut_rows.specs.declared.names.CutName.{CutName}
+use Rattle.cut_rows.specs.Cuts.{is_cut}
+use Rattle.cut_rows.specs.Order.{follows_last}
 use Rattle.branch_tree.specs.declared.leaf.Leaf.{Leaf as LeafKind}
 use Rattle.branch_tree.specs.declared.leaf.Leaf.TheVariants as leaf
 use Rattle.branch_tree.specs.declared.tree.TreeNode.{TreeNode}
@@ -20,9 +22,12 @@ use Rattle.certificate.specs.Ranges.{AreStopsInRange, IsCountInRange, IsCutInRan
 use Rattle.certificate.specs.Stages.{is_above}
 use Rattle.certificate.specs.Texts.{Certified}
 
-abbrev pub AreCutsWritable : List CutName → Type 0
-AreCutsWritable [] = Unit {0}
-AreCutsWritable (cut ∷ pool) = IsCutInRange cut × AreCutsWritable pool
+-- cuts of the scenario, each after the last one
+abbrev pub AreCutsWritable : Parts → Option CutName → List CutName → Type 0
+AreCutsWritable parts last [] = Unit {0}
+AreCutsWritable parts last (cut ∷ pool) =
+    (IsCutInRange cut × (follows_last last cut ≡ true) × (is_cut parts cut ≡ true))
+    × AreCutsWritable parts (Some cut) pool
 
 -- rows that ascend from the last one on
 abbrev pub AreAbove : Option RowName → List Multiplier → Type 0
@@ -72,7 +77,7 @@ IfPlanWritable parts (Some plan) = IsPlanWritable parts plan
 -- what the text of a certificate is read back for
 pub record IsWritable (parts : Parts) (cert : Certified) : Type 0 where
   pub digest : IsDigest cert.digest
-  pub pool : AreCutsWritable cert.pool
+  pub pool : AreCutsWritable parts None cert.pool
   pub nodes : AreNodesWritable cert.tree
   pub tree : is_tree cert.tree ≡ true
   pub plan : IfPlanWritable parts cert.plan

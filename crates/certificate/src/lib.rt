@@ -23,10 +23,10 @@
 //! pool, which is the list of the `cut` lines. Numbers are written in one way each, and are within
 //! the limits of `specs/Limits`; a trip has at most 32 stops.
 //!
-//! Only the text is judged here: whether the digest, the cost, the count and the bound are right is
-//! not asked, nor whether the rows and the cuts are there, nor whether the cuts ascend. What cuts
-//! are, and their order, is said in `cut_rows`; what a tree, a leaf and a bound are, in
-//! `branch_tree` and `dual_leaf`.
+//! Only the text is judged here: that rows and cuts ascend, and that the cuts are the scenario's;
+//! whether the digest, the cost, the count and the bound are right is not asked, nor whether the
+//! rows are there. What cuts are, and their order, is said in `cut_rows`; what a tree, a leaf and a
+//! bound are, in `branch_tree` and `dual_leaf`.
 //!
 //! A caller writes one, after asking how long it will be:
 //!
@@ -43,7 +43,7 @@
 //!
 //!     let mut reader = CertReader::new(alloc, &mut files, "day.cert")?;
 //!     loop {
-//!         match reader.next(&mut files, &s) {
+//!         match reader.next(&mut files, &s, &routes) {
 //!             Ok(Some(item)) => println!("{item:?}"),
 //!             Ok(None) => break,
 //!             Err(refusal) => return Err(refusal),
@@ -66,13 +66,14 @@
 //! (`answers_are_the_items`). No more is read than there was (`within`, `bounded`). A refusal is
 //! kept and answered again (`keeps`, `again`), and so is the end (`ended`); a read fails only where
 //! the files' count of faults rose or stands at its last value, or the name isn't there (`failed`,
-//! `unfailed`). By the definition of reading, what is written of a pool, of a tree with ascending
-//! rows, and of numbers within the limits, is read back whole (`texts_are_read`); so a certificate
-//! has one text, and no text of one begins that of another (`texts_are_one`).
+//! `unfailed`). By the definition of reading, what is written of cuts of the scenario in
+//! order, of a tree with ascending rows, and of numbers within the limits, is read back whole
+//! (`texts_are_read`); so a certificate has one text, and no text of one begins that of another
+//! (`texts_are_one`).
 //!
 //! Memory: a text is made in blocks that grow by doubling. A reader takes a piece of 64 KiB and a
-//! line of at most 4,097 bytes, in a block that grows by doubling, a trip its stops and a cut its
-//! nodes; nothing grows with the text. Time: each byte of a text is read once.
+//! line of at most 4,097 bytes, in a block that grows by doubling, a trip its stops, and a cut its
+//! nodes, which the reader keeps too up to the next one; nothing grows with the text. Time: each byte of a text is read once.
 #![tactic(auto)]
 
 mod certificate;

@@ -1,5 +1,6 @@
 //! A line of a text: what it tells, and what may stand after it.
 ghost use Rattle.std.specs.Prelude.{◌≡◌, ◌≤◌, length};
+ghost use Rattle.cut_rows.specs.Routes.{AreRoutesOf};
 ghost use Rattle.flow_types.specs.Scenario.{parts_of};
 ghost use Rattle.certificate.specs.Fields.{fields_of};
 ghost use Rattle.certificate.specs.Found.{Finds, Gives};
@@ -14,6 +15,7 @@ use crate::items::item_of;
 use crate::kind::{LineKind, kind_of};
 use crate::limits::MOST_LINE_BYTES;
 use crate::stage::{Stage, bad_kind, is_ended, may_stand, next_at, stage_after};
+use cut_rows::Routes;
 use flow_types::Scenario;
 use std::alloc::Global;
 
@@ -36,8 +38,8 @@ fn past_end(bytes: &[u8]) -> Option<LineFault>
 }
 
 /// What is wrong with the bytes after the last line feed, if anything is.
-pub fn last_fault(stage: Stage, bytes: &[u8]) -> Option<LineFault>
-    ensures { result ≡ last_fault stage bytes.now }
+pub fn last_fault(stage: &Stage, bytes: &[u8]) -> Option<LineFault>
+    ensures { result ≡ last_fault stage.now bytes.now }
 {
     if is_ended(stage) {
         past_end(bytes)
@@ -49,8 +51,8 @@ pub fn last_fault(stage: Stage, bytes: &[u8]) -> Option<LineFault>
 }
 
 /// What is wrong with a line of more bytes than one may have.
-pub fn long_fault(stage: Stage) -> LineFault
-    ensures { result ≡ long_fault stage }
+pub fn long_fault(stage: &Stage) -> LineFault
+    ensures { result ≡ long_fault stage.now }
 {
     if is_ended(stage) {
         in_first(TextCause::AfterEnd)
@@ -60,8 +62,8 @@ pub fn long_fault(stage: Stage) -> LineFault
 }
 
 // The kind, if there is one and it may stand here.
-fn kind_here(stage: Stage, kind: Option<LineKind>) -> Result<LineKind, LineFault>
-    ensures { Finds (λ kind. kind) result (kind_here stage kind) }
+fn kind_here(stage: &Stage, kind: Option<LineKind>) -> Result<LineKind, LineFault>
+    ensures { Finds (λ kind. kind) result (kind_here stage.now kind) }
 {
     match kind {
         Some(kind) if may_stand(stage, kind) => Ok(kind),
@@ -73,31 +75,35 @@ fn kind_here(stage: Stage, kind: Option<LineKind>) -> Result<LineKind, LineFault
 fn fields_step(
     alloc: Global,
     s: &Scenario,
-    stage: Stage,
+    routes: &Routes,
+    stage: &Stage,
     fields: &mut LineFields<'_>,
 ) -> Result<(CertItem, Stage), LineError>
-    requires { IsSmall stage }
+    requires small { IsSmall stage.now }
+    requires routes { AreRoutesOf (parts_of s.now) routes.now }
     ensures { Gives (λ found. (found.0, found.1)) result
-        (fields_step (parts_of s.now) stage fields.old) }
+        (fields_step (parts_of s.now) stage.now fields.old) }
 {
     let word = fields.field()?;
     let kind = kind_here(stage, kind_of(word))?;
     let item = item_of(alloc, s, next_at(stage), kind, fields)?;
-    let after = stage_after(s, stage, &item)?;
+    let after = stage_after(alloc, s, routes, stage, &item)?;
     Ok((item, after))
 }
 
 /// What a line tells, given without its line feed, and what may stand after it. A trip takes memory
-/// for its stops, a cut for its nodes, and any other line none.
+/// for its stops, a cut twice for its nodes, and any other line none.
 pub fn line_step(
     alloc: Global,
     s: &Scenario,
-    stage: Stage,
+    routes: &Routes,
+    stage: &Stage,
     line: &[u8],
 ) -> Result<(CertItem, Stage), LineError>
-    requires { IsSmall stage }
+    requires small { IsSmall stage.now }
+    requires routes { AreRoutesOf (parts_of s.now) routes.now }
     ensures { Gives (λ found. (found.0, found.1)) result
-        (line_step (parts_of s.now) stage line.now) }
+        (line_step (parts_of s.now) stage.now line.now) }
 {
     if is_ended(stage) {
         return Err(LineError::Fault(in_first(TextCause::AfterEnd)));
@@ -105,5 +111,5 @@ pub fn line_step(
     if line.len() > MOST_LINE_BYTES {
         return Err(LineError::Fault(in_first(TextCause::LongLine)));
     }
-    fields_step(alloc, s, stage, &mut LineFields::of_line(line))
+    fields_step(alloc, s, routes, stage, &mut LineFields::of_line(line))
 }

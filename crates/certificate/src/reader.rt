@@ -1,5 +1,6 @@
 //! A certificate, read line by line.
 ghost use Rattle.std.specs.Prelude.{◌≡◌, Err, IfErr, IfNone, IfOk, IfSome, IsErrOf, None, Ok, OnOk, []};
+ghost use Rattle.cut_rows.specs.Routes.{AreRoutesOf};
 ghost use Rattle.flow_outside.specs.Counts.{Rose};
 ghost use Rattle.flow_outside.specs.Held.{HasName};
 ghost use Rattle.flow_outside.specs.Seen.{AreKept};
@@ -16,13 +17,14 @@ use crate::line::{last_fault, line_step, long_fault};
 use crate::lines::{LineEnd, TakeError, take_line};
 use crate::pieces::Pieces;
 use crate::stage::{Stage, is_ended};
+use cut_rows::Routes;
 use flow_outside::{Files, LoadFault};
 use flow_types::Scenario;
 use std::alloc::Global;
 use std::marker::Model;
 
 // The line that comes next.
-#[derive(Clone, Copy)]
+#[derive(Drop)]
 struct NextLine {
     // What may stand there.
     stage: Stage,
@@ -35,19 +37,22 @@ fn next_item<F: Files>(
     alloc: Global,
     files: &mut F,
     s: &Scenario,
+    routes: &Routes,
     pieces: &mut Pieces,
     line: &mut Vec<u8>,
-    next: NextLine,
+    next: &NextLine,
 ) -> Result<Option<(CertItem, Stage)>, CertRefusal>
-    requires { IsReading pieces.old next.stage next.number }
+    requires reading { IsReading pieces.old next.now.stage next.now.number }
+    requires routes { AreRoutesOf (parts_of s.now) routes.now }
     ensures item { IfOk result (λ found. IfSome found (λ it. IsItemTaken (parts_of s.now)
-        (F.seen files.old).held pieces.old pieces.new next.stage it.0 it.1)) }
-    ensures end { IfOk result (λ found. IfNone found ((next.stage ≡ stages.Ended)
+        (F.seen files.old).held pieces.old pieces.new next.now.stage it.0 it.1)) }
+    ensures end { IfOk result (λ found. IfNone found ((next.now.stage ≡ stages.Ended)
         × IsAtEnd pieces.new × AreTaken (F.seen files.old).held pieces.old pieces.new [])) }
     ensures bounded { OnOk result (AreBounded pieces.old pieces.new) }
     ensures refused { IfErr result
-        (IsRefused (parts_of s.now) (F.seen files.old).held pieces.old next.stage next.number) }
-    ensures ended { IsAtEnd pieces.old → next.stage ≡ stages.Ended
+        (IsRefused (parts_of s.now) (F.seen files.old).held pieces.old next.now.stage
+        next.now.number) }
+    ensures ended { IsAtEnd pieces.old → next.now.stage ≡ stages.Ended
         → (result ≡ Ok None) × (pieces.new ≡ pieces.old) }
     ensures failed { IsErrOf result refusal.Read → HasName (F.seen files.old).held pieces.old.name
         → Rose (F.seen files.old).faults (F.seen files.new).faults }
@@ -55,11 +60,11 @@ fn next_item<F: Files>(
         → (F.seen files.new).faults ≡ (F.seen files.old).faults }
     ensures kept { AreKept (F.seen files.old) (F.seen files.new) }
 {
-    if is_ended(next.stage) && pieces.is_at_end() {
+    if is_ended(&next.stage) && pieces.is_at_end() {
         return Ok(None);
     }
     let end = take_line(files, pieces, line)?;
-    item_of_line(alloc, s, next, line, end)
+    item_of_line(alloc, s, routes, next, line, end)
 }
 
 impl From<TakeError> for CertRefusal {
@@ -91,30 +96,34 @@ fn refusal_of(number: u32, error: LineError) -> CertRefusal
 fn item_of_line(
     alloc: Global,
     s: &Scenario,
-    next: NextLine,
+    routes: &Routes,
+    next: &NextLine,
     line: &[u8],
     end: LineEnd,
 ) -> Result<Option<(CertItem, Stage)>, CertRefusal>
-    requires { IsSmall next.stage }
-    ensures { Tells next.number result (told_by (parts_of s.now) next.stage line.now end) }
+    requires small { IsSmall next.now.stage }
+    requires routes { AreRoutesOf (parts_of s.now) routes.now }
+    ensures { Tells next.now.number result
+        (told_by (parts_of s.now) next.now.stage line.now end) }
 {
     match end {
-        LineEnd::Feed => match line_step(alloc, s, next.stage, line) {
+        LineEnd::Feed => match line_step(alloc, s, routes, &next.stage, line) {
             Ok(found) => Ok(Some(found)),
             Err(error) => Err(refusal_of(next.number, error)),
         },
-        LineEnd::Text => match last_fault(next.stage, line) {
+        LineEnd::Text => match last_fault(&next.stage, line) {
             None => Ok(None),
             Some(fault) => Err(refusal_of(next.number, LineError::Fault(fault))),
         },
         LineEnd::Long => {
-            let fault = LineError::Fault(long_fault(next.stage));
+            let fault = LineError::Fault(long_fault(&next.stage));
             Err(refusal_of(next.number, fault))
         }
     }
 }
 
-/// Reads the text of a certificate line by line. Of the text it keeps one piece and one line.
+/// Reads the text of a certificate line by line. Of the text it keeps one piece, one line and the
+/// last cut.
 /// Contracts see where it is in the text, what may stand next, and the refusal that it keeps.
 pub struct CertReader {
     alloc: Global,
@@ -154,6 +163,7 @@ impl Model for CertReader {
 
 impl CertReader {
     ghost use Rattle.std.specs.Prelude.{◌≡◌, ◌+◌, ◌<◌, ◌≤◌, Err, IfErr, IfNone, IfOk, IfSome, IsErrOf, None, Ok, OnOk, Some, [], length};
+    ghost use Rattle.cut_rows.specs.Routes.{AreRoutesOf};
     ghost use Rattle.flow_outside.specs.Counts.{Rose};
     ghost use Rattle.flow_outside.specs.Held.{HasName, IfTold};
     ghost use Rattle.flow_outside.specs.Loads.{IfTooLong, OnRead, UnlessRead};
@@ -207,16 +217,18 @@ impl CertReader {
         self.next.number
     }
 
-    /// What the next line of the text tells, of a certificate for the scenario; nothing after the
-    /// last line. A refusal is kept and answered again, and after the end each call answers that.
-    /// What is said of the text holds where the files tell what the name holds, and that is what it
-    /// was when the reader was made. It takes memory for the longest line so far, and for the stops
-    /// of a trip or the nodes of a cut.
+    /// What the next line of the text tells, of a certificate for the scenario, whose routes are
+    /// lent for its cuts; nothing after the last line. A refusal is kept and answered again, and
+    /// after the end each call answers that. What is said of the text holds where the files tell
+    /// what the name holds, and that is what it was when the reader was made. It takes memory for
+    /// the longest line so far, for the stops of a trip, and twice for the nodes of a cut.
     pub fn next<F: Files>(
         &mut self,
         files: &mut F,
         s: &Scenario,
+        routes: &Routes,
     ) -> Result<Option<CertItem>, CertRefusal>
+        requires routes { AreRoutesOf (parts_of s.now) routes.now }
         ensures item { IfOk result (λ found. IfSome found (λ item.
             IsItemRead (parts_of s.now) (F.seen files.old).held self.old item self.new)) }
         ensures end { IfOk result (λ found. IfNone found (IsFinished self.new
@@ -245,9 +257,10 @@ impl CertReader {
             self.alloc,
             files,
             s,
+            routes,
             &mut self.pieces,
             &mut self.line,
-            self.next,
+            &self.next,
         ) {
             Ok(None) => Ok(None),
             Ok(Some((item, stage))) => {

@@ -1,22 +1,29 @@
 //! The grammar of a certificate: which line may stand next.
-ghost use Rattle.std.specs.Prelude.{◌≡◌};
+ghost use Rattle.std.specs.Prelude.{◌≡◌, IfOk};
+ghost use Rattle.cut_rows.specs.Order.{follows_last};
+ghost use Rattle.cut_rows.specs.Routes.{AreRoutesOf};
 ghost use Rattle.flow_types.specs.Scenario.{parts_of};
-ghost use Rattle.certificate.specs.Found.{Finds};
-ghost use Rattle.certificate.specs.Stages.{IsSmall, after_cost, after_row, bad_kind, is_above, is_cut, is_ended, is_node, may_stand, next_at, row_at, rows_left, stage_after, trees_left, trips_left, waiting_at};
+ghost use Rattle.certificate.specs.declared.fault.LineError.TheVariants as error;
+ghost use Rattle.certificate.specs.Found.{Finds, Gives};
+ghost use Rattle.certificate.specs.Stages.{IsSmall, after_cost, after_row, bad_kind, cut_at, is_above, is_cut, is_ended, is_node, may_stand, next_at, row_at, rows_left, stage_after, trees_left, trips_left, waiting_at};
 
-use crate::fault::{LineFault, TextCause};
+use crate::fault::{LineError, LineFault, TextCause};
 use crate::item::CertItem;
 use crate::kind::LineKind;
 use bytime_model::RowName;
-use flow_types::Scenario;
+use cut_rows::{CutName, Heads, Routes, is_before, is_cut as is_cut_of};
+use flow_types::{OutOfMemory, Scenario};
+use std::alloc::Global;
 
 /// How far a text has come: what may stand next.
-#[derive(Clone, Copy, Debug, PartialEq, Eq)]
+#[derive(Debug, Drop)]
 pub enum Stage {
     /// The head.
     Head,
-    /// A cut, or the first node of the tree.
-    Pool,
+    /// A cut, above the last one, or the first node of the tree.
+    Pool {
+        last: Option<CutName>,
+    },
     /// The next node, where so many trees wait.
     Tree {
         waiting: u64,
@@ -69,12 +76,12 @@ pub fn is_cut(kind: LineKind) -> bool
 }
 
 /// Whether a line of this kind may stand here.
-pub fn may_stand(stage: Stage, kind: LineKind) -> bool
-    ensures { result ≡ may_stand stage kind }
+pub fn may_stand(stage: &Stage, kind: LineKind) -> bool
+    ensures { result ≡ may_stand stage.now kind }
 {
     match stage {
         Stage::Head => matches!(kind, LineKind::Head),
-        Stage::Pool => is_cut(kind) || is_node(kind),
+        Stage::Pool { .. } => is_cut(kind) || is_node(kind),
         Stage::Tree { .. } => is_node(kind),
         Stage::Rows { .. } => matches!(kind, LineKind::Row),
         Stage::Plan => matches!(kind, LineKind::Plan),
@@ -86,30 +93,30 @@ pub fn may_stand(stage: Stage, kind: LineKind) -> bool
 }
 
 /// Whether nothing may stand here.
-pub fn is_ended(stage: Stage) -> bool
-    ensures { result ≡ is_ended stage }
+pub fn is_ended(stage: &Stage) -> bool
+    ensures { result ≡ is_ended stage.now }
 {
     matches!(stage, Stage::Ended)
 }
 
 // How many trees wait: the first one, or those of splits too, and while rows are read those after
 // their leaf.
-fn waiting_at(stage: Stage) -> u64
-    ensures { result ≡ waiting_at stage }
+fn waiting_at(stage: &Stage) -> u64
+    ensures { result ≡ waiting_at stage.now }
 {
     match stage {
-        Stage::Pool => 1,
-        Stage::Tree { waiting } | Stage::Rows { waiting, .. } => waiting,
+        Stage::Pool { .. } => 1,
+        Stage::Tree { waiting } | Stage::Rows { waiting, .. } => *waiting,
         _ => 0,
     }
 }
 
 /// The flight whose trip comes next.
-pub fn next_at(stage: Stage) -> u32
-    ensures { result ≡ next_at stage }
+pub fn next_at(stage: &Stage) -> u32
+    ensures { result ≡ next_at stage.now }
 {
     match stage {
-        Stage::Trips { next } => next,
+        Stage::Trips { next } => *next,
         _ => 0,
     }
 }
@@ -170,8 +177,8 @@ fn is_above(last: Option<RowName>, name: RowName) -> bool
 }
 
 // After a row of a leaf, which has to be above the last one.
-fn row_at(stage: Stage, name: RowName) -> Result<Stage, LineFault>
-    ensures { Finds (λ stage. stage) result (row_at stage name) }
+fn row_at(stage: &Stage, name: RowName) -> Result<Stage, LineFault>
+    ensures { Finds (λ stage. stage) result (row_at stage.now name) }
 {
     let Stage::Rows {
         left,
@@ -181,8 +188,8 @@ fn row_at(stage: Stage, name: RowName) -> Result<Stage, LineFault>
     else {
         return Err(bad_kind());
     };
-    if is_above(last, name) {
-        Ok(rows_left(left.saturating_sub(1), Some(name), waiting))
+    if is_above(*last, name) {
+        Ok(rows_left(left.saturating_sub(1), Some(name), *waiting))
     } else {
         Err(LineFault {
             field: 2,
@@ -191,13 +198,101 @@ fn row_at(stage: Stage, name: RowName) -> Result<Stage, LineFault>
     }
 }
 
-/// What may stand after the line of an item.
-pub fn stage_after(s: &Scenario, stage: Stage, item: &CertItem) -> Result<Stage, LineFault>
-    requires { IsSmall stage }
-    ensures { Finds (λ stage. stage) result (stage_after (parts_of s.now) stage item.now) }
+// Whether the cut comes after the last one, if there is one.
+fn follows_last(last: &Option<CutName>, cut: &CutName) -> bool
+    ensures { result ≡ follows_last last.now cut.now }
+{
+    match last {
+        None => true,
+        Some(last) => is_before(last, cut),
+    }
+}
+
+// The same name in memory of its own.
+fn copy_of(alloc: Global, cut: &CutName) -> Result<CutName, OutOfMemory>
+    ensures { IfOk result (λ copy. copy ≡ cut.now) }
+{
+    match cut {
+        CutName::Heads {
+            flight,
+            node,
+            time,
+            heads,
+        } => Ok(CutName::Heads {
+            flight: *flight,
+            node: *node,
+            time: *time,
+            heads: list_of(alloc, heads)?,
+        }),
+        CutName::Apart {
+            flight,
+            time,
+            heads,
+        } => Ok(CutName::Apart {
+            flight: *flight,
+            time: *time,
+            heads: list_of(alloc, heads)?,
+        }),
+        CutName::Departed { flight, node, time } => Ok(CutName::Departed {
+            flight: *flight,
+            node: *node,
+            time: *time,
+        }),
+    }
+}
+
+fn list_of(alloc: Global, nodes: &Heads) -> Result<Heads, OutOfMemory>
+    ensures { IfOk result (λ copy. copy ≡ nodes.now) }
+{
+    Ok(Heads::from_vec(Vec::from_slice(alloc, nodes.items())?))
+}
+
+// What is wrong with a cut, whose kind is its second field.
+fn cut_fault(cause: TextCause) -> LineError
+    ensures { result ≡ error.Fault (record { field = 2; cause = cause }) }
+{
+    LineError::Fault(LineFault { field: 2, cause })
+}
+
+// After a cut, which has to come after the last one, and to be one of the scenario.
+fn cut_at(
+    alloc: Global,
+    s: &Scenario,
+    routes: &Routes,
+    stage: &Stage,
+    cut: &CutName,
+) -> Result<Stage, LineError>
+    requires { AreRoutesOf (parts_of s.now) routes.now }
+    ensures { Gives (λ stage. stage) result (cut_at (parts_of s.now) stage.now cut.now) }
+{
+    let Stage::Pool { last } = stage else {
+        return Err(LineError::Fault(bad_kind()));
+    };
+    if !follows_last(last, cut) {
+        return Err(cut_fault(TextCause::Order));
+    }
+    if !is_cut_of(s, routes, cut) {
+        return Err(cut_fault(TextCause::BadCut));
+    }
+    let last = Some(copy_of(alloc, cut)?);
+    Ok(Stage::Pool { last })
+}
+
+/// What may stand after the line of an item. A cut takes memory for its nodes.
+pub fn stage_after(
+    alloc: Global,
+    s: &Scenario,
+    routes: &Routes,
+    stage: &Stage,
+    item: &CertItem,
+) -> Result<Stage, LineError>
+    requires small { IsSmall stage.now }
+    requires routes { AreRoutesOf (parts_of s.now) routes.now }
+    ensures { Gives (λ stage. stage) result (stage_after (parts_of s.now) stage.now item.now) }
 {
     match item {
-        CertItem::Head(_) | CertItem::Cut(_) => Ok(Stage::Pool),
+        CertItem::Head(_) => Ok(Stage::Pool { last: None }),
+        CertItem::Cut(cut) => cut_at(alloc, s, routes, stage, cut),
         CertItem::Split { .. } => Ok(Stage::Tree {
             waiting: waiting_at(stage) + 1,
         }),
@@ -207,7 +302,7 @@ pub fn stage_after(s: &Scenario, stage: Stage, item: &CertItem) -> Result<Stage,
             None,
             waiting_at(stage).saturating_sub(1),
         )),
-        CertItem::Row(multiplier) => row_at(stage, multiplier.row),
+        CertItem::Row(multiplier) => Ok(row_at(stage, multiplier.row)?),
         CertItem::Plan(cost) => Ok(after_cost(s, *cost)),
         CertItem::Trip(_) => Ok(trips_left(s, next_at(stage) + 1)),
         CertItem::Bound(_) => Ok(Stage::End),

@@ -1,5 +1,5 @@
 -- The cuts of a pool are within the limits of lines, in lines of at most 180 bytes.
-use Rattle.std.proofs.Common.{◌≡◌, ℕ, suc, ◌+◌, ◌*◌, ◌<◌, ◌≤◌, ◌&&◌, nat_le, nat_lt, true, List, [], ◌∷◌, length, map, All, Option, None, Some, slice_get, refl, subst, arith, length-append}
+use Rattle.std.proofs.Common.{◌≡◌, ℕ, suc, ◌+◌, ◌*◌, ◌<◌, ◌≤◌, ◌&&◌, nat_le, nat_lt, true, List, [], ◌∷◌, length, map, All, AllPairs, Option, None, Some, slice_get, refl, subst, arith, length-append}
 use Rattle.std.specs.Prelude.{codes}
 use Rattle.std.specs.List.{list_all}
 use Rattle.std.specs.Fmt.{decimal}
@@ -19,6 +19,7 @@ use Rattle.bytime_model.proofs.NameLists.{Each, each_weaker}
 use Rattle.cut_rows.specs.declared.names.CutName.{CutName}
 use Rattle.cut_rows.specs.declared.names.CutName.TheVariants.{Apart, Departed, Heads}
 use Rattle.cut_rows.specs.Cuts.{are_apart, are_heads, ascends_from, is_cut, is_head}
+use Rattle.cut_rows.specs.Order.{IsBefore, follows_last}
 use Rattle.cut_rows.proofs.NodeFacts.{head_within, heads_are, nodes_apart}
 use Rattle.certificate.specs.Cuts.{cut_numbers, family_word}
 use Rattle.certificate.specs.Lines.{cut_fields, fields_text, line_of}
@@ -205,9 +206,9 @@ module _ (parts : Parts) (valid : IsScenario parts) where
       (node_within (slice_get parts.flights f) n more.1) both.0 in
       record { range = own.0; small = own.1; few = omega arith }
 
-  -- cuts of the day
-  pub record AreShortCuts (pool : List CutName) : Type 0 where
-    pub writable : AreCutsWritable pool
+  -- cuts of the day, after this one
+  pub record AreShortCuts (last : Option CutName) (pool : List CutName) : Type 0 where
+    pub writable : AreCutsWritable parts last pool
     pub short : length (pool_text pool) ≤ 180 * length pool
 
   cut_size : (cut : CutName) → IsSmallCut cut
@@ -227,16 +228,37 @@ module _ (parts : Parts) (valid : IsScenario parts) where
       word_size (Apart f t nodes) = omega arith
       word_size (Departed f n t) = omega arith
 
-  pub short_cuts : (pool : List CutName) → All (λ cut. is_cut parts cut ≡ true) pool
-      → AreShortCuts pool
-  short_cuts [] are = record { writable = tt; short = omega arith }
-  short_cuts (cut ∷ pool) are =
-      let here = small_cut cut (are 0 cut (omega arith)) in
-      let more = short_cuts pool (All-tail (λ cut. is_cut parts cut ≡ true) cut pool are) in
+  -- the first of these cuts, if there is one, comes after this one
+  abbrev IsNext : Option CutName → List CutName → Type 0
+  IsNext last [] = Unit {0}
+  IsNext last (cut ∷ pool) = follows_last last cut ≡ true
+
+  any_first : (pool : List CutName) → IsNext None pool
+  any_first [] = tt
+  any_first (cut ∷ pool) = refl
+
+  next_of : (cut : CutName) (pool : List CutName) → AllPairs IsBefore (cut ∷ pool)
+      → IsNext (Some cut) pool
+  next_of cut [] order = tt
+  next_of cut (next ∷ pool) order = order 0 1 cut (omega arith) (omega arith)
+
+  cuts_from : (pool : List CutName) (last : Option CutName) → IsNext last pool
+      → All (λ cut. is_cut parts cut ≡ true) pool → AllPairs IsBefore pool
+      → AreShortCuts last pool
+  cuts_from [] last next are order = record { writable = tt; short = omega arith }
+  cuts_from (cut ∷ pool) last next are order =
+      let is : is_cut parts cut ≡ true = are 0 cut (omega arith) in
+      let here = small_cut cut is in
+      let more = cuts_from pool (Some cut) (next_of cut pool order)
+      (All-tail (λ cut. is_cut parts cut ≡ true) cut pool are) (λ i j d less within. order (suc i) (suc j) d (omega (arith, less)) (omega (arith, within))) in
       let line = cut_size cut here in
       let behind = more.short in
       let all = length-append (line_of (codes "cut") (cut_fields cut)) (pool_text pool) in
       record {
-        writable = (here.range, more.writable);
+        writable = ((here.range, next, is), more.writable);
         short = omega (arith, line, behind, all);
       }
+
+  pub short_cuts : (pool : List CutName) → All (λ cut. is_cut parts cut ≡ true) pool
+      → AllPairs IsBefore pool → AreShortCuts None pool
+  short_cuts pool are order = cuts_from pool None (any_first pool) are order

@@ -102,7 +102,7 @@ module _ (parts : Parts) (root : Box) (budget : Budget) (found : Found) (day : L
       let nodes = searched.nodes in
       record {
         digest = is_digest day;
-        pool = (short_cuts parts valid found.pool searched.pool.cuts.cuts).writable;
+        pool = (short_cuts parts valid found.pool searched.pool.cuts.cuts searched.pool.order).writable;
         nodes = own_nodes.writable;
         tree = is_one_tree;
         plan = by (last_plan found) refl;
@@ -119,7 +119,7 @@ module _ (parts : Parts) (root : Box) (budget : Budget) (found : Found) (day : L
   pub own_short : length (cert_text parts own) ≤ most_bytes_of parts budget.nodes
   own_short =
       let head = head_size (sha256 day) (length-sha256 day) in
-      let cuts = (short_cuts parts valid found.pool searched.pool.cuts.cuts).short in
+      let cuts = (short_cuts parts valid found.pool searched.pool.cuts.cuts searched.pool.order).short in
       let pool_few = searched.pool.few in
       let nodes = own_nodes.short in
       let plan = plan_size parts valid own.plan own_writable.plan in
