@@ -73,7 +73,8 @@
 //!
 //! Memory: a text is made in blocks that grow by doubling. A reader takes a piece of 64 KiB and a
 //! line of at most 4,097 bytes, in a block that grows by doubling, a trip its stops, and a cut its
-//! nodes, which the reader keeps too up to the next one; nothing grows with the text. Time: each byte of a text is read once.
+//! nodes, which the reader keeps too up to the next one; nothing grows with the text. Time: each
+//! byte of a text is read once.
 #![tactic(auto)]
 
 mod certificate;
