@@ -1,5 +1,5 @@
 -- Rows in room for so many entries.
-use Rattle.std.proofs.Common.{◌≡◌, ◌≢◌, ◌⊎◌, ℕ, zero, suc, ◌+◌, ◌-◌, ◌<◌, ◌≤◌, Option, None, Some, Ok, Err, List, [], ◌∷◌, ◌++◌, length, get_or, set, All, ℤ, pos, negsuc, neg_ℤ, nat_abs, refl, sym, ap, ◌∙◌, subst, inl, inr, arith}
+use Rattle.std.proofs.Common.{◌≡◌, ◌≢◌, ◌⊎◌, ℕ, zero, suc, ◌+◌, ◌-◌, ◌<◌, ◌≤◌, Option, None, Some, Ok, Err, List, [], ◌∷◌, ◌++◌, length, get_or, set, All, ℤ, pos, negsuc, neg_ℤ, nat_abs, vec_capacity, refl, sym, ap, ◌∙◌, subst, inl, inr, arith}
 use Rattle.std.specs.List.{find}
 use Rattle.std.proofs.lemmas.Int.{ints}
 use Rattle.std.proofs.lemmas.Bool.{cond-true, cond-false, le-leb, lt-leb, cases_lt}
@@ -9,9 +9,12 @@ use Rattle.std.proofs.lemmas.List.Sums.{get_or-le-sum_by, sum_by-set, sum_by_pus
 use Rattle.row_arena.specs.declared.entry.Entry.{Entry}
 use Rattle.row_arena.specs.declared.products.WideEntry.{WideEntry}
 use Rattle.row_arena.specs.declared.wide.Wide.TheVariants.{Cells, Value}
-use Rattle.row_arena.specs.Arena.{IsArena, has_room, is_far, live, replaced, row_at, with_row}
+use Rattle.row_arena.specs.declared.shelf.Shelf.{Shelf}
+use Rattle.row_arena.specs.Arena.{IsArena, has_room, is_far, live, replaced, row_at, row_or_none, with_row}
 use Rattle.row_arena.specs.Products.{entries_of, entry_of, far_of}
 use Rattle.row_arena.specs.Rows.{IsRow, most_entry, negated, negated_entry}
+use Rattle.row_arena.specs.Shelves.{HasRooms, IsShelf}
+use Rattle.exact_sums.proofs.ItemFacts.{slice_get-set_other}
 
 -- a row that was read
 pub row_is : (rows : List (List Entry)) (k : ℕ) (d : List Entry) → k < length rows
@@ -224,3 +227,27 @@ arena_negated count most cells k rows new filled is within same =
     arena_set count count most cells k rows new (negated (row_at rows k)) filled filled is
     (negated_row (row_at rows k) (row_at_valid rows k is.valid within)) within
     (omega (arith, sum, long, size, here)) (omega (arith, sum, long, size, room)) same
+
+-- Two rows together have no more entries than all.
+pub two_live : (rows : List (List Entry)) (i j : ℕ) → i < length rows → j < length rows → i ≢ j
+    → length (row_at rows i) + length (row_at rows j) ≤ live rows
+two_live rows i j first second differ =
+    let long = length-set rows i [] in
+    let sum = live_set rows i [] first in
+    let there = live_of (set rows i []) j (omega (arith, long, second)) in
+    let same = ap (λ (o : Option (List Entry)). length (row_or_none o))
+    (slice_get-set_other rows i j [] (λ e. differ (sym e))) in
+    omega (arith, sum, there, same)
+
+-- There is room still.
+pub rooms_kept : (s t : Shelf) (most cells wides filled wider fuller : ℕ)
+    → HasRooms s most cells wides filled → IsShelf t → t.half ≡ s.half
+    → vec_capacity s.places ≤ vec_capacity t.places → wides ≤ wider → filled ≤ fuller
+    → HasRooms t most cells wider fuller
+rooms_kept s t most cells wides filled wider fuller is shelf half places wide full = record {
+  shelf = shelf;
+  places = let a = is.places in omega (arith, a, places);
+  half = let a = is.half in omega (arith, a, half);
+  long = let a = is.long in omega (arith, a, wide);
+  full = let a = is.full in omega (arith, a, full);
+}

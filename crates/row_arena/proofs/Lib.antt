@@ -11,4 +11,8 @@ pub mod PlaceFacts
 pub mod ProductFacts
 pub mod ReduceFacts
 pub mod RowFacts
+pub mod ShelfFacts
+pub mod ShelfSteps
+pub mod WindowFacts
 pub mod WorkedRows
+pub mod WriteFacts

@@ -246,6 +246,12 @@ module _ (t q : List Entry) (j : ℕ) (e : Entry) (filled : List ℕ) (within : 
           kept_by before (omega (arith, low, high)) k (cases_eq (get_or q j e).column k) none some;
     }
 
+pub pushed_on : (t q : List Entry) (j : ℕ) (e : Entry) (old new : List ℕ) → j < length q
+    → new ≡ old ++ (get_or q j e).column ∷ [] → AreFilledBy t q j old
+    → AreFilledBy t q (j + 1) new
+pushed_on t q j e old new within is before =
+    subst (AreFilledBy t q (j + 1)) (sym is) (filled_pushed t q j e old within before)
+
 pub ruleset merges = (merges_target, merges_pivot, merges_both)
 
 pub ruleset fills = (filled_pushed, filled_kept)

@@ -3,8 +3,6 @@ use Rattle.std.specs.Prelude.{◌≡◌, ◌≢◌, ℕ, ◌+◌, ◌≤◌, Boo
 use Rattle.std.specs.List.{Contains, find}
 use Rattle.row_arena.specs.declared.entry.Entry.{Entry}
 use Rattle.row_arena.specs.declared.wide.Wide.{Wide}
-use Rattle.row_arena.specs.declared.wide.Refused.{Refused}
-use Rattle.row_arena.specs.declared.wide.Refused.TheVariants as refused
 use Rattle.row_arena.specs.declared.wide.Wide.TheVariants.{Cells, Value}
 use Rattle.row_arena.specs.Combining.{cleared}
 use Rattle.row_arena.specs.Rows.{IsRow, entry_at, most_entry}
@@ -59,11 +57,6 @@ abbrev pub combined : ℕ → List (List Entry) → ℕ → ℕ → ℕ → Resu
 combined cells rows target pivot column =
     let row = cleared column (row_at rows target) (row_at rows pivot) in
     replaced (find is_far row) cells rows target row
-
--- the reason, where it isn't want of memory
-abbrev pub IfWide : Refused → (Wide → Type 0) → Type 0
-IfWide (refused.Wide wide) P = P wide
-IfWide refused.OutOfMemory P = Unit {0}
 
 -- so many entries are in the rows, which are rows, and there is room for them
 pub record IsArena (entries : ℕ) (rows : Rows) : Type 0 where

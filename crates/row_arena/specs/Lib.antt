@@ -2,3 +2,4 @@ pub mod Arena
 pub mod Combining
 pub mod Products
 pub mod Rows
+pub mod Shelves

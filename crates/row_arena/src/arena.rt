@@ -1,18 +1,19 @@
 //! Rows of whole numbers, and how one of them is combined with another.
-ghost use Rattle.std.specs.Prelude.{◌≡◌, ◌<◌, ◌≤◌, ◌+◌, ◌^◌, ◌++◌, ◌∷◌, [], All, IfErr, IfOk, Err, None, Ok, OnErr, OnOk, length, slice_set};
+ghost use Rattle.std.specs.Prelude.{◌≡◌, ◌<◌, ◌≤◌, ◌+◌, ◌^◌, All, IfErr, IfOk, Err, Ok, OnErr, OnOk, length, vec_capacity};
 ghost use Rattle.std.specs.List.{find};
-ghost use Rattle.row_arena.specs.Arena.{IfWide, is_far, live, replaced, row_at};
+ghost use Rattle.row_arena.specs.Arena.{is_far, live, replaced, row_at};
 ghost use Rattle.row_arena.specs.Combining.{cleared};
 ghost use Rattle.row_arena.specs.Products.{AreFilledBy, entries_of};
-ghost use Rattle.row_arena.specs.Rows.{IsRow, negated};
-ghost use Rattle.row_arena.specs.declared.wide.Refused.TheVariants as refused;
+ghost use Rattle.row_arena.specs.Rows.{IsRow};
+ghost use Rattle.row_arena.specs.Shelves.{IsShelf, rows_of};
 ghost use Rattle.row_arena.specs.declared.wide.Wide.TheVariants as wide;
 
 use crate::combining::clear_column;
 use crate::entry::Entry;
 use crate::products::WideEntry;
-use crate::row::{Row, entry_in, first_far};
-use crate::wide::{Refused, Wide};
+use crate::row::{entry_in, first_far};
+use crate::shelf::Shelf;
+use crate::wide::Wide;
 use flow_types::OutOfMemory;
 use std::alloc::Global;
 use std::marker::Model;
@@ -20,8 +21,7 @@ use std::marker::Model;
 /// Rows, in room for so many of them and so many entries. Contracts see the list of rows, both
 /// limits, and the columns that the last call of `combine` filled.
 pub struct RowArena {
-    alloc: Global,
-    rows: Vec<Row>,
+    shelf: Shelf,
     most_rows: u32,
     cells: u32,
     // How many entries all rows have.
@@ -34,8 +34,7 @@ pub struct RowArena {
 impl Drop for RowArena {
     fn drop(self) {
         let RowArena {
-            alloc: _,
-            rows: _,
+            shelf: _,
             most_rows: _,
             cells: _,
             live: _,
@@ -46,45 +45,46 @@ impl Drop for RowArena {
 }
 
 impl Model for RowArena {
+    ghost use Rattle.std.specs.Prelude.{vec_capacity};
     ghost use Rattle.row_arena.specs.Arena.{IsArena, Rows};
+    ghost use Rattle.row_arena.specs.Shelves.{HasRooms, rows_of};
 
     ghost Value = { Rows };
 
     ghost view = { λ a. record {
-      rows = a.rows.items;
+      rows = rows_of a.shelf;
       most_rows = a.most_rows;
       cells = a.cells;
       filled = a.filled.items;
     } };
 
     ghost invariant = { λ a. IsArena a.live (record {
-      rows = a.rows.items;
+      rows = rows_of a.shelf;
       most_rows = a.most_rows;
       cells = a.cells;
       filled = a.filled.items;
-    }) };
+    }) × HasRooms a.shelf a.most_rows a.cells (vec_capacity a.wides) (vec_capacity a.filled) };
 }
 
 impl RowArena {
     ghost use Rattle.std.specs.Prelude.{◌≡◌, ◌≢◌, ◌<◌, ◌≤◌, ◌++◌, ◌∷◌, ◌<ℤ◌, [], IfErr, IfOk, IsTrue, Err, Ok, OnErr, OnOk, length, nat_abs, not, pos, slice_set};
-    ghost use Rattle.row_arena.specs.Arena.{AreFilled, IfWide, combined, has_room, live, row_at};
+    ghost use Rattle.row_arena.specs.Arena.{AreFilled, combined, has_room, live, row_at};
     ghost use Rattle.row_arena.specs.Rows.{IsRow, entry_at, most_entry, negated};
     ghost use Rattle.row_arena.specs.declared.wide.Wide.TheVariants.{Cells};
 
-    /// No rows, in room for so many rows and entries. It takes 24 bytes for each of the rows, and
-    /// nothing yet for their entries.
+    /// No rows, in room for so many rows and entries. It takes 24 bytes for each of the rows and 84
+    /// for each of the cells, of which a call touches what it writes to.
     pub fn new(alloc: Global, rows: u32, cells: u32) -> Result<RowArena, OutOfMemory>
         ensures { IfOk result (λ arena. arena
             ≡ record { rows = []; most_rows = rows; cells = cells; filled = [] }) }
     {
         Ok(RowArena {
-            alloc,
-            rows: Vec::with_capacity(alloc, rows as usize)?,
+            shelf: Shelf::new(alloc, rows, half_of(cells))?,
             most_rows: rows,
             cells,
             live: 0,
-            wides: Vec::new(alloc),
-            filled: Vec::new(alloc),
+            wides: Vec::with_capacity(alloc, cells as usize)?,
+            filled: Vec::with_capacity(alloc, cells as usize)?,
         })
     }
 
@@ -93,7 +93,7 @@ impl RowArena {
         ensures count { result ≡ length self.now.rows }
         ensures few { length self.now.rows ≤ self.now.most_rows }
     {
-        count(&self.rows, self.most_rows)
+        count(&self.shelf, self.most_rows)
     }
 
     /// How many entries they have together, which is never more than the cells.
@@ -118,7 +118,7 @@ impl RowArena {
         ensures row { result.now ≡ row_at self.now.rows row }
         ensures valid { IsRow result.now }
     {
-        row_of(&self.rows, row as usize)
+        row_of(&self.shelf, row as usize)
     }
 
     /// What a row has in a column, 0 where it has no entry there. It looks by bisection.
@@ -131,10 +131,9 @@ impl RowArena {
         entry_in(self.row(row), column)
     }
 
-    /// Adds a row at the end, in a block of its own of 16 bytes for each entry. `Wide::Cells` comes
-    /// exactly where the entries that are there and these together pass the cells. After an error
-    /// all is as before.
-    pub fn push_row(&mut self, entries: &[Entry]) -> Result<(), Refused>
+    /// Adds a row at the end. `Wide::Cells` comes exactly where the entries that are there and these
+    /// together pass the cells. After an error all is as before. It takes no memory.
+    pub fn push_row(&mut self, entries: &[Entry]) -> Result<(), Wide>
         requires place { length self.old.rows < self.old.most_rows }
         requires valid { IsRow entries.now }
         ensures ok { OnOk result (self.new ≡ record {
@@ -144,14 +143,14 @@ impl RowArena {
           filled = self.old.filled;
         }) }
         ensures room { OnOk result (IsTrue (has_room self.old.cells self.old.rows entries.now)) }
-        ensures wide { IfErr result (λ refused. IfWide refused (λ wide.
+        ensures wide { IfErr result (λ wide.
             (wide ≡ Cells (live self.old.rows) (length entries.now))
-            × IsTrue (not (has_room self.old.cells self.old.rows entries.now)))) }
+            × IsTrue (not (has_room self.old.cells self.old.rows entries.now))) }
         ensures err { OnErr result (self.new ≡ self.old) }
     {
         let more = entries.len() as u64;
         check_room(self.live, more, self.cells)?;
-        add_row(&mut self.rows, self.alloc, entries)?;
+        self.shelf.push(entries);
         self.live += more;
         Ok(())
     }
@@ -166,7 +165,15 @@ impl RowArena {
           filled = self.old.filled;
         } }
     {
-        negate_row(&mut self.rows, row as usize);
+        self.shelf.negate(row as usize);
+    }
+
+    /// Lays all rows closely side by side, and leaves them as they are. Other calls see to that
+    /// where they need it. It takes no memory.
+    pub fn compact(&mut self)
+        ensures { self.new ≡ self.old }
+    {
+        self.shelf.compact();
     }
 
     /// Clears a column in the target by means of the pivot, which has a positive number there. The
@@ -175,17 +182,16 @@ impl RowArena {
     /// isn't divided. `Wide::Value` tells the first entry that is then further from 0 than
     /// `MOST_ENTRY`. Where there is none, `Wide::Cells` tells that the entries of all rows, the old
     /// target's among them, and those of the new one together pass the cells. After an error the
-    /// rows are as before. It takes memory where the target's block is too short for it, and where
-    /// no difference was as long before.
-    pub fn combine(&mut self, target: u32, pivot: u32, column: u32) -> Result<(), Refused>
+    /// rows are as before. It takes no memory.
+    pub fn combine(&mut self, target: u32, pivot: u32, column: u32) -> Result<(), Wide>
         requires target { target < length self.old.rows }
         requires pivot { pivot < length self.old.rows }
         requires apart { target ≢ pivot }
         requires above { pos 0 <ℤ entry_at (row_at self.old.rows pivot) column }
         ensures ok { OnOk result
             (combined self.old.cells self.old.rows target pivot column ≡ Ok self.new.rows) }
-        ensures wide { IfErr result (λ refused. IfWide refused (λ wide.
-            combined self.old.cells self.old.rows target pivot column ≡ Err wide)) }
+        ensures wide { IfErr result (λ wide.
+            combined self.old.cells self.old.rows target pivot column ≡ Err wide) }
         ensures err { OnErr result (self.new.rows ≡ self.old.rows) }
         ensures filled { OnOk result (AreFilled (row_at self.old.rows target)
             (row_at self.new.rows target) self.new.filled) }
@@ -196,14 +202,13 @@ impl RowArena {
         clear_in(
             &mut self.wides,
             &mut self.filled,
-            &self.rows,
+            &self.shelf,
             target as usize,
             pivot as usize,
             column,
-        )?;
+        );
         self.live = put(
-            &mut self.rows,
-            self.alloc,
+            &mut self.shelf,
             target as usize,
             &self.wides,
             self.live,
@@ -213,143 +218,128 @@ impl RowArena {
     }
 }
 
-// How many rows there are, where there are at most so many.
-fn count(rows: &[Row], most: u32) -> u32
-    requires { length rows.now ≤ most }
-    ensures { result ≡ length rows.now }
+// How long a half of the block is: half as much again as the entries that may be there, so that
+// there is room for many before all have to be laid closely again.
+fn half_of(cells: u32) -> usize
+    ensures enough { cells ≤ result }
+    ensures small { result < 2 ^ 34 }
 {
-    rows.len() as u32
+    cells as usize + cells as usize / 2
+}
+
+// How many rows there are, where there are at most so many.
+fn count(shelf: &Shelf, most: u32) -> u32
+    requires { length (rows_of shelf.now) ≤ most }
+    ensures { result ≡ length (rows_of shelf.now) }
+{
+    shelf.places.len() as u32
 }
 
 // The entries of a row.
-#[tactic(auto, using(crate::proofs::ArenaFacts::row_read, crate::proofs::ArenaFacts::row_valid))]
-fn row_of(rows: &[Row], row: usize) -> &[Entry]
-    requires within { row < length rows.now }
-    requires valid { All IsRow rows.now }
-    ensures row { result.now ≡ row_at rows.now row }
+#[tactic(auto, using(crate::proofs::ArenaFacts::row_at_valid))]
+fn row_of(shelf: &Shelf, row: usize) -> &[Entry]
+    requires shelf { IsShelf shelf.now }
+    requires within { row < length (rows_of shelf.now) }
+    requires valid { All IsRow (rows_of shelf.now) }
+    ensures row { result.now ≡ row_at (rows_of shelf.now) row }
     ensures valid { IsRow result.now }
 {
-    rows[row].entries()
+    shelf.row(row)
 }
 
 // Whether so many more entries fit.
-fn check_room(live: u64, more: u64, cells: u32) -> Result<(), Refused>
+fn check_room(live: u64, more: u64, cells: u32) -> Result<(), Wide>
     requires live { live < 2 ^ 32 }
     requires more { more < 2 ^ 63 }
     ensures ok { OnOk result (live + more ≤ cells) }
-    ensures err { IfErr result (λ e. (e ≡ refused.Wide (wide.Cells live more))
-        × (cells < live + more)) }
+    ensures err { IfErr result (λ e. (e ≡ wide.Cells live more) × (cells < live + more)) }
 {
     if live + more <= u64::from(cells) {
         Ok(())
     } else {
-        Err(Refused::Wide(Wide::Cells { live, more }))
+        Err(Wide::Cells { live, more })
     }
-}
-
-// Adds a row.
-fn add_row(rows: &mut Vec<Row>, alloc: Global, entries: &[Entry]) -> Result<(), OutOfMemory>
-    ensures ok { OnOk result (rows.new.items ≡ rows.old.items ++ entries.now ∷ []) }
-    ensures err { OnErr result (rows.new.items ≡ rows.old.items) }
-{
-    rows.push(Row::of(alloc, entries)?)?;
-    Ok(())
-}
-
-// Turns the signs of a row.
-#[tactic(auto, using(crate::proofs::ArenaFacts::row_read, crate::proofs::ArenaFacts::row_valid))]
-fn negate_row(rows: &mut Vec<Row>, row: usize)
-    requires within { row < length rows.old.items }
-    requires valid { All IsRow rows.old.items }
-    ensures { rows.new.items
-        ≡ slice_set rows.old.items row (negated (row_at rows.old.items row)) }
-{
-    rows[row].negate();
 }
 
 // Writes the target with the column cleared, and the columns that only the pivot has.
 fn clear_in(
     wides: &mut Vec<WideEntry>,
     filled: &mut Vec<u32>,
-    rows: &Vec<Row>,
+    shelf: &Shelf,
     target: usize,
     pivot: usize,
     column: u32,
-) -> Result<(), OutOfMemory>
-    requires target { target < length rows.now.items }
-    requires pivot { pivot < length rows.now.items }
-    requires valid { All IsRow rows.now.items }
-    ensures rows { OnOk result (entries_of wides.new.items
-        ≡ cleared column (row_at rows.now.items target) (row_at rows.now.items pivot)) }
-    ensures filled { OnOk result (AreFilledBy (row_at rows.now.items target)
-        (row_at rows.now.items pivot) (length (row_at rows.now.items pivot)) filled.new.items) }
+)
+    requires shelf { IsShelf shelf.now }
+    requires target { target < length (rows_of shelf.now) }
+    requires pivot { pivot < length (rows_of shelf.now) }
+    requires valid { All IsRow (rows_of shelf.now) }
+    requires wides_room { length (row_at (rows_of shelf.now) target)
+        + length (row_at (rows_of shelf.now) pivot) ≤ vec_capacity wides.old }
+    requires filled_room { length (row_at (rows_of shelf.now) pivot) ≤ vec_capacity filled.old }
+    ensures rows { entries_of wides.new.items
+        ≡ cleared column (row_at (rows_of shelf.now) target) (row_at (rows_of shelf.now) pivot) }
+    ensures filled { AreFilledBy (row_at (rows_of shelf.now) target)
+        (row_at (rows_of shelf.now) pivot) (length (row_at (rows_of shelf.now) pivot))
+        filled.new.items }
+    ensures wides_room { vec_capacity wides.old ≤ vec_capacity wides.new }
+    ensures filled_room { vec_capacity filled.old ≤ vec_capacity filled.new }
 {
     clear_column(
         wides,
         filled,
-        row_of(rows, target),
-        row_of(rows, pivot),
+        row_of(shelf, target),
+        row_of(shelf, pivot),
         column,
-    )
+    );
 }
 
 // Puts entries in the place of a row, where none is too far from 0 and there is room for them, and
 // says how many there are then.
 #[tactic(auto, using(crate::proofs::ArenaFacts::puts))]
 fn put(
-    rows: &mut Vec<Row>,
-    alloc: Global,
+    shelf: &mut Shelf,
     target: usize,
     wides: &Vec<WideEntry>,
     count: u64,
     cells: u32,
-) -> Result<u64, Refused>
-    requires target { target < length rows.old.items }
-    requires live { count ≡ live rows.old.items }
+) -> Result<u64, Wide>
+    requires shelf { IsShelf shelf.old }
+    requires half { cells ≤ shelf.old.half }
+    requires target { target < length (rows_of shelf.old) }
+    requires live { count ≡ live (rows_of shelf.old) }
     requires room { count ≤ cells }
+    ensures shelf { IsShelf shelf.new }
     ensures ok { OnOk result (replaced (find is_far (entries_of wides.now.items)) cells
-        rows.old.items target (entries_of wides.now.items) ≡ Ok rows.new.items) }
-    ensures live { IfOk result (λ now. now ≡ live rows.new.items) }
-    ensures wide { IfErr result (λ refused. IfWide refused (λ wide.
-        replaced (find is_far (entries_of wides.now.items)) cells rows.old.items target
-        (entries_of wides.now.items) ≡ Err wide)) }
-    ensures err { OnErr result (rows.new.items ≡ rows.old.items) }
+        (rows_of shelf.old) target (entries_of wides.now.items) ≡ Ok (rows_of shelf.new)) }
+    ensures live { IfOk result (λ now. now ≡ live (rows_of shelf.new)) }
+    ensures wide { IfErr result (λ wide.
+        replaced (find is_far (entries_of wides.now.items)) cells (rows_of shelf.old) target
+        (entries_of wides.now.items) ≡ Err wide) }
+    ensures err { OnErr result (rows_of shelf.new ≡ rows_of shelf.old) }
+    ensures half { shelf.new.half ≡ shelf.old.half }
+    ensures places { vec_capacity shelf.old.places ≤ vec_capacity shelf.new.places }
 {
     if let Some(far) = first_far(wides) {
-        return Err(Refused::Wide(Wide::Value {
+        return Err(Wide::Value {
             column: far.column,
             value: far.value,
-        }));
+        });
     }
     let more = wides.len() as u64;
     check_room(count, more, cells)?;
-    let before = length_of(rows, target);
-    write_row(rows, alloc, target, wides)?;
+    let before = length_of(shelf, target);
+    shelf.replace(target, wides);
     Ok(count + more - before)
 }
 
 // How many entries a row has.
-#[tactic(auto, using(crate::proofs::ArenaFacts::row_read, crate::proofs::ArenaFacts::live_of))]
-fn length_of(rows: &[Row], row: usize) -> u64
-    requires { row < length rows.now }
-    ensures length { result ≡ length (row_at rows.now row) }
-    ensures within { result ≤ live rows.now }
+#[tactic(auto, using(crate::proofs::ArenaFacts::live_of))]
+fn length_of(shelf: &Shelf, row: usize) -> u64
+    requires shelf { IsShelf shelf.now }
+    requires within { row < length (rows_of shelf.now) }
+    ensures length { result ≡ length (row_at (rows_of shelf.now) row) }
+    ensures within { result ≤ live (rows_of shelf.now) }
 {
-    rows[row].entries().len() as u64
-}
-
-// Writes the entries, none of which is too far from 0.
-fn write_row(
-    rows: &mut Vec<Row>,
-    alloc: Global,
-    target: usize,
-    wides: &[WideEntry],
-) -> Result<(), OutOfMemory>
-    requires target { target < length rows.old.items }
-    requires near { find is_far (entries_of wides.now) ≡ None }
-    ensures ok { OnOk result
-        (rows.new.items ≡ slice_set rows.old.items target (entries_of wides.now)) }
-    ensures err { OnErr result (rows.new.items ≡ rows.old.items) }
-{
-    rows[target].write(alloc, wides)
+    shelf.row(row).len() as u64
 }

@@ -1,5 +1,5 @@
 //! A column cleared in a row.
-ghost use Rattle.std.specs.Prelude.{◌≡◌, ◌<◌, ◌^◌, OnOk, length};
+ghost use Rattle.std.specs.Prelude.{◌≡◌, ◌<◌, ◌≤◌, ◌+◌, ◌^◌, length, vec_capacity};
 ghost use Rattle.row_arena.specs.Combining.{cleared, difference, divided};
 ghost use Rattle.row_arena.specs.Products.{AreFilledBy, AreNear, divided_by, entries_of};
 ghost use Rattle.row_arena.specs.Rows.{IsRow, entry_at};
@@ -9,7 +9,6 @@ use crate::entry::Entry;
 use crate::merging::merge;
 use crate::products::{Factors, WideEntry};
 use crate::row::entry_in;
-use flow_types::OutOfMemory;
 
 // Writes the target with the column cleared, and the columns that only the pivot has.
 pub fn clear_column(
@@ -18,18 +17,19 @@ pub fn clear_column(
     target: &[Entry],
     pivot: &[Entry],
     column: u32,
-) -> Result<(), OutOfMemory>
+)
     requires target { IsRow target.now }
     requires pivot { IsRow pivot.now }
-    ensures rows { OnOk result
-        (entries_of wides.new.items ≡ cleared column target.now pivot.now) }
-    ensures filled { OnOk result
-        (AreFilledBy target.now pivot.now (length pivot.now) filled.new.items) }
+    requires wides_room { length target.now + length pivot.now ≤ vec_capacity wides.old }
+    requires filled_room { length pivot.now ≤ vec_capacity filled.old }
+    ensures rows { entries_of wides.new.items ≡ cleared column target.now pivot.now }
+    ensures filled { AreFilledBy target.now pivot.now (length pivot.now) filled.new.items }
+    ensures wides_room { vec_capacity wides.old ≤ vec_capacity wides.new }
+    ensures filled_room { vec_capacity filled.old ≤ vec_capacity filled.new }
 {
     let by = factors(target, pivot, column);
-    merge(wides, filled, by, target, pivot)?;
+    merge(wides, filled, by, target, pivot);
     reduce(wides, by, target, pivot);
-    Ok(())
 }
 
 // What the pivot has in the column, and what the target has.

@@ -11,28 +11,38 @@
 //!             // Row 1 is 2 times itself less 5 times row 0: 15 in column 4, 2 in column 7.
 //!             for column in arena.filled() { .. }
 //!         }
-//!         Err(Refused::Wide(wide)) => .., // and the rows are as before
-//!         Err(Refused::OutOfMemory) => ..,
+//!         Err(wide) => .., // and the rows are as before
 //!     }
 //!
 //! A row is a list of entries by ascending column, none of them 0 and none further from 0 than
 //! `MOST_ENTRY`. The definitions stand in `specs/`: `Rows` (a row, and what it has in a column),
 //! `Combining` (the difference of two rows, its divisor, the row that is cleared), and `Arena` (the
-//! rows in their room, and what a call of `combine` makes of them). `Products` serves the proofs.
+//! rows in their room, and what a call of `combine` makes of them). `Products` and `Shelves` (how
+//! rows lie in their block) serve the proofs.
 //!
 //! Proved: `combine` makes exactly the row of the definition (`ok`), tells exactly the first entry
 //! that is too far from 0, or that there is no room (`wide`), keeps the rows in each error (`err`),
 //! and tells each column that the row has and its old one hadn't (`filled`). `push_row` adds
 //! exactly the row where there is room (`ok`, `room`), and where there is none tells that (`wide`).
-//! `negate` turns the signs of one row, and `entry` finds what a row has in a column. Each row is
-//! valid (`valid` of `row`), and there are never more entries than cells (`room` of `live`). For
+//! `negate` turns the signs of one row, `compact` changes nothing that can be read, and `entry`
+//! finds what a row has in a column. Each row is valid (`valid` of `row`), and there are never more entries than cells (`room` of `live`). For
 //! crates above, the modules `AboveFacts` and `RowFacts` of `proofs/` have lemmas on rows.
 //!
-//! Memory: 16 bytes for each entry, in a block of its own for each row, and once 32 bytes for each
-//! entry of the longest difference and 4 for each column that it filled, or up to twice that, since
-//! both lists grow. A block is kept while its row fits into it. Time: `combine` goes once over both
-//! rows, and then at most four times over what comes of them: for the divisor until it is 1, to
-//! divide if it isn't, to test the range and to write the row.
+//! All rows lie in one block of raw memory with two halves, side by side in one of them:
+//!
+//!     | row 0 | row 2    | old row 1 | row 3 | row 1 | free .. || the other half .. |
+//!     start                                          tail
+//!
+//! A row that still fits into its place is written there, another one at the tail, with a quarter of
+//! its length to grow into. Where the half is too short for that, all rows are first laid closely
+//! into the other half. A half has room for half as many entries again as there may be, so between
+//! two such steps at least a third as much is written as they move.
+//!
+//! Memory: all is taken by `new`: 24 bytes for each row, and for each of the cells 48 in the block
+//! and 36 for one row that is combined and the columns that it fills. What isn't written to isn't
+//! touched: some 16 to 40 bytes for each entry that is there, and 36 for each of the longest row.
+//! Time: `combine` goes once over both rows, and then at most four times over what comes of them:
+//! for the divisor until it is 1, to divide if it isn't, to test the range and to write the row.
 #![tactic(auto)]
 
 mod arena;
@@ -40,10 +50,12 @@ mod combining;
 mod dividing;
 mod entry;
 mod merging;
+mod place;
 mod products;
 mod row;
+mod shelf;
 mod wide;
 
 pub use arena::RowArena;
 pub use entry::{Entry, MOST_ENTRY};
-pub use wide::{Refused, Wide};
+pub use wide::Wide;

@@ -1,10 +1,9 @@
 //! Entries before their row is divided.
-ghost use Rattle.std.specs.Prelude.{◌≡◌, ◌≤◌, ◌<◌, ◌^◌, ◌++◌, ◌*ℤ◌, ◌-ℤ◌, OnOk, nat_abs, pos};
+ghost use Rattle.std.specs.Prelude.{◌≡◌, ◌≤◌, ◌<◌, ◌+◌, ◌^◌, ◌++◌, ◌*ℤ◌, ◌-ℤ◌, length, nat_abs, pos, vec_capacity};
 ghost use Rattle.row_arena.specs.Products.{AreNear, entries_of};
 ghost use Rattle.row_arena.specs.Rows.{most_entry, unless_zero};
 
 use crate::entry::Entry;
-use flow_types::OutOfMemory;
 
 /// A number in a column, as wide as a difference of two products.
 #[derive(Clone, Copy, Debug, PartialEq, Eq)]
@@ -22,14 +21,16 @@ pub struct Factors {
 
 // Adds an entry, where it isn't 0.
 #[inline(always)]
-pub fn add(out: &mut Vec<WideEntry>, entry: WideEntry) -> Result<(), OutOfMemory>
-    ensures { OnOk result (entries_of out.new.items
-        ≡ entries_of out.old.items ++ unless_zero entry.column entry.value) }
+pub fn add(out: &mut Vec<WideEntry>, entry: WideEntry)
+    requires room { length out.old.items < vec_capacity out.old }
+    ensures rows { entries_of out.new.items
+        ≡ entries_of out.old.items ++ unless_zero entry.column entry.value }
+    ensures count { length out.new.items ≤ length out.old.items + 1 }
+    ensures room { vec_capacity out.old ≤ vec_capacity out.new }
 {
     if entry.value != 0 {
-        out.push(entry)?;
+        let _ = out.push(entry);
     }
-    Ok(())
 }
 
 // What is of the target alone.

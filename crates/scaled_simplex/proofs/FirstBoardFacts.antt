@@ -9,10 +9,7 @@ use Rattle.std.proofs.lemmas.List.FromFn.{get_or-range_with_len, length-range_wi
 use Rattle.std.proofs.lemmas.List.Sums.{sum_by-take-le, sum_by_push}
 use Rattle.number_set.specs.Numbers.{IsChanged, has}
 use Rattle.row_arena.specs.declared.entry.Entry.{Entry}
-use Rattle.row_arena.specs.declared.wide.Refused.{Refused}
-use Rattle.row_arena.specs.declared.wide.Refused.TheVariants as refused
-use Rattle.row_arena.specs.declared.wide.Wide.TheVariants.{Cells}
-use Rattle.row_arena.specs.Arena.{IfWide, has_room, live, row_at}
+use Rattle.row_arena.specs.Arena.{has_room, live, row_at}
 use Rattle.row_arena.specs.Rows.{IsRow, entry_at, most_entry, row_from, unless_zero}
 use Rattle.scaled_simplex.specs.declared.basis.Basis.{Basis}
 use Rattle.scaled_simplex.specs.declared.board.Board.{Board}
@@ -103,16 +100,12 @@ module _ (problem : Problem) where
         ∙ sym (rows_more problem k constraint small)
 
     -- no room for it is none for all of them
-    pub constraints_refused : (cells : ℕ) (rows : List (List Entry)) (row : List Entry)
-        (reason : Refused) → rows ≡ constraint_rows problem 0 (take k problem.constraints)
-        → row ≡ constraint_row problem k constraint
-        → IfWide reason (λ wide. (wide ≡ Cells (live rows) (length row))
-        × IsTrue (not (has_room cells rows row)))
-        → IfWide reason (λ _. cells
-        < live (constraint_rows problem 0 problem.constraints))
-    constraints_refused cells rows row refused.OutOfMemory rows_is row_is why = why
-    constraints_refused cells rows row (refused.Wide wide) rows_is row_is why =
-        let over = no_room cells rows row why.1 in
+    pub constraints_wide : (cells : ℕ) (rows : List (List Entry)) (row : List Entry)
+        → rows ≡ constraint_rows problem 0 (take k problem.constraints)
+        → row ≡ constraint_row problem k constraint → IsTrue (not (has_room cells rows row))
+        → cells < live (constraint_rows problem 0 problem.constraints)
+    constraints_wide cells rows row rows_is row_is full =
+        let over = no_room cells rows row full in
         let more : live rows + length row
         ≡ live (constraint_rows problem 0 (take (k + 1) problem.constraints)) =
         sym (sum_by_push length rows row)
@@ -139,15 +132,11 @@ module _ (problem : Problem) where
   all_live =
       sum_by_push length (constraint_rows problem 0 problem.constraints) (cost_row problem)
 
-  pub costs_refused : (cells : ℕ) (rows : List (List Entry)) (row : List Entry)
-      (reason : Refused) → rows ≡ constraint_rows problem 0 problem.constraints
-      → row ≡ cost_row problem
-      → IfWide reason (λ wide. (wide ≡ Cells (live rows) (length row))
-      × IsTrue (not (has_room cells rows row)))
-      → IfWide reason (λ _. cells < live (first_tableau problem).rows)
-  costs_refused cells rows row refused.OutOfMemory rows_is row_is why = why
-  costs_refused cells rows row (refused.Wide wide) rows_is row_is why =
-      let over = no_room cells rows row why.1 in
+  pub costs_wide : (cells : ℕ) (rows : List (List Entry)) (row : List Entry)
+      → rows ≡ constraint_rows problem 0 problem.constraints → row ≡ cost_row problem
+      → IsTrue (not (has_room cells rows row)) → cells < live (first_tableau problem).rows
+  costs_wide cells rows row rows_is row_is full =
+      let over = no_room cells rows row full in
       let more : live rows + length row ≡ live (first_tableau problem).rows =
       sym (sum_by_push length rows row)
       ∙ ap₂ (λ (l : List (List Entry)) (r : List Entry). live (l ++ r ∷ [])) rows_is row_is in

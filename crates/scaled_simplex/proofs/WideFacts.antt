@@ -1,8 +1,8 @@
 -- Errors that are handed on.
-use Rattle.row_arena.specs.declared.wide.Refused.{Refused}
-use Rattle.row_arena.specs.declared.wide.Refused.TheVariants as refused
+use Rattle.scaled_simplex.specs.declared.refused.Refused.{Refused}
+use Rattle.scaled_simplex.specs.declared.refused.Refused.TheVariants as refused
 use Rattle.row_arena.specs.declared.wide.Wide.{Wide}
-use Rattle.row_arena.specs.Arena.{IfWide}
+use Rattle.scaled_simplex.specs.Refusals.{IfWide}
 
 -- what is said of the reason, where it isn't want of memory
 pub wide_map : (why : Refused) (P Q : Wide → Type 0) → ((wide : Wide) → P wide → Q wide)

@@ -9,6 +9,7 @@ pub mod Multipliers
 pub mod Points
 pub mod Program
 pub mod Ratios
+pub mod Refusals
 pub mod Run
 pub mod Search
 pub mod Solving

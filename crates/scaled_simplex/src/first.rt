@@ -1,11 +1,12 @@
 //! The first tableau.
 ghost use Rattle.std.specs.Prelude.{◌≡◌, ◌<◌, ◌≤◌, ◌+◌, ◌++◌, [], IfErr, IfOk, OnOk, length, nat_abs, neg_ℤ, pos, slice_index_or};
 ghost use Rattle.std.specs.List.{range_with_len};
-ghost use Rattle.row_arena.specs.Arena.{IfWide, live};
+ghost use Rattle.row_arena.specs.Arena.{live};
 ghost use Rattle.row_arena.specs.Rows.{most_entry, negated_entry, row_from, unless_zero};
 ghost use Rattle.scaled_simplex.specs.Board.{AreFound};
 ghost use Rattle.scaled_simplex.specs.BoardOf.{IsBoard, tableau_of};
 ghost use Rattle.scaled_simplex.specs.Program.{IsProblem, columns};
+ghost use Rattle.scaled_simplex.specs.Refusals.{IfWide};
 ghost use Rattle.scaled_simplex.specs.Tableau.{constraint_row, constraint_rows, cost_row, first_tableau};
 
 use crate::basis::Basis;
@@ -13,8 +14,9 @@ use crate::board::Board;
 use crate::listing::lists_of;
 use crate::pivots::is_negative;
 use crate::program::{Constraint, Program};
+use crate::refused::Refused;
 use flow_types::OutOfMemory;
-use row_arena::{Entry, Refused, RowArena};
+use row_arena::{Entry, RowArena};
 use std::alloc::Global;
 
 /// The first tableau of the program, in room for so many entries. `Refused::Wide` comes exactly

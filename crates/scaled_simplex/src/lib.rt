@@ -38,9 +38,9 @@
 //! when it has become long.
 //!
 //! Memory: a program takes 8 bytes for each column, 16 for each factor and some 40 for each row; a
-//! run 16 for each entry, up to four times that where rows have become shorter, 4 for each row in
-//! the lists (at most some four times the entries), 24 for each index, and 32 for each entry of the
-//! longest row, or up to twice that, since the lists grow.
+//! run 84 for each of the cells, of which it touches some 16 to 40 for each entry of its tableau and
+//! 36 for each of the longest row (`row_arena`), 4 for each row in the lists (at most some four
+//! times the entries, or up to twice that, since the lists grow), and 24 for each index.
 #![tactic(auto)]
 
 mod basis;
@@ -58,6 +58,7 @@ mod multiples;
 mod pivots;
 mod program;
 mod ratio;
+mod refused;
 mod solver;
 mod steps;
 

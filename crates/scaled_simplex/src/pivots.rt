@@ -1,17 +1,19 @@
 //! A pivot.
 ghost use Rattle.std.specs.Prelude.{◌≡◌, ◌≢◌, ◌<◌, ◌<ℤ◌, ◌+◌, Err, IfErr, Ok, OnErr, OnOk, Some, int_lt, length, pos, set};
 ghost use Rattle.scaled_simplex.specs.Tableau.{right_side};
-ghost use Rattle.row_arena.specs.Arena.{IfWide, combined, row_at};
+ghost use Rattle.row_arena.specs.Arena.{combined, row_at};
 ghost use Rattle.row_arena.specs.Rows.{entry_at, negated};
 ghost use Rattle.scaled_simplex.specs.Board.{IsBasic};
 ghost use Rattle.scaled_simplex.specs.BoardOf.{CanSweep, IsAlone, IsBoard, IsChosen, IsTodo, KeepsBoard, tableau_of};
+ghost use Rattle.scaled_simplex.specs.Refusals.{IfWide};
 ghost use Rattle.scaled_simplex.specs.Run.{pivoted, right_at, swept, swept_at};
 
 use crate::board::Board;
 use crate::listing::{add_filled, lists_of, sorted_rows};
 use crate::program::Program;
+use crate::refused::Refused;
 use flow_types::OutOfMemory;
-use row_arena::{Refused, RowArena};
+use row_arena::{RowArena, Wide};
 use std::alloc::Global;
 
 // Clears the row by the pivot row, if it has an entry at the index.
@@ -128,14 +130,14 @@ fn turn_round(board: &mut Board, program: &Program, row: u32, index: u32)
 }
 
 // Clears the cost row by the pivot row, also where it has no entry at the index.
-fn clear_costs(board: &mut Board, program: &Program, pivot: u32, index: u32) -> Result<(), Refused>
+fn clear_costs(board: &mut Board, program: &Program, pivot: u32, index: u32) -> Result<(), Wide>
     requires board { IsBoard program.now board.old }
     requires can { CanSweep program.now pivot index board.old }
     ensures ok { OnOk result (combined board.old.arena.cells board.old.arena.rows
         (length program.now.constraints) pivot index ≡ Ok board.new.arena.rows) }
     ensures board { IsBoard program.now board.new }
-    ensures wide { IfErr result (λ refused. IfWide refused (λ wide. combined board.old.arena.cells
-        board.old.arena.rows (length program.now.constraints) pivot index ≡ Err wide)) }
+    ensures wide { IfErr result (λ wide. combined board.old.arena.cells board.old.arena.rows
+        (length program.now.constraints) pivot index ≡ Err wide) }
     ensures err { OnErr result (board.new.arena.rows ≡ board.old.arena.rows) }
     ensures count { length board.new.arena.rows ≡ length board.old.arena.rows }
     ensures cells { board.new.arena.cells ≡ board.old.arena.cells }

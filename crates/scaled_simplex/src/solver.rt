@@ -10,9 +10,9 @@ use crate::ending::Ending;
 use crate::first::first_board;
 use crate::fractions::{Fractions, fractions_of};
 use crate::program::Program;
+use crate::refused::Refused;
 use crate::steps::run_from;
 use flow_types::{OutOfMemory, Sequence};
-use row_arena::Refused;
 use std::alloc::Global;
 use std::marker::Model;
 
@@ -63,7 +63,8 @@ impl<'a> Solver<'a> {
     ghost use Rattle.scaled_simplex.specs.Run.{simplex_run};
     ghost use Rattle.scaled_simplex.specs.declared.end.End.TheVariants.{Optimal};
 
-    /// The first tableau of the program. It takes 16 bytes for each of its entries.
+    /// The first tableau of the program. It takes 84 bytes for each of the cells, of which it touches
+    /// some 16 for each of its entries, and 24 for each index.
     pub fn new(alloc: Global, program: &'a Program, cells: u32) -> Result<Solver<'a>, OutOfMemory>
         ensures { IfOk result (λ solver. solver
             ≡ record { problem = program.now; cells = cells }) }

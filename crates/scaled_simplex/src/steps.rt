@@ -14,8 +14,8 @@ use crate::iteration::Iteration;
 use crate::iterations::iteration_of;
 use crate::pivots::{pivot, renew_lists};
 use crate::program::Program;
+use crate::refused::Refused;
 use flow_types::OutOfMemory;
-use row_arena::Refused;
 use std::alloc::Global;
 
 /// Runs from the tableau on, with so many pivots at the most. After an error the tableau may be

@@ -2,7 +2,7 @@ use Rattle.std.proofs.Common.{◌++◌, ◌∷◌, [], List, ap, ap₂, arith, g
 use Rattle.std.proofs.lemmas.Result.{err_from_is_err_and}
 use Rattle.row_arena.specs.declared.entry.Entry.{Entry}
 use Rattle.row_arena.specs.Rows.{IsRow}
-use Rattle.scaled_simplex.proofs.FirstBoardFacts.{constraint_is_row, constraints_refused, rows_before, rows_pushed}
+use Rattle.scaled_simplex.proofs.FirstBoardFacts.{constraint_is_row, constraints_wide, rows_before, rows_pushed}
 use Rattle.scaled_simplex.proofs.first.push_constraints.Goals as goal
 
 pub push_row-requires-clause-place : goal.push_row-requires-clause-place
@@ -28,10 +28,10 @@ returns-in_err-push_row-clause-wide c =
     let p = err_from_is_err_and c.from_residual-in_err-push_row.result
     c.from_residual-in_err-push_row.ensures.1 in
     rw (p.1, p.2, ← c.loop-k.invariant.cells)
-    (constraints_refused c.args.program.now c.loop-k.k constraint (omega arith) is
-    c.loop-k.arena.cells c.loop-k.arena.rows c.deref.result.now c.in_err-push_row.field-0.0
+    (constraints_wide c.args.program.now c.loop-k.k constraint (omega arith) is
+    c.loop-k.arena.cells c.loop-k.arena.rows c.deref.result.now
     c.loop-k.invariant.rows (c.deref.ensures.value ∙ c.in_ok-write_constraint.ensures)
-    c.in_err-push_row.ensures.wide)
+    c.in_err-push_row.ensures.wide.1)
 
 pub loop-k-preserved : goal.loop-k-preserved
 loop-k-preserved c =

@@ -1,9 +1,7 @@
-use Rattle.std.proofs.Common.{◌≡◌, ◌+◌, Err, Ok, length, subst, ◌∙◌}
+use Rattle.std.proofs.Common.{◌≡◌, Err, Ok, length, subst, ◌∙◌}
 use Rattle.std.proofs.lemmas.Result.{err_from_is_err_and}
 use Rattle.row_arena.specs.Arena.{combined}
-use Rattle.scaled_simplex.specs.Run.{swept}
 use Rattle.scaled_simplex.proofs.SweepFacts.{swept_costs}
-use Rattle.scaled_simplex.proofs.WideFacts.{wide_map}
 use Rattle.scaled_simplex.proofs.pivots.clear_others.Goals as goal
 
 pub returns-in_err-clear_costs-clause-wide : goal.returns-in_err-clear_costs-clause-wide
@@ -14,15 +12,10 @@ returns-in_err-clear_costs-clause-wide c =
     let old = c.args.board.now.arena in
     let now = c.sweep.new.board.arena in
     rw (exit.1, exit.2)
-    (wide_map c.in_err-clear_costs.field-0.0
-    (λ wide. combined now.cells now.rows (length problem.constraints) c.args.pivot c.args.index
-    ≡ Err wide)
-    (λ wide. swept problem old.cells c.args.pivot c.args.index 0 (length problem.constraints + 1)
-    old.rows ≡ Err wide)
-    (λ wide is. swept_costs problem old.cells c.args.pivot c.args.index old.rows now.rows
+    (swept_costs problem old.cells c.args.pivot c.args.index old.rows now.rows
     c.requires.can.within c.in_ok-sweep.ensures.ok
     ∙ subst (λ cells. combined cells now.rows (length problem.constraints) c.args.pivot
-    c.args.index ≡ Err wide) c.sweep.ensures.keeps.cells is)
+    c.args.index ≡ Err c.in_err-clear_costs.field-0.0) c.sweep.ensures.keeps.cells
     c.in_err-clear_costs.ensures.wide)
 
 pub returns-clause-ok : goal.returns-clause-ok

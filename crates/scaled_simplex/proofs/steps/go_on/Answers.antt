@@ -1,5 +1,6 @@
 use Rattle.std.proofs.Common.{◌≡◌, Err, length, subst, sym}
-use Rattle.row_arena.specs.Arena.{IfWide, row_at}
+use Rattle.row_arena.specs.Arena.{row_at}
+use Rattle.scaled_simplex.specs.Refusals.{IfWide}
 use Rattle.scaled_simplex.specs.declared.end.End.TheVariants.{Wide as TooWide}
 use Rattle.scaled_simplex.specs.Run.{pivoted}
 use Rattle.scaled_simplex.specs.Steps.{IsTelling}
