@@ -15,6 +15,8 @@
 #[cfg(test)]
 mod programs;
 #[cfg(test)]
+mod rows;
+#[cfg(test)]
 mod runs;
 #[cfg(test)]
 mod table;

@@ -16,7 +16,8 @@ pub fn sides_of<'a>(text: &'a str, between: &str) -> Result<(&'a str, &'a str), 
     }
 }
 
-fn numbers_of(alloc: Global, text: &str) -> Result<Vec<i64>, Fail> {
+/// Numbers with spaces between.
+pub fn numbers_of(alloc: Global, text: &str) -> Result<Vec<i64>, Fail> {
     let mut numbers = Vec::new(alloc);
     for word in text.split_whitespace() {
         numbers.push(word.parse::<i64>()?)?;
@@ -79,8 +80,8 @@ fn add_term(terms: &mut Vec<Entry>, columns: u32, column: u32, factor: i64) -> R
     }
 }
 
-// The terms with these factors, column by column.
-fn terms_of(alloc: Global, columns: u32, factors: &[i64]) -> Result<Vec<Entry>, Fail>
+/// The terms with these factors, column by column.
+pub fn terms_of(alloc: Global, columns: u32, factors: &[i64]) -> Result<Vec<Entry>, Fail>
     ensures row { IfOk result (λ terms. IsRow terms.items) }
     ensures within { IfOk result (λ terms. All (λ term. term.column < columns) terms.items) }
 {
