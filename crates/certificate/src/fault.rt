@@ -17,9 +17,9 @@ pub enum TextCause {
     /// A field isn't there, is one too many, isn't of its form or out of its range; in a trip, a
     /// flight that isn't the next one, or a place where it has no node.
     BadField,
-    /// A row of a leaf, or a cut, isn't above the one before it. A reader asks that of rows alone.
+    /// A row of a leaf, or a cut, isn't above the one before it.
     Order,
-    /// There is no such cut. A reader doesn't ask that.
+    /// There is no such cut.
     BadCut,
     /// Something stands behind the last line.
     AfterEnd,
