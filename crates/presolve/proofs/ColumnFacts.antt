@@ -11,7 +11,7 @@ use Rattle.flow_types.specs.declared.flight.Leg.{Leg}
 use Rattle.flow_types.specs.declared.parts.Parts.{Parts}
 use Rattle.flow_types.specs.Trips.{earliest_of, latest_of}
 use Rattle.flow_types.specs.Valid.{IsScenario}
-use Rattle.scaled_simplex.proofs.Products.{linear}
+use Rattle.row_arena.proofs.WholeLaws.{linear}
 use Rattle.time_windows.specs.declared.access.Window.{Window}
 use Rattle.time_windows.specs.Boxes.{Box, IsBoxOf, IsWindowWithin, closed, root_box, root_row}
 use Rattle.bytime_model.specs.declared.left.Left.{Left}

@@ -13,7 +13,7 @@ use Rattle.flow_types.specs.declared.parts.Parts.{Parts}
 use Rattle.flow_types.specs.Valid.{IsScenario}
 use Rattle.row_arena.specs.declared.entry.Entry.{Entry}
 use Rattle.row_arena.specs.Rows.{IsRow, entry_at, unless_zero}
-use Rattle.scaled_simplex.proofs.Products.{linear}
+use Rattle.row_arena.proofs.WholeLaws.{linear}
 use Rattle.scaled_simplex.proofs.EntryLaws.{entry_append, unless_other, unless_same}
 use Rattle.time_windows.specs.Boxes.{Box}
 use Rattle.bytime_model.specs.declared.variables.Term.{Term}

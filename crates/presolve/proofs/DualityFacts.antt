@@ -13,7 +13,7 @@ use Rattle.scaled_simplex.specs.Multipliers.{AreMultipliers, weighted}
 use Rattle.scaled_simplex.specs.Points.{costs_at, point_cost, terms_at}
 use Rattle.scaled_simplex.specs.Program.{Constraint, Problem, columns}
 use Rattle.scaled_simplex.proofs.EntryLaws.{value_other, value_same}
-use Rattle.scaled_simplex.proofs.Products.{less_times, linear, low_times, sum_times, times_assoc, times_less, times_sum, zero_times}
+use Rattle.row_arena.proofs.WholeLaws.{less_times, linear, low_times, sum_times, times_assoc, times_less, times_sum, zero_times}
 use Rattle.presolve.proofs.SumLaws.{range_low, range_one, total_same, total_times, total_zero}
 
 module _ (numerator : ℕ → ℤ) (denominator : ℤ) where

@@ -10,7 +10,7 @@ use Rattle.exact_sums.specs.Sums.{total}
 use Rattle.exact_sums.proofs.SumFacts.{total-append}
 use Rattle.row_arena.specs.declared.entry.Entry.{Entry}
 use Rattle.row_arena.specs.Rows.{unless_zero}
-use Rattle.scaled_simplex.proofs.Products.{less_is, less_isnt, less_times, linear, neg_times, sum_times, times_less, zero_times}
+use Rattle.row_arena.proofs.WholeLaws.{less_is, less_isnt, less_times, linear, neg_times, sum_times, times_less, zero_times}
 use Rattle.scaled_simplex.specs.Points.{terms_at}
 use Rattle.scaled_simplex.specs.Program.{Constraint}
 use Rattle.bytime_model.specs.declared.variables.Var.{Var}

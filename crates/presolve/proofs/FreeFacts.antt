@@ -9,7 +9,7 @@ use Rattle.exact_sums.specs.Sums.{total}
 use Rattle.flow_types.specs.declared.flight.Flight.{Flight}
 use Rattle.flow_types.specs.declared.parts.Parts.{Parts}
 use Rattle.flow_types.specs.Valid.{IsScenario}
-use Rattle.scaled_simplex.proofs.Products.{linear}
+use Rattle.row_arena.proofs.WholeLaws.{linear}
 use Rattle.time_windows.specs.Boxes.{Box, IsBoxOf}
 use Rattle.bytime_model.specs.declared.left.Left.{Left}
 use Rattle.bytime_model.specs.declared.left.Left.TheVariants.{Free, One, Same, Zero}

@@ -13,7 +13,7 @@ use Rattle.flow_types.specs.declared.parts.Parts.{Parts}
 use Rattle.row_arena.specs.declared.entry.Entry.{Entry}
 use Rattle.row_arena.specs.Rows.{entry_at, unless_zero, value_in}
 use Rattle.scaled_simplex.proofs.EntryLaws.{value_other, value_same}
-use Rattle.scaled_simplex.proofs.Products.{linear}
+use Rattle.row_arena.proofs.WholeLaws.{linear}
 use Rattle.time_windows.specs.Boxes.{Box}
 use Rattle.bytime_model.specs.declared.variables.Term.{Term}
 use Rattle.bytime_model.specs.declared.variables.Var.{Var}

@@ -6,7 +6,7 @@ use Rattle.exact_sums.specs.Sums.{total}
 use Rattle.exact_sums.proofs.SumFacts.{total-both}
 use Rattle.flow_types.specs.declared.parts.Parts.{Parts}
 use Rattle.flow_types.specs.Valid.{IsScenario}
-use Rattle.scaled_simplex.proofs.Products.{linear, sum_times, times_zero, zero_times}
+use Rattle.row_arena.proofs.WholeLaws.{linear, sum_times, times_zero, zero_times}
 use Rattle.time_windows.specs.Boxes.{Box, IsBoxOf}
 use Rattle.bytime_model.specs.declared.left.Left.{Left}
 use Rattle.bytime_model.specs.declared.left.Left.TheVariants.{Free, One, Same, Zero}

@@ -13,7 +13,7 @@ use Rattle.flow_types.specs.declared.parts.Parts.{Parts}
 use Rattle.flow_types.specs.Valid.{IsScenario}
 use Rattle.scaled_simplex.specs.Points.{point_cost}
 use Rattle.scaled_simplex.specs.Program.{columns}
-use Rattle.scaled_simplex.proofs.Products.{less_times, linear, sum_times}
+use Rattle.row_arena.proofs.WholeLaws.{less_times, linear, sum_times}
 use Rattle.time_windows.specs.Boxes.{Box, IsBoxOf}
 use Rattle.time_windows.specs.Tight.{IsTight}
 use Rattle.time_windows.proofs.AnyFacts.{any_here, any_there}

@@ -10,7 +10,7 @@ use Rattle.flow_types.specs.Valid.{IsScenario}
 use Rattle.row_arena.specs.declared.entry.Entry.{Entry}
 use Rattle.scaled_simplex.specs.Points.{ConstraintHolds, IsProgramPoint, point_cost, terms_at}
 use Rattle.scaled_simplex.specs.Program.{Constraint}
-use Rattle.scaled_simplex.proofs.Products.{less_is, less_isnt, less_times, linear, low_times, neg_times, one_times, sum_times, times_less, zero_times}
+use Rattle.row_arena.proofs.WholeLaws.{less_is, less_isnt, less_times, linear, low_times, neg_times, one_times, sum_times, times_less, zero_times}
 use Rattle.time_windows.specs.Boxes.{Box, IsBoxOf}
 use Rattle.time_windows.specs.Tight.{IsTight}
 use Rattle.bytime_model.specs.declared.left.Left.{Left}

@@ -11,7 +11,7 @@ use Rattle.row_arena.specs.declared.entry.Entry.{Entry}
 use Rattle.scaled_simplex.specs.Multipliers.{AreMultipliers, weighted}
 use Rattle.scaled_simplex.specs.Points.{point_cost}
 use Rattle.scaled_simplex.specs.Program.{Constraint, columns}
-use Rattle.scaled_simplex.proofs.Products.{linear, low_times, one_times, times_neg, times_one, zero_times}
+use Rattle.row_arena.proofs.WholeLaws.{linear, low_times, one_times, times_neg, times_one, zero_times}
 use Rattle.time_windows.specs.Boxes.{Box, IsBoxOf}
 use Rattle.time_windows.specs.Tight.{IsTight}
 use Rattle.bytime_model.specs.declared.left.Left.{Left}

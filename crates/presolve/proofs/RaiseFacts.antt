@@ -9,7 +9,7 @@ use Rattle.std.proofs.lemmas.List.Sums.{sum_by-cons, sum_by-insert, sum_by-set}
 use Rattle.std.specs.List.{insert}
 use Rattle.row_arena.specs.declared.entry.Entry.{Entry}
 use Rattle.row_arena.specs.Rows.{entry_at, value_in}
-use Rattle.scaled_simplex.proofs.Products.{linear}
+use Rattle.row_arena.proofs.WholeLaws.{linear}
 use Rattle.presolve.specs.Gathering.{IsAscending, IsFound, IsPlace, IsRaised, size_of}
 
 -- no entry is larger than all together

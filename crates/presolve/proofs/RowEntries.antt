@@ -4,7 +4,7 @@ use Rattle.std.proofs.lemmas.Bool.{cases_lt}
 use Rattle.row_arena.specs.declared.entry.Entry.{Entry}
 use Rattle.row_arena.specs.Rows.{IsRow, entry_at}
 use Rattle.scaled_simplex.proofs.EntryLaws.{value_other, value_same}
-use Rattle.scaled_simplex.proofs.Products.{linear}
+use Rattle.row_arena.proofs.WholeLaws.{linear}
 use Rattle.presolve.specs.Listing.{IsAt, IsWalked}
 
 any_default : (xs : List Entry) (k : ℕ) (a b : Entry) → k < length xs

@@ -4,7 +4,7 @@ use Rattle.std.proofs.lemmas.Bool.Decides.{eqb_tells}
 use Rattle.std.specs.List.{flat_map, range_with_len}
 use Rattle.exact_sums.specs.Sums.{total}
 use Rattle.exact_sums.proofs.SumFacts.{total-append}
-use Rattle.scaled_simplex.proofs.Products.{linear, sum_times, times_sum, times_zero, zero_times}
+use Rattle.row_arena.proofs.WholeLaws.{linear, sum_times, times_sum, times_zero, zero_times}
 
 module _ {A : Type 0} where
   pub total_same : (f g : A → ℤ) (xs : List A) → ((x : A) → f x ≡ g x) → total f xs ≡ total g xs

@@ -6,7 +6,7 @@ use Rattle.std.proofs.lemmas.List.Sums.{AllPass-from_list_all}
 use Rattle.flow_types.specs.declared.parts.Parts.{Parts}
 use Rattle.scaled_simplex.specs.Points.{IsProgramPoint, point_cost, terms_at}
 use Rattle.scaled_simplex.specs.Program.{Constraint}
-use Rattle.scaled_simplex.proofs.Products.{less_isnt, linear}
+use Rattle.row_arena.proofs.WholeLaws.{less_isnt, linear}
 use Rattle.time_windows.specs.declared.access.Access.{Access}
 use Rattle.time_windows.specs.declared.access.Window.{Window}
 use Rattle.time_windows.specs.Boxes.{Box}

@@ -1,5 +1,5 @@
 //! Counting the entries of a tableau while its program is made.
-ghost use Rattle.std.specs.Prelude.{◌≡◌, true};
+ghost use Rattle.std.specs.Prelude.{◌≡◌, ◌↔◌, IsTrue};
 ghost use Rattle.presolve.specs.Counting.{IsPast};
 ghost use Rattle.presolve.specs.declared.tally.Refused.TheVariants as refused;
 
@@ -32,6 +32,7 @@ pub struct Tally {
 impl Tally {
     ghost use Rattle.std.specs.Prelude.{◌≡◌, ◌+◌, ◌*◌, IfErr, OnOk};
     ghost use Rattle.presolve.specs.Counting.{IfWide, IsCounted, IsPast};
+    ghost use Rattle.presolve.specs.declared.tally.Refused.TheVariants as refused;
 
     /// No entries yet.
     pub fn new(cells: Option<u32>) -> Tally
@@ -45,6 +46,8 @@ impl Tally {
         ensures counted { OnOk result (IsCounted (count * each) self.old self.new) }
         ensures wide { IfErr result (λ refused. IfWide refused
             (IsPast self.old.cells (self.old.entries + count * each))) }
+        ensures room { OnOk result (IsPast self.new.cells self.new.entries → ⊥) }
+        ensures only { IfErr result (λ why. why ≡ refused.Wide) }
     {
         let more = (count as u64).saturating_mul(each);
         self.entries = self.entries.saturating_add(more);
@@ -57,7 +60,7 @@ impl Tally {
 
 // Whether so many entries are too many.
 fn is_past(cells: Option<u32>, entries: u64) -> bool
-    ensures { result ≡ true → IsPast cells entries }
+    ensures { IsTrue result ↔ IsPast cells entries }
 {
     match cells {
         None => false,

@@ -13,7 +13,7 @@ use Rattle.scaled_simplex.specs.Points.{point_cost}
 use Rattle.scaled_simplex.specs.Program.{Problem}
 use Rattle.scaled_simplex.specs.Run.{Outcome, is_infeasible, simplex_run, value_in, weight_in}
 use Rattle.scaled_simplex.proofs.CutRuns.{HasReached, run_reached}
-use Rattle.scaled_simplex.proofs.Products.{less_is, less_times, low_back, low_times, times_assoc, times_comm, times_less}
+use Rattle.row_arena.proofs.WholeLaws.{less_is, less_times, low_back, low_times, times_assoc, times_comm, times_less}
 use Rattle.time_windows.specs.Boxes.{Box, IsBoxOf}
 use Rattle.time_windows.specs.Tight.{IsTight}
 use Rattle.bytime_model.specs.declared.multiplier.Multiplier.{Multiplier}

@@ -102,7 +102,7 @@ fn run_program(
         (simplex_run program.now limits.pivots limits.cells cutoff) ended.fractions) }
 {
     let solver = Solver::new(alloc, program, limits.cells)?;
-    let run = solver.run(limits.pivots, cutoff)?;
+    let run = solver.run(limits.pivots, cutoff);
     let end = run.end();
     let fractions = fractions_of(alloc, &run)?;
     let weights = run.multipliers(alloc)?;
@@ -195,9 +195,8 @@ fn bare_leaf(alloc: Global) -> Leaf
 /// as the table is. The program isn't made whole where there is no room for its first tableau; the
 /// leaf is then that of one unit of the cost and no rows.
 ///
-/// It takes what `program_within` takes, and beside the program 20 bytes for each entry of the
-/// tableau, or some times that, since lists grow and rows keep blocks that are up to four times too
-/// long. Time: for each pivot the rows that have an entry in its column.
+/// It takes what `program_within` and `Solver::new` take. Time: for each pivot the rows that have an
+/// entry in its column.
 #[tactic(auto, using(crate::proofs::BareFacts::bare_is, crate::proofs::BareFacts::bare_range, crate::proofs::BareFacts::bare_has, crate::proofs::BareFacts::bare_end, crate::proofs::BareFacts::bare_licensed, crate::proofs::ToldFacts::run_is, crate::proofs::ToldFacts::run_end, crate::proofs::ToldFacts::run_licensed, crate::proofs::PointFacts::bare_point, crate::proofs::PointFacts::point_told, crate::proofs::PointFacts::point_is))]
 pub fn relax(
     alloc: Global,

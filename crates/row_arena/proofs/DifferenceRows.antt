@@ -25,7 +25,7 @@ unless_some c v some = cond-false (int_eq v (pos 0)) [] (record { column = c; va
     at (inl yes') = absurd (some ((Decides-int_eq v (pos 0)).0 yes'))
     at (inr no') = no'
 
-none_or_some : (v : ℤ) → (v ≡ pos 0) ⊎ (v ≢ pos 0)
+pub none_or_some : (v : ℤ) → (v ≡ pos 0) ⊎ (v ≢ pos 0)
 none_or_some (pos zero) = inl refl
 none_or_some (pos (suc n)) = inr (λ h. cc)
 none_or_some (negsuc n) = inr (λ h. cc)

@@ -67,7 +67,7 @@ abs_some (pos zero) some = absurd (some refl)
 abs_some (pos (suc n)) some = omega arith
 abs_some (negsuc n) some = omega arith
 
-dvd_some : (g n : ℕ) → g ∣ n → 0 < n → 0 < g
+pub dvd_some : (g n : ℕ) → g ∣ n → 0 < n → 0 < g
 dvd_some zero n divides some = absurd (no (le_of_zero divides))
   where
     le_of_zero : zero ∣ n → n ≡ 0

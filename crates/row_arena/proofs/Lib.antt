@@ -11,8 +11,10 @@ pub mod PlaceFacts
 pub mod ProductFacts
 pub mod ReduceFacts
 pub mod RowFacts
+pub mod ScaledFacts
 pub mod ShelfFacts
 pub mod ShelfSteps
+pub mod WholeLaws
 pub mod WindowFacts
 pub mod WorkedRows
 pub mod WriteFacts

@@ -93,6 +93,7 @@ module _ (s : Shelf) (is : IsShelf s) (k : ℕ) (p : Place) (xs : List Entry)
         half = s.half;
         start = s.start;
         tail = s.tail;
+        most = s.most;
       })
       rewritten = record {
         placed = subst (λ (l : List (Option Entry)). All (IsPlaced l s.start s.tail) (set s.places.items k same))
@@ -141,6 +142,7 @@ module _ (s : Shelf) (is : IsShelf s) (k : ℕ) (p : Place) (xs : List Entry)
         half = s.half;
         start = s.start;
         tail = s.tail + room;
+        most = s.most;
       })
       moved = record {
         placed = subst (λ (l : List (Option Entry)). All (IsPlaced l s.start (s.tail + room)) (set s.places.items k last))
@@ -193,6 +195,7 @@ module _ (s : Shelf) (is : IsShelf s) (k : ℕ) (p : Place) (inside : k < length
     half = s.half;
     start = s.start;
     tail = s.tail;
+    most = s.most;
   })
   negated_shelf =
       let on = rewritten s is k p (negated (row_in s.block p)) inside here p.len long' fits_still
@@ -299,6 +302,7 @@ module _ (s : Shelf) (row to : ℕ) (is : IsMoving s row to) (p : Place)
       half = s.half;
       start = s.start;
       tail = s.tail;
+      most = s.most;
     }
 
     to_within : to ≤ length s.block

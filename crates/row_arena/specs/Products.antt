@@ -1,5 +1,5 @@
 -- Rows whose numbers may be wide, before they are divided.
-use Rattle.std.specs.Prelude.{◌≡◌, ◌≢◌, ℕ, ◌+◌, ◌<◌, ◌≤◌, List, ◌++◌, drop, take, length, map, get_or, pos, nat_abs, Option, None, Some}
+use Rattle.std.specs.Prelude.{◌≡◌, ◌≢◌, ℕ, ◌+◌, ◌<◌, ◌≤◌, List, ◌++◌, drop, take, length, map, get_or, pos, ◌*ℤ◌, nat_abs, Option, None, Some}
 use Rattle.std.specs.List.{Contains}
 use Rattle.row_arena.specs.declared.entry.Entry.{Entry}
 use Rattle.row_arena.specs.declared.products.WideEntry.{WideEntry}
@@ -17,6 +17,13 @@ entries_of wides = map entry_of wides
 pub record AreNear (by : Factors) : Type 0 where
   pub target : nat_abs by.target ≤ most_entry
   pub pivot : nat_abs by.pivot ≤ most_entry
+
+-- both are as many times two others
+pub record AreScaled (by less : Factors) : Type 0 where
+  pub times : ℕ
+  pub some : 0 < times
+  pub target : by.target ≡ pos times *ℤ less.target
+  pub pivot : by.pivot ≡ pos times *ℤ less.pivot
 
 -- each column in which one of so many entries of the pivot is, and none of the target, is among
 -- these

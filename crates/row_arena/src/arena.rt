@@ -1,10 +1,10 @@
 //! Rows of whole numbers, and how one of them is combined with another.
-ghost use Rattle.std.specs.Prelude.{◌≡◌, ◌<◌, ◌≤◌, ◌+◌, ◌^◌, All, IfErr, IfOk, Err, Ok, OnErr, OnOk, length, vec_capacity};
+ghost use Rattle.std.specs.Prelude.{◌≡◌, ◌<◌, ◌≤◌, ◌+◌, ◌^◌, ◌<ℤ◌, All, IfErr, IfOk, Err, Ok, OnErr, OnOk, length, pos, vec_capacity};
 ghost use Rattle.std.specs.List.{find};
 ghost use Rattle.row_arena.specs.Arena.{is_far, live, replaced, row_at};
 ghost use Rattle.row_arena.specs.Combining.{cleared};
 ghost use Rattle.row_arena.specs.Products.{AreFilledBy, entries_of};
-ghost use Rattle.row_arena.specs.Rows.{IsRow};
+ghost use Rattle.row_arena.specs.Rows.{IsRow, entry_at};
 ghost use Rattle.row_arena.specs.Shelves.{IsShelf, rows_of};
 ghost use Rattle.row_arena.specs.declared.wide.Wide.TheVariants as wide;
 
@@ -274,6 +274,7 @@ fn clear_in(
     requires target { target < length (rows_of shelf.now) }
     requires pivot { pivot < length (rows_of shelf.now) }
     requires valid { All IsRow (rows_of shelf.now) }
+    requires above { pos 0 <ℤ entry_at (row_at (rows_of shelf.now) pivot) column }
     requires wides_room { length (row_at (rows_of shelf.now) target)
         + length (row_at (rows_of shelf.now) pivot) ≤ vec_capacity wides.old }
     requires filled_room { length (row_at (rows_of shelf.now) pivot) ≤ vec_capacity filled.old }

@@ -61,7 +61,7 @@ fn gcd(a: u128, b: u128) -> u128
 }
 
 // The greatest common divisor of two numbers of 64 bits.
-fn gcd_narrow(a: u64, b: u64) -> u64
+pub fn gcd_narrow(a: u64, b: u64) -> u64
     ensures { IsGcd a b result }
 {
     let mut x = a;

@@ -25,8 +25,9 @@
 //! and tells each column that the row has and its old one hadn't (`filled`). `push_row` adds
 //! exactly the row where there is room (`ok`, `room`), and where there is none tells that (`wide`).
 //! `negate` turns the signs of one row, `compact` changes nothing that can be read, and `entry`
-//! finds what a row has in a column. Each row is valid (`valid` of `row`), and there are never more entries than cells (`room` of `live`). For
-//! crates above, the modules `AboveFacts` and `RowFacts` of `proofs/` have lemmas on rows.
+//! finds what a row has in a column. Each row is valid (`valid` of `row`), and there are never more
+//! entries than cells (`room` of `live`). For crates above, the modules `AboveFacts`, `RowFacts` and
+//! `WholeLaws` of `proofs/` have lemmas on rows and on products.
 //!
 //! All rows lie in one block of raw memory with two halves, side by side in one of them:
 //!
@@ -34,15 +35,17 @@
 //!     start                                          tail
 //!
 //! A row that still fits into its place is written there, another one at the tail, with a quarter of
-//! its length to grow into. Where the half is too short for that, all rows are first laid closely
-//! into the other half. A half has room for half as many entries again as there may be, so between
-//! two such steps at least a third as much is written as they move.
+//! its length to grow into. Where the half is too short for that, or the rows have come to stretch
+//! over three times their entries, all are first laid closely into the other half. So between two
+//! such steps at least a third as much is written as they move.
 //!
 //! Memory: all is taken by `new`: 24 bytes for each row, and for each of the cells 48 in the block
 //! and 36 for one row that is combined and the columns that it fills. What isn't written to isn't
-//! touched: some 16 to 40 bytes for each entry that is there, and 36 for each of the longest row.
-//! Time: `combine` goes once over both rows, and then at most four times over what comes of them:
-//! for the divisor until it is 1, to divide if it isn't, to test the range and to write the row.
+//! touched: of each half some three times what the rows have at 16 bytes an entry, and 36 bytes for
+//! each entry of the longest row. Time: `combine` goes once over both rows, and then at most four
+//! times over what comes of them: for the divisor until it is 1, to divide if it isn't, to test the
+//! range and to write the row. Before that it takes out of both factors what they have in common, so
+//! that there is mostly nothing to divide by.
 #![tactic(auto)]
 
 mod arena;

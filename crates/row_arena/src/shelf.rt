@@ -13,9 +13,12 @@ use flow_types::OutOfMemory;
 use raw_block::Block;
 use std::alloc::Global;
 
+// How many entries more don't make the rows lie loosely.
+const MORE: usize = 16_384;
+
 /// Rows, each in a place of its own. The block has two halves, and all rows lie in one of them. A
-/// row that outgrows its place goes to the free end of the half; where that is too short for it,
-/// all rows are laid closely into the other half first.
+/// row that outgrows its place goes to the free end of the half; where that is too short for it, or
+/// the rows have come to lie loosely, all are laid closely into the other half first.
 pub struct Shelf {
     pub block: Block<Entry>,
     pub places: Vec<Place>,
@@ -23,6 +26,8 @@ pub struct Shelf {
     pub half: usize,
     pub start: usize,
     pub tail: usize,
+    // How many entries there may be up to the free end before the rows are laid closely.
+    pub most: usize,
 }
 
 impl Drop for Shelf {
@@ -33,6 +38,7 @@ impl Drop for Shelf {
             half: _,
             start: _,
             tail: _,
+            most: _,
         } = self;
     }
 }
@@ -60,6 +66,7 @@ impl Shelf {
             half,
             start: 0,
             tail: 0,
+            most: MORE,
         })
     }
 
@@ -181,7 +188,7 @@ impl Shelf {
         ensures places { vec_capacity self.old.places ≤ vec_capacity self.new.places }
         ensures count { length self.new.places.items ≡ length self.old.places.items }
     {
-        if self.start + self.half - self.tail < count {
+        if self.start + self.half - self.tail < count || self.tail - self.start > self.most {
             self.compact();
         }
     }
@@ -204,10 +211,12 @@ impl Shelf {
         }
         self.start = start;
         self.tail = to;
+        self.most = 3 * (to - start) + MORE;
     }
 }
 
 // Lays a row into the other half, behind those before it, and says where it ends.
+#[tactic(auto, using(crate::proofs::ShelfSteps::copy_apart, crate::proofs::ShelfSteps::copy_within, crate::proofs::ShelfSteps::laid_rows))]
 fn lay(shelf: &mut Shelf, row: usize, to: usize) -> usize
     requires moving { IsMoving shelf.old row to }
     requires within { row < length shelf.old.places.items }

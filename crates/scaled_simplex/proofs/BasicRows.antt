@@ -15,7 +15,7 @@ use Rattle.scaled_simplex.proofs.ClearedRows.{cleared_above, cleared_there, clea
 use Rattle.scaled_simplex.proofs.ConstraintRows.{at_others, at_slack}
 use Rattle.scaled_simplex.proofs.EntryLaws.{entry_negated}
 use Rattle.scaled_simplex.proofs.FirstTableau.{cost_slack, last_is, row_is, there, valid_at}
-use Rattle.scaled_simplex.proofs.Products.{linear}
+use Rattle.row_arena.proofs.WholeLaws.{linear}
 use Rattle.scaled_simplex.proofs.Sweeps.{IsPivoted, pivoted_each, pivoted_is}
 
 pub basic_distinct : (problem : Problem) (tableau : Tableau) (j k : ℕ)

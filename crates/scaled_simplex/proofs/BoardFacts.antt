@@ -1,5 +1,5 @@
 -- Boards, row by row.
-use Rattle.std.proofs.Common.{◌≡◌, ◌≢◌, ℕ, ◌<◌, List, All, length, set, slice_index, Ok, pos, ◌<ℤ◌, int_lt, refl, sym, ap, ◌∙◌, subst, arith}
+use Rattle.std.proofs.Common.{◌≡◌, ◌≢◌, ◌⊎◌, ℕ, ◌<◌, ◌≤◌, List, All, length, set, slice_index, vec_capacity, Ok, pos, ◌<ℤ◌, int_lt, inl, inr, refl, sym, ap, ◌∙◌, subst, arith}
 use Rattle.std.proofs.lemmas.List.{length-set}
 use Rattle.number_set.specs.Numbers.{IsChanged}
 use Rattle.row_arena.specs.declared.entry.Entry.{Entry}
@@ -8,8 +8,9 @@ use Rattle.row_arena.specs.Combining.{cleared}
 use Rattle.row_arena.specs.Rows.{entry_at}
 use Rattle.scaled_simplex.specs.declared.basis.Basis.{Basis}
 use Rattle.scaled_simplex.specs.declared.board.Board.{Board}
-use Rattle.scaled_simplex.specs.Board.{AreAdded, AreFound}
+use Rattle.scaled_simplex.specs.Board.{AreAdded, AreFound, AreListed}
 use Rattle.scaled_simplex.specs.BoardOf.{CanSweep, IsBoard, KeepsBoard}
+use Rattle.scaled_simplex.specs.Links.{Lists}
 use Rattle.scaled_simplex.specs.Program.{Problem}
 use Rattle.scaled_simplex.specs.Tableau.{right_side}
 use Rattle.scaled_simplex.proofs.FoundFacts.{found_set}
@@ -42,15 +43,37 @@ module _ (problem : Problem) (board : Board) (row pivot index : ℕ) (arena : Ro
       ap (λ (l : List (List Entry)). row_at l row) set_is
       ∙ row_at-set_same board.arena.rows row made within
 
-  pub board_set : (basis : Basis) (lists : List (List ℕ))
+  -- the lists have it
+  listed_set' : (lists : List (List ℕ)) (rows : ℕ) → rows ≡ length problem.constraints
       → AreFilled (row_at board.arena.rows row) (row_at arena.rows row) arena.filled
-      → AreAdded row arena.filled board.lists lists
+      → AreAdded row arena.filled board.lists.rows lists
+      ⊎ AreListed arena.rows rows (length board.lists.rows) lists
+      → AreListed arena.rows (length problem.constraints) (right_side problem) lists
+  listed_set' lists rows count filled (inl added) =
+      listed_set board.arena.rows arena.rows row (length problem.constraints) (right_side problem)
+      made arena.filled board.lists.rows lists below within set_is is.listed
+      (subst (λ (r : List Entry). AreFilled (row_at board.arena.rows row) r arena.filled) made_is
+      filled) added
+  listed_set' lists rows count filled (inr listed) =
+      subst (λ n. AreListed arena.rows n (right_side problem) lists) count
+      (subst (λ n. AreListed arena.rows rows n lists) is.listed.count_is listed)
+
+  pub board_set : (basis : Basis) (lists : Lists) (rows : ℕ) → rows ≡ length problem.constraints
+      → AreFilled (row_at board.arena.rows row) (row_at arena.rows row) arena.filled
+      → AreAdded row arena.filled board.lists.rows lists.rows
+      ⊎ AreListed arena.rows rows (length board.lists.rows) lists.rows
+      → lists.room ≡ board.lists.room → arena.cells ≡ board.arena.cells
       → IsChanged (slice_index board.basis.index_of.items row)
       (int_lt (entry_at (row_at arena.rows row) (right_side problem)) (pos 0))
       board.basis.negative basis.negative
       → basis.index_of ≡ board.basis.index_of → basis.row_of ≡ board.basis.row_of
-      → IsBoard problem (record { arena = arena; basis = basis; lists = lists })
-  board_set basis lists filled added change index_of row_of =
+      → IsBoard problem (record {
+        arena = arena;
+        basis = basis;
+        lists = lists;
+        todo = board.todo;
+      })
+  board_set basis lists rows count filled listed same_room same_cells change index_of row_of =
       let items : board.basis.index_of.items ≡ basis.index_of.items =
       ap (λ v. v.items) (sym index_of) in
       record {
@@ -71,10 +94,10 @@ module _ (problem : Problem) (board : Board) (row pivot index : ℕ) (arena : Ro
             (subst (λ (r : List Entry). IsChanged (slice_index board.basis.index_of.items row)
             (int_lt (entry_at r (right_side problem)) (pos 0)) board.basis.negative
             basis.negative) made_is change)));
-        listed = listed_set board.arena.rows arena.rows row (length problem.constraints)
-            (right_side problem) made arena.filled board.lists lists below within set_is is.listed
-            (subst (λ (r : List Entry). AreFilled (row_at board.arena.rows row) r arena.filled)
-            made_is filled) added;
+        listed = listed_set' lists.rows rows count filled listed;
+        room = subst (λ n. n ≤ lists.room) (sym same_cells)
+            (subst (λ n. board.arena.cells ≤ n) (sym same_room) is.room);
+        todo = subst (λ n. n ≤ vec_capacity board.todo) (sym same_room) is.todo;
       }
 
   -- the other rows are as before
@@ -86,15 +109,21 @@ module _ (problem : Problem) (board : Board) (row pivot index : ℕ) (arena : Ro
   pub count_kept : length arena.rows ≡ length board.arena.rows
   count_kept = ap length set_is ∙ length-set board.arena.rows row made
 
-  pub board_keeps : (basis : Basis) (lists : List (List ℕ)) → (row ≡ pivot → ⊥)
+  pub board_keeps : (basis : Basis) (lists : Lists) → (row ≡ pivot → ⊥)
       → basis.index_of ≡ board.basis.index_of → arena.cells ≡ board.arena.cells
-      → KeepsBoard problem pivot board (record { arena = arena; basis = basis; lists = lists })
+      → KeepsBoard problem pivot board (record {
+        arena = arena;
+        basis = basis;
+        lists = lists;
+        todo = board.todo;
+      })
   board_keeps basis lists other index_of cells = record {
     index_of = ap (λ v. v.items) index_of;
     cells = cells;
     count_is = count_kept;
     pivots = row_kept pivot (λ same. other (sym same));
     costs = row_kept (length problem.constraints) (λ same. omega (arith, same, below));
+    todo = refl;
   }
 
 -- what is kept twice is kept
@@ -106,6 +135,7 @@ keeps_on problem pivot a b c first second = record {
   count_is = second.count_is ∙ first.count_is;
   pivots = second.pivots ∙ first.pivots;
   costs = second.costs ∙ first.costs;
+  todo = second.todo ∙ first.todo;
 }
 
 pub can_still : (problem : Problem) (pivot index : ℕ) (old new : Board)
@@ -124,4 +154,5 @@ keeps_itself problem pivot board = record {
   count_is = refl;
   pivots = refl;
   costs = refl;
+  todo = refl;
 }

@@ -6,7 +6,7 @@ use Rattle.row_arena.specs.declared.entry.Entry.{Entry}
 use Rattle.row_arena.specs.Rows.{entry_at}
 use Rattle.scaled_simplex.specs.Program.{Constraint, Problem, columns}
 use Rattle.scaled_simplex.specs.Tableau.{right_side, weight_index}
-use Rattle.scaled_simplex.proofs.Products.{less_times, linear, times_assoc, times_less, times_sum, times_zero, zero_back}
+use Rattle.row_arena.proofs.WholeLaws.{less_times, linear, times_assoc, times_less, times_sum, times_zero, zero_back}
 
 -- a number of each constraint, times what is at its index, added up
 abbrev pub over_constraints : (Constraint → ℤ) → (ℕ → ℤ) → ℕ → List Constraint → ℤ

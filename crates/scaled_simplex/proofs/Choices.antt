@@ -7,7 +7,7 @@ use Rattle.scaled_simplex.specs.Program.{Problem}
 use Rattle.scaled_simplex.specs.Run.{cost_at, entering, is_less_ratio, leaving, right_at}
 use Rattle.scaled_simplex.specs.Tableau.{Tableau, right_side}
 use Rattle.scaled_simplex.proofs.EntryLaws.{entry_negated}
-use Rattle.scaled_simplex.proofs.Products.{is_less, isnt_less, less_is, less_isnt, less_ratio, linear}
+use Rattle.row_arena.proofs.WholeLaws.{is_less, isnt_less, less_is, less_isnt, less_ratio, linear}
 use Rattle.scaled_simplex.proofs.Searches.{IsBest, IsFound, IsOrder, best_found, best_is_found}
 
 module _ (problem : Problem) (tableau : Tableau) where

@@ -6,7 +6,7 @@ use Rattle.row_arena.specs.Rows.{entry_at, negated}
 use Rattle.scaled_simplex.specs.Program.{Problem}
 use Rattle.scaled_simplex.proofs.Checks.{IsMade, made_combined}
 use Rattle.scaled_simplex.proofs.EntryLaws.{cleared_by, divisor_above, entry_cleared, entry_negated}
-use Rattle.scaled_simplex.proofs.Products.{above_back, above_times, below_back, linear, one_times, times_comm, times_zero, zero_back, zero_times}
+use Rattle.row_arena.proofs.WholeLaws.{above_back, above_times, below_back, linear, one_times, times_comm, times_zero, zero_back, zero_times}
 
 -- a row that is turned round
 pub made_negated : (problem : Problem) (row : List Entry) → IsMade problem row

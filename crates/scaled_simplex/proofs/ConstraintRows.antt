@@ -7,7 +7,7 @@ use Rattle.scaled_simplex.specs.Program.{Constraint, IsConstraint, Problem, colu
 use Rattle.scaled_simplex.specs.Tableau.{constraint_row, one_at, right_side, weight_index}
 use Rattle.scaled_simplex.proofs.Checks.{IsMade, over_constraints}
 use Rattle.scaled_simplex.proofs.EntryLaws.{entry_append, entry_one, unless_other, unless_same, value_other, value_same}
-use Rattle.scaled_simplex.proofs.Products.{linear, one_times, zero_times}
+use Rattle.row_arena.proofs.WholeLaws.{linear, one_times, zero_times}
 
 -- terms have nothing past the columns
 terms_past : (n : ℕ) (terms : List Entry) (k : ℕ) → All (λ term. term.column < n) terms → n ≤ k

@@ -9,7 +9,7 @@ use Rattle.scaled_simplex.specs.declared.iteration.Iteration.TheVariants.{Ends, 
 use Rattle.scaled_simplex.specs.Program.{Problem}
 use Rattle.scaled_simplex.specs.Run.{Outcome, cost_at, entering, is_cut, leaving, pivoted, run_ended, run_from, run_on, run_pivoted, simplex_run, iteration_entering, iteration_leaving, iteration_of, value_in, weight_in}
 use Rattle.scaled_simplex.specs.Tableau.{Tableau, bare_row, first_tableau, right_side, weight_index}
-use Rattle.scaled_simplex.proofs.Products.{less_is}
+use Rattle.row_arena.proofs.WholeLaws.{less_is}
 
 abbrev pub HasReached : Problem → Option ℤ → Outcome → Type 0
 HasReached problem None outcome = ⊥

@@ -14,7 +14,7 @@ use Rattle.scaled_simplex.proofs.Choices.{entering_positive, leaving_within}
 use Rattle.scaled_simplex.proofs.ClearedRows.{cleared_zero}
 use Rattle.scaled_simplex.proofs.EntryLaws.{cleared_by, entry_negated}
 use Rattle.scaled_simplex.proofs.FirstTableau.{first_lawful}
-use Rattle.scaled_simplex.proofs.Products.{linear, times_zero, zero_back}
+use Rattle.row_arena.proofs.WholeLaws.{linear, times_zero, zero_back}
 use Rattle.scaled_simplex.proofs.RowValues.{with_cleared, with_negated}
 use Rattle.scaled_simplex.proofs.Sweeps.{IsPivoted, pivoted_each, pivoted_is}
 

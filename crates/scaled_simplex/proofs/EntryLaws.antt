@@ -8,7 +8,7 @@ use Rattle.exact_sums.proofs.SumFacts.{total-append}
 use Rattle.row_arena.specs.declared.entry.Entry.{Entry}
 use Rattle.row_arena.specs.Combining.{cleared, difference, difference_at, divided, divides_all, divisor_of, entry_by, greatest}
 use Rattle.row_arena.specs.Rows.{entry_at, negated, reach, row_from, unless_zero, value_in}
-use Rattle.scaled_simplex.proofs.Products.{linear, times_neg, times_sum, times_zero}
+use Rattle.row_arena.proofs.WholeLaws.{linear, times_neg, times_sum, times_zero}
 
 -- what a test of two numbers tells
 abbrev pub Tells : ℕ → ℕ → Type 0

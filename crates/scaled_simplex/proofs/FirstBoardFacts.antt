@@ -1,6 +1,6 @@
 -- The first board: its rows as they are pushed, and the signs of their right sides as they are
 -- said.
-use Rattle.std.proofs.Common.{◌≡◌, inl, inr, ℕ, zero, suc, ◌+◌, ◌-◌, ◌<◌, ◌≤◌, Bool, true, false, IsTrue, not, nat_le, List, [], ◌∷◌, ◌++◌, length, length-append, take, slice_index, slice_index_or, All, ℤ, pos, nat_abs, int_lt, refl, sym, ap, ap₂, ◌∙◌, subst, append-nil, arith}
+use Rattle.std.proofs.Common.{◌≡◌, inl, inr, ℕ, zero, suc, ◌+◌, ◌-◌, ◌<◌, ◌≤◌, Bool, true, false, IsTrue, not, nat_le, List, [], ◌∷◌, ◌++◌, length, length-append, take, slice_index, slice_index_or, vec_capacity, All, ℤ, pos, nat_abs, int_lt, refl, sym, ap, ap₂, ◌∙◌, subst, append-nil, arith}
 use Rattle.std.specs.List.{flat_map, range_with_len}
 use Rattle.std.proofs.lemmas.Bool.{cases_eq, leb-false}
 use Rattle.std.proofs.lemmas.Grind.{flat_map-append}
@@ -270,7 +270,7 @@ first_indices problem indices is =
         omega (arith, here, below)
 
 -- what the first board is made of
-pub first_is_board : (problem : Problem) (board : Board) (count indices : ℕ)
+pub first_is_board : (problem : Problem) (board : Board)
     → board.arena.rows ≡ (first_tableau problem).rows
     → board.basis.index_of.items
     ≡ range_with_len (columns problem) (length problem.constraints)
@@ -278,14 +278,17 @@ pub first_is_board : (problem : Problem) (board : Board) (count indices : ℕ)
       rows = board.arena.rows;
       basis = board.basis.index_of.items;
     }) board.basis.row_of.items board.basis.negative
-    → count ≡ length problem.constraints → indices ≡ right_side problem
-    → AreListed board.arena.rows count indices board.lists → IsBoard problem board
-first_is_board problem board count indices rows index_of found count_is indices_is listed = record {
+    → AreListed board.arena.rows (length problem.constraints) (right_side problem)
+    board.lists.rows
+    → board.arena.cells ≤ board.lists.room → board.lists.room ≤ vec_capacity board.todo
+    → IsBoard problem board
+first_is_board problem board rows index_of found listed room todo = record {
   rows = ap length rows ∙ first_count problem;
   basis = ap length index_of
       ∙ length-range_with_len (columns problem) (length problem.constraints);
   indices = first_indices problem board.basis.index_of.items index_of;
   found = found;
-  listed = subst (λ n. AreListed board.arena.rows n (right_side problem) board.lists) count_is
-      (subst (λ n. AreListed board.arena.rows count n board.lists) indices_is listed);
+  listed = listed;
+  room = room;
+  todo = todo;
 }

@@ -13,7 +13,7 @@ use Rattle.scaled_simplex.proofs.ConstraintRows.{constraint_made, constraint_wei
 use Rattle.scaled_simplex.proofs.Checks.{IsMade}
 use Rattle.scaled_simplex.proofs.EntryLaws.{entry_append, row_from_at, row_from_past, unless_other, unless_same}
 use Rattle.scaled_simplex.proofs.Lawful.{IsLawful}
-use Rattle.scaled_simplex.proofs.Products.{linear, one_times}
+use Rattle.row_arena.proofs.WholeLaws.{linear, one_times}
 
 -- the row of what is paid, alone and with the costs
 module _ (problem : Problem) where

@@ -12,7 +12,7 @@ use Rattle.scaled_simplex.specs.Program.{Problem}
 use Rattle.scaled_simplex.specs.Run.{right_at}
 use Rattle.scaled_simplex.specs.Tableau.{Tableau, right_side}
 use Rattle.scaled_simplex.proofs.EntryLaws.{entry_negated}
-use Rattle.scaled_simplex.proofs.Products.{less_is, linear}
+use Rattle.row_arena.proofs.WholeLaws.{less_is, linear}
 use Rattle.scaled_simplex.proofs.Sweeps.{row_at-set_other, row_at-set_same}
 
 no_both : {b : Bool} → b ≡ true → b ≡ false → ⊥

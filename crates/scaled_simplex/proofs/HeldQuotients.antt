@@ -11,7 +11,7 @@ use Rattle.scaled_simplex.specs.Tableau.{Tableau}
 use Rattle.scaled_simplex.proofs.BasicRows.{basic_distinct}
 use Rattle.scaled_simplex.proofs.EntryLaws.{Tells, value_other, value_same}
 use Rattle.scaled_simplex.proofs.HeldValues.{AreShares, held, one_held}
-use Rattle.scaled_simplex.proofs.Products.{linear, one_times, same_back, times_comm, times_moved, zero_times}
+use Rattle.row_arena.proofs.WholeLaws.{linear, one_times, same_back, times_comm, times_moved, zero_times}
 use Rattle.scaled_simplex.proofs.QuotientFacts.{bottom_above, row_some}
 use Rattle.scaled_simplex.proofs.SolvedRows.{entry_of, numerator_of}
 

@@ -5,7 +5,7 @@ use Rattle.row_arena.specs.declared.entry.Entry.{Entry}
 use Rattle.row_arena.specs.Rows.{entry_at, value_in}
 use Rattle.scaled_simplex.specs.Derived.{row_with}
 use Rattle.scaled_simplex.proofs.EntryLaws.{Tells, value_other}
-use Rattle.scaled_simplex.proofs.Products.{above_times, linear, low_back, low_times, times_moved, times_sum, times_zero, zero_times}
+use Rattle.row_arena.proofs.WholeLaws.{above_times, linear, low_back, low_times, times_moved, times_sum, times_zero, zero_times}
 
 last_or : (k n : ℕ) → k < suc n → (k < n) ⊎ (k ≡ n)
 last_or k n small = grind arith

@@ -9,7 +9,7 @@ use Rattle.scaled_simplex.specs.Run.{cost_at, entering, last_row, leaving, pivot
 use Rattle.scaled_simplex.specs.Tableau.{Tableau, right_side, weight_index}
 use Rattle.scaled_simplex.proofs.Checks.{IsMade}
 use Rattle.scaled_simplex.proofs.EntryLaws.{entry_negated}
-use Rattle.scaled_simplex.proofs.Products.{stays_low}
+use Rattle.row_arena.proofs.WholeLaws.{stays_low}
 use Rattle.scaled_simplex.proofs.Sweeps.{IsPivoted, pivoted_each, pivoted_is}
 use Rattle.std.proofs.lemmas.List.Elements.{All-set}
 use Rattle.scaled_simplex.proofs.Choices.{entering_least, entering_negative, entering_positive, entering_within, leaving_within}

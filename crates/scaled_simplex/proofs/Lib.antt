@@ -17,12 +17,12 @@ pub mod HeldValues
 pub mod LastPoints
 pub mod LastTableaus
 pub mod LeavingFacts
+pub mod LinkFacts
 pub mod ListFacts
 pub mod ListedFacts
 pub mod LowestFacts
 pub mod MultipleFacts
 pub mod PointScales
-pub mod Products
 pub mod ProgramFacts
 pub mod QuotientFacts
 pub mod RatioFacts
@@ -38,7 +38,6 @@ pub mod SweepFacts
 pub mod Sweeps
 pub mod Tellings
 pub mod TodoFacts
-pub mod WideFacts
 pub mod WorkedPoints
 pub mod WorkedRuns
 pub mod CutRuns

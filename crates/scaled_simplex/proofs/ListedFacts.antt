@@ -5,11 +5,13 @@ use Rattle.std.specs.Ordering.{int_eq}
 use Rattle.std.proofs.lemmas.Bool.{cases_eq, cases_lt}
 use Rattle.std.proofs.lemmas.Bool.Decides.{Decides-int_eq}
 use Rattle.std.proofs.lemmas.List.{get_or-replicate, get_or-set_other, get_or-set_same, get_or_past, length-replicate, length-set, take_all, take_more}
-use Rattle.std.proofs.lemmas.List.Elements.{All-append, All-cons, All-nil, Contains-append_cases, Contains-append_left, Contains-append_right}
+use Rattle.std.proofs.lemmas.List.Sums.{sum_by_more, sum_by-take-le}
+use Rattle.std.proofs.lemmas.List.Elements.{All-cons, All-nil, Contains-append_cases}
 use Rattle.row_arena.specs.declared.entry.Entry.{Entry}
-use Rattle.row_arena.specs.Arena.{AreFilled, row_at}
+use Rattle.row_arena.specs.Arena.{AreFilled, live, row_at}
 use Rattle.row_arena.specs.Rows.{IsRow, entry_at}
 use Rattle.row_arena.proofs.AboveFacts.{entry_found}
+use Rattle.row_arena.proofs.ArenaFacts.{row_is}
 use Rattle.scaled_simplex.specs.Board.{AreAdded, AreListed, column_of}
 use Rattle.scaled_simplex.proofs.Sweeps.{row_at-set_other, row_at-set_same}
 
@@ -58,36 +60,35 @@ added_none row index lists past = record {
 
 module _ (row index : ℕ) (lists : List (List ℕ)) (within : index < length lists) where
   abbrev grown : List (List ℕ)
-  grown = set lists index (get_or lists index [] ++ row ∷ [])
+  grown = set lists index (row ∷ get_or lists index [])
 
-  own_list : get_or grown index [] ≡ get_or lists index [] ++ row ∷ []
-  own_list = get_or-set_same lists index (get_or lists index [] ++ row ∷ []) [] within
+  own_list : get_or grown index [] ≡ row ∷ get_or lists index []
+  own_list = get_or-set_same lists index (row ∷ get_or lists index []) [] within
 
   other_list : (i : ℕ) → i ≢ index → get_or grown i [] ≡ get_or lists i []
   other_list i other =
-      get_or-set_other lists index i (get_or lists index [] ++ row ∷ []) [] other
+      get_or-set_other lists index i (row ∷ get_or lists index []) [] other
 
   pub added_one : AreAdded row (index ∷ []) lists grown
   added_one = record {
-    count_is = length-set lists index (get_or lists index [] ++ row ∷ []);
+    count_is = length-set lists index (row ∷ get_or lists index []);
     kept = λ i k has. elim (cases_eq i index) as (λ _. Contains (get_or grown i []) k) [
       | inl same ↦ subst (λ n. Contains (get_or grown n []) k) (sym same)
           (subst (λ l. Contains l k) (sym own_list)
-          (Contains-append_left (get_or lists index []) (row ∷ []) k
+          (contains_later row k (get_or lists index [])
           (subst (λ n. Contains (get_or lists n []) k) same has)))
       | inr other ↦ subst (λ l. Contains l k) (sym (other_list i other)) has
     ];
     added = λ i has below.
         subst (λ n. Contains (get_or grown n []) row) (sym (one_item index i has))
         (subst (λ l. Contains l row) (sym own_list)
-        (Contains-append_right (get_or lists index []) (row ∷ []) row (contains_first row [])));
+        (contains_first row (get_or lists index [])));
     small = λ i bound below all. elim (cases_eq i index)
         as (λ _. All (λ k. k < bound) (get_or grown i [])) [
           | inl same ↦ subst (λ n. All (λ k. k < bound) (get_or grown n [])) (sym same)
               (subst (All (λ k. k < bound)) (sym own_list)
-              (All-append (λ k. k < bound) (get_or lists index []) (row ∷ [])
-              (subst (λ n. All (λ k. k < bound) (get_or lists n [])) same all)
-              (All-cons (λ k. k < bound) row [] below (All-nil (λ k. k < bound)))))
+              (All-cons (λ k. k < bound) row (get_or lists index []) below
+              (subst (λ n. All (λ k. k < bound) (get_or lists n [])) same all)))
           | inr other ↦ subst (All (λ k. k < bound)) (sym (other_list i other)) all
         ];
   }
@@ -196,6 +197,21 @@ listed_more rows row indices old new is listed added = record {
   small = λ index. added.small index (row + 1) (omega arith)
       (λ i d inside. let before = listed.small index i d inside in omega (arith, before));
 }
+
+-- the entries of so many first rows, and those of the next one
+pub live_more : (rows : List (List Entry)) (row : ℕ) → row < length rows
+    → live (take (row + 1) rows) ≡ live (take row rows) + length (row_at rows row)
+live_more rows row within =
+    sum_by_more length rows row [] within
+    ∙ ap (λ (r : List Entry). live (take row rows) + length r) (row_is rows row [] within)
+
+pub room_begun : (rows : List (List Entry)) (row cells room : ℕ) → row < length rows
+    → live rows ≤ cells → cells ≤ room
+    → live (take row rows) + length (row_at rows row) ≤ room
+room_begun rows row cells room within fits enough =
+    let more = live_more rows row within in
+    let less = sum_by-take-le length rows (row + 1) in
+    omega (arith, more, less, fits, enough)
 
 -- one row is another one, and is added where it has an entry and had none
 module _ (rows new : List (List Entry)) (row count indices : ℕ) (made : List Entry)

@@ -6,7 +6,7 @@ use Rattle.scaled_simplex.specs.LastPoint.{IsWorth}
 use Rattle.scaled_simplex.specs.Points.{ConstraintHolds, IsProgramPoint, costs_at, point_cost, terms_at}
 use Rattle.scaled_simplex.specs.Program.{Constraint, IsConstraint, IsProblem, Problem, columns}
 use Rattle.scaled_simplex.specs.Run.{Outcome, value_in, weight_in}
-use Rattle.scaled_simplex.proofs.Products.{linear, low_back, low_times, same_back, times_assoc, times_comm, times_less, times_moved, times_sum, times_zero}
+use Rattle.row_arena.proofs.WholeLaws.{linear, low_back, low_times, same_back, times_assoc, times_comm, times_less, times_moved, times_sum, times_zero}
 
 module _ (d e : ℤ) (f g : ℕ → ℤ) (n : ℕ)
     (each : (k : ℕ) → k < n → e *ℤ f k ≡ d *ℤ g k) where

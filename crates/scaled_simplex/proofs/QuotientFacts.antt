@@ -15,7 +15,7 @@ use Rattle.scaled_simplex.specs.Run.{leaving}
 use Rattle.scaled_simplex.specs.Tableau.{Tableau}
 use Rattle.scaled_simplex.proofs.Choices.{none_leaves}
 use Rattle.scaled_simplex.proofs.EntryLaws.{Tells}
-use Rattle.scaled_simplex.proofs.Products.{linear}
+use Rattle.row_arena.proofs.WholeLaws.{linear}
 
 module _ (basis : List ℕ) (index : ℕ) where
   abbrev IsRow : ℕ → Option ℕ → Type 0

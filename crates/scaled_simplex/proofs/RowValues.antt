@@ -13,7 +13,7 @@ use Rattle.scaled_simplex.specs.Points.{terms_at}
 use Rattle.scaled_simplex.specs.Tableau.{one_at}
 use Rattle.scaled_simplex.proofs.Checks.{factor_combined}
 use Rattle.scaled_simplex.proofs.EntryLaws.{Tells, cleared_by, entry_cleared, entry_negated, value_other, value_same}
-use Rattle.scaled_simplex.proofs.Products.{linear, neg_times, one_times, sum_times, times_moved, times_sum, times_zero, zero_times}
+use Rattle.row_arena.proofs.WholeLaws.{linear, neg_times, one_times, sum_times, times_moved, times_sum, times_zero, zero_times}
 
 -- a row that is, so often, one row so often less another so often
 pub with_combined : (d p a : ℤ) (first second row : List Entry)

@@ -16,7 +16,7 @@ use Rattle.scaled_simplex.proofs.Choices.{leaving_negative, leaving_within, none
 use Rattle.scaled_simplex.proofs.ConstraintRows.{over_none}
 use Rattle.scaled_simplex.proofs.FirstTableau.{bare_below, bare_right, bare_weight, first_lawful}
 use Rattle.scaled_simplex.proofs.Lawful.{IsLawful, pivot_lawful}
-use Rattle.scaled_simplex.proofs.Products.{linear, one_times}
+use Rattle.row_arena.proofs.WholeLaws.{linear, one_times}
 use Rattle.scaled_simplex.proofs.Tellings.{row_bounds, row_refutes}
 
 only_bound : (problem : Problem) (outcome : Outcome) → is_infeasible outcome.end ≡ false

@@ -14,7 +14,7 @@ use Rattle.scaled_simplex.specs.LastTableau.{IsLastTableau}
 use Rattle.scaled_simplex.specs.Tableau.{Tableau}
 use Rattle.scaled_simplex.proofs.LastTableaus.{last_basic, last_same}
 use Rattle.scaled_simplex.proofs.LowestFacts.{lowest_whole}
-use Rattle.scaled_simplex.proofs.Products.{same_back}
+use Rattle.row_arena.proofs.WholeLaws.{same_back}
 use Rattle.scaled_simplex.proofs.QuotientFacts.{bottom_above}
 
 -- numbers above 0 that are as far from it

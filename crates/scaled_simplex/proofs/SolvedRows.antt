@@ -16,7 +16,7 @@ use Rattle.scaled_simplex.specs.Tableau.{Tableau, bare_row, constraint_row, cost
 use Rattle.scaled_simplex.proofs.EntryLaws.{entry_append, value_other, value_same}
 use Rattle.scaled_simplex.proofs.FirstTableau.{last_is, row_is, there, valid_at}
 use Rattle.scaled_simplex.proofs.HeldValues.{AreShares, held, held_low, held_none, held_one, held_past, held_times}
-use Rattle.scaled_simplex.proofs.Products.{linear, neg_times, times_comm, times_less, times_moved, times_neg, times_sum, times_zero, zero_back, zero_times}
+use Rattle.row_arena.proofs.WholeLaws.{linear, neg_times, times_comm, times_less, times_moved, times_neg, times_sum, times_zero, zero_back, zero_times}
 use Rattle.scaled_simplex.proofs.RowValues.{terms_append, terms_one, terms_times, terms_unless, with_across}
 
 -- what the columns cost is what the cost row has of them, turned round

@@ -19,7 +19,7 @@ use Rattle.scaled_simplex.specs.Tableau.{Tableau, right_side, weight_index}
 use Rattle.scaled_simplex.proofs.BasicRows.{pivot_basic}
 use Rattle.scaled_simplex.proofs.Choices.{leaving_within}
 use Rattle.scaled_simplex.proofs.DerivedRows.{pivot_derived}
-use Rattle.scaled_simplex.proofs.Products.{less_isnt}
+use Rattle.row_arena.proofs.WholeLaws.{less_isnt}
 
 module _ (problem : Problem) (tableau : Tableau) where
   -- what is known of an iteration: the telling row is one of the rows, and a pivot is at the row

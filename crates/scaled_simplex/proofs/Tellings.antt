@@ -11,7 +11,7 @@ use Rattle.scaled_simplex.specs.Program.{Constraint, Problem, columns}
 use Rattle.scaled_simplex.specs.Run.{Outcome, is_infeasible, multiplier_in}
 use Rattle.scaled_simplex.specs.Tableau.{right_side, weight_index}
 use Rattle.scaled_simplex.proofs.Checks.{IsMade, column_rest, limit_rest, over_constraints}
-use Rattle.scaled_simplex.proofs.Products.{linear, neg_times, times_neg, zero_times}
+use Rattle.row_arena.proofs.WholeLaws.{linear, neg_times, times_neg, zero_times}
 
 -- the weighted sum of a list of numbers that are those at the indices, or those turned round
 module _ (part : Constraint → ℤ) (f g : ℕ → ℤ) where

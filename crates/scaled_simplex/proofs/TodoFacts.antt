@@ -1,8 +1,9 @@
 -- The rows that may have an entry at an index, and pivots by them.
-use Rattle.std.proofs.Common.{◌≡◌, ◌≢◌, ℕ, ◌+◌, ◌<◌, false, List, [], ◌∷◌, length, get_or, set, slice_index, All, Ok, pos, neg_ℤ, ◌<ℤ◌, sym, ap, ◌∙◌, subst, inl, inr, arith}
+use Rattle.std.proofs.Common.{◌≡◌, ◌≢◌, ℕ, ◌+◌, ◌<◌, ◌≤◌, false, List, [], ◌∷◌, length, get_or, set, slice_index, vec_capacity, All, Ok, pos, neg_ℤ, ◌<ℤ◌, sym, ap, ◌∙◌, subst, inl, inr, arith}
 use Rattle.std.specs.List.{Contains}
 use Rattle.std.proofs.lemmas.Bool.{cases_eq}
 use Rattle.std.proofs.lemmas.Int.{ints}
+use Rattle.std.proofs.lemmas.Grind.{get_or_default_zero}
 use Rattle.std.proofs.lemmas.List.{length-set}
 use Rattle.std.proofs.lemmas.List.Elements.{All-set}
 use Rattle.number_set.specs.Numbers.{IsChanged}
@@ -13,6 +14,7 @@ use Rattle.scaled_simplex.specs.declared.basis.Basis.{Basis}
 use Rattle.scaled_simplex.specs.declared.board.Board.{Board}
 use Rattle.scaled_simplex.specs.Board.{AreFound, AreListed, AreSorted, IsBasic}
 use Rattle.scaled_simplex.specs.BoardOf.{CanSweep, IsAlone, IsBoard, IsChosen, IsTodo, tableau_of}
+use Rattle.scaled_simplex.specs.Links.{Lists}
 use Rattle.scaled_simplex.specs.Program.{Problem}
 use Rattle.scaled_simplex.specs.Run.{pivoted, right_at}
 use Rattle.scaled_simplex.specs.Tableau.{Tableau, right_side}
@@ -66,6 +68,12 @@ todo_turned problem rows new row index todo within is done = record {
   ];
 }
 
+-- a row that was read of those to be cleared
+pub todo_row : (now todo : List ℕ) (p row : ℕ) → p < length todo → now ≡ todo
+    → row ≡ get_or now p row → row ≡ get_or todo p 0
+todo_row now todo p row within same is =
+    is ∙ ap (λ l. get_or l p row) same ∙ get_or_default_zero todo p row within
+
 -- the leaving row, turned round, has an entry above 0 at the entering index
 pub turned_above : (rows new : List (List Entry)) (row index : ℕ) → row < length rows
     → new ≡ set rows row (negated (row_at rows row))
@@ -105,21 +113,80 @@ module _ (problem : Problem) (tableau : Tableau) (row index : ℕ)
         (λ _ none. none);
   }
 
--- the board of which a list is left one row
-pub board_left : (problem : Problem) (board : Board) (lists : List (List ℕ)) (row index : ℕ)
-    → IsBoard problem board → row < length problem.constraints → index < right_side problem
-    → IsAlone problem board.arena.rows row index → lists ≡ set board.lists index (row ∷ [])
-    → IsBoard problem (record { arena = board.arena; basis = board.basis; lists = lists })
-board_left problem board lists row index is below within alone left = record {
+-- the board with other lists
+pub board_listed : (problem : Problem) (board : Board) (lists : Lists) → IsBoard problem board
+    → AreListed board.arena.rows (length problem.constraints) (right_side problem) lists.rows
+    → lists.room ≡ board.lists.room
+    → IsBoard problem (record {
+      arena = board.arena;
+      basis = board.basis;
+      lists = lists;
+      todo = board.todo;
+    })
+board_listed problem board lists is listed same = record {
   rows = is.rows;
   basis = is.basis;
   indices = is.indices;
   found = is.found;
-  listed = subst (AreListed board.arena.rows (length problem.constraints) (right_side problem))
-      (sym left)
-      (listed_left board.arena.rows (length problem.constraints) (right_side problem) index row
-      board.lists below within alone.each is.listed);
+  listed = listed;
+  room = subst (λ n. board.arena.cells ≤ n) (sym same) is.room;
+  todo = subst (λ n. n ≤ vec_capacity board.todo) (sym same) is.todo;
 }
+
+-- that of which all lists are made anew
+pub board_anew : (problem : Problem) (board : Board) (lists : Lists) (rows : ℕ)
+    → IsBoard problem board → rows ≡ length problem.constraints
+    → AreListed board.arena.rows rows (length board.lists.rows) lists.rows
+    → lists.room ≡ board.lists.room
+    → IsBoard problem (record {
+      arena = board.arena;
+      basis = board.basis;
+      lists = lists;
+      todo = board.todo;
+    })
+board_anew problem board lists rows is count listed same =
+    board_listed problem board lists is
+    (subst (λ n. AreListed board.arena.rows n (right_side problem) lists.rows) count
+    (subst (λ n. AreListed board.arena.rows rows n lists.rows) is.listed.count_is listed)) same
+
+-- that of which a list is left one row
+pub board_left : (problem : Problem) (board : Board) (lists : Lists) (row index : ℕ)
+    → IsBoard problem board → row < length problem.constraints → index < right_side problem
+    → IsAlone problem board.arena.rows row index
+    → lists.rows ≡ set board.lists.rows index (row ∷ []) → lists.room ≡ board.lists.room
+    → IsBoard problem (record {
+      arena = board.arena;
+      basis = board.basis;
+      lists = lists;
+      todo = board.todo;
+    })
+board_left problem board lists row index is below within alone left same =
+    board_listed problem board lists is
+    (subst (AreListed board.arena.rows (length problem.constraints) (right_side problem))
+    (sym left)
+    (listed_left board.arena.rows (length problem.constraints) (right_side problem) index row
+    board.lists.rows below within alone.each is.listed)) same
+
+-- that with other rows to be cleared
+pub board_todo : (problem : Problem) (board new : Board) → IsBoard problem board
+    → new.arena ≡ board.arena → new.basis ≡ board.basis → new.lists ≡ board.lists
+    → vec_capacity board.todo ≤ vec_capacity new.todo → IsBoard problem new
+board_todo problem board new is arena basis lists larger =
+    let here : IsBoard problem (record {
+      arena = board.arena;
+      basis = board.basis;
+      lists = board.lists;
+      todo = new.todo;
+    }) = record {
+      rows = is.rows;
+      basis = is.basis;
+      indices = is.indices;
+      found = is.found;
+      listed = is.listed;
+      room = is.room;
+      todo = let enough = is.todo in omega (arith, enough, larger);
+    } in
+    rw (arena, basis, lists) here
 
 -- the board of which a row is turned round, and stands for another index
 module _ (problem : Problem) (board : Board) (row index : ℕ) (arena : Rows) (middle basis : Basis)
@@ -129,6 +196,7 @@ module _ (problem : Problem) (board : Board) (row index : ℕ) (arena : Rows) (m
     (within : index < right_side problem)
     (enters : entry_at (row_at board.arena.rows row) index <ℤ pos 0)
     (turned : arena.rows ≡ set board.arena.rows row (negated (row_at board.arena.rows row)))
+    (same_cells : arena.cells ≡ board.arena.cells)
     (change : IsChanged (slice_index board.basis.index_of.items row) false board.basis.negative
     middle.negative)
     (same_index_of : middle.index_of ≡ board.basis.index_of)
@@ -164,11 +232,12 @@ module _ (problem : Problem) (board : Board) (row index : ℕ) (arena : Rows) (m
       board.basis.negative middle.negative is.found basic row index below is.rows is.basis within
       turned leaves enters change)))
 
-  listed_after : AreListed arena.rows (length problem.constraints) (right_side problem) board.lists
+  listed_after : AreListed arena.rows (length problem.constraints) (right_side problem)
+      board.lists.rows
   listed_after = record {
     count_is = is.listed.count_is;
     each = λ k i small inside_i some. elim (cases_eq k row)
-        as (λ _. Contains (get_or board.lists i []) k) [
+        as (λ _. Contains (get_or board.lists.rows i []) k) [
           | inl same ↦ is.listed.each k i small inside_i
               (subst (λ n. entry_at (row_at board.arena.rows n) i ≢ pos 0) (sym same)
               (turned_at (row_at board.arena.rows row) i
@@ -190,6 +259,7 @@ module _ (problem : Problem) (board : Board) (row index : ℕ) (arena : Rows) (m
     arena = arena;
     basis = basis;
     lists = board.lists;
+    todo = board.todo;
   })
   board_turned = record {
     rows = ap length turned
@@ -200,6 +270,8 @@ module _ (problem : Problem) (board : Board) (row index : ℕ) (arena : Rows) (m
         is.indices);
     found = found_after;
     listed = listed_after;
+    room = subst (λ n. n ≤ board.lists.room) (sym same_cells) is.room;
+    todo = is.todo;
   }
 
 -- the row that is turned round, and the cost row

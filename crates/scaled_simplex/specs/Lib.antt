@@ -4,6 +4,7 @@ pub mod Derived
 pub mod Fractions
 pub mod LastPoint
 pub mod LastTableau
+pub mod Links
 pub mod Multiples
 pub mod Multipliers
 pub mod Points

@@ -4,11 +4,13 @@ use crate::basis::Basis;
 use crate::lists::RowLists;
 use row_arena::RowArena;
 
-/// The rows of a tableau, the index that each stands for, and where entries may be.
+/// The rows of a tableau, the index that each stands for, and where entries may be; and the rows
+/// that a pivot has to clear.
 pub struct Board {
     pub arena: RowArena,
     pub basis: Basis,
     pub lists: RowLists,
+    pub todo: Vec<u32>,
 }
 
 impl Drop for Board {
@@ -17,6 +19,7 @@ impl Drop for Board {
             arena: _,
             basis: _,
             lists: _,
+            todo: _,
         } = self;
     }
 }

@@ -1,17 +1,18 @@
 //! The first tableau.
-ghost use Rattle.std.specs.Prelude.{◌≡◌, ◌<◌, ◌≤◌, ◌+◌, ◌++◌, [], IfErr, IfOk, OnOk, length, nat_abs, neg_ℤ, pos, slice_index_or};
+ghost use Rattle.std.specs.Prelude.{◌≡◌, ◌<◌, ◌≤◌, ◌+◌, ◌++◌, [], IfErr, IfOk, OnOk, length, nat_abs, neg_ℤ, pos, slice_index_or, vec_capacity};
 ghost use Rattle.std.specs.List.{range_with_len};
 ghost use Rattle.row_arena.specs.Arena.{live};
 ghost use Rattle.row_arena.specs.Rows.{most_entry, negated_entry, row_from, unless_zero};
-ghost use Rattle.scaled_simplex.specs.Board.{AreFound};
+ghost use Rattle.scaled_simplex.specs.Board.{AreFound, AreListed};
 ghost use Rattle.scaled_simplex.specs.BoardOf.{IsBoard, tableau_of};
 ghost use Rattle.scaled_simplex.specs.Program.{IsProblem, columns};
 ghost use Rattle.scaled_simplex.specs.Refusals.{IfWide};
-ghost use Rattle.scaled_simplex.specs.Tableau.{constraint_row, constraint_rows, cost_row, first_tableau};
+ghost use Rattle.scaled_simplex.specs.Tableau.{constraint_row, constraint_rows, cost_row, first_tableau, right_side};
 
 use crate::basis::Basis;
 use crate::board::Board;
-use crate::listing::lists_of;
+use crate::listing::list_rows;
+use crate::lists::RowLists;
 use crate::pivots::is_negative;
 use crate::program::{Constraint, Program};
 use crate::refused::Refused;
@@ -33,12 +34,48 @@ pub fn first_board(alloc: Global, program: &Program, cells: u32) -> Result<Board
 {
     let arena = first_rows(alloc, program, cells)?;
     let basis = first_basis(alloc, program, &arena)?;
-    let lists = lists_of(alloc, &arena, program.rows(), program.right_side() as usize)?;
+    let room = room_of(cells);
+    let lists = first_lists(alloc, program, &arena, room)?;
+    let todo = room_for(alloc, room)?;
     Ok(Board {
         arena,
         basis,
         lists,
+        todo,
     })
+}
+
+// For how many rows the lists have room: half as many again as there may be entries, so that there
+// is room for many more before they have to be made anew.
+fn room_of(cells: u32) -> u32
+    ensures { cells ≤ result }
+{
+    cells.saturating_add(cells / 2)
+}
+
+// Room for so many rows.
+fn room_for(alloc: Global, count: u32) -> Result<Vec<u32>, OutOfMemory>
+    ensures { IfOk result (λ rows. count ≤ vec_capacity rows) }
+{
+    Ok(Vec::with_capacity(alloc, count as usize)?)
+}
+
+// The lists of the constraints' rows.
+fn first_lists(
+    alloc: Global,
+    program: &Program,
+    arena: &RowArena,
+    room: u32,
+) -> Result<RowLists, OutOfMemory>
+    requires rows { length program.now.constraints ≤ length arena.now.rows }
+    requires room { arena.now.cells ≤ room }
+    ensures listed { IfOk result (λ lists. AreListed arena.now.rows
+        (length program.now.constraints) (right_side program.now) lists.rows) }
+    ensures room { IfOk result (λ lists. lists.room ≡ room) }
+{
+    let mut lists = RowLists::new(alloc, program.right_side() as usize, room)?;
+    list_rows(&mut lists, arena, program.rows());
+    Ok(lists)
 }
 
 // The rows of the constraints, and after them the cost row.

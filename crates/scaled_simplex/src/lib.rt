@@ -7,7 +7,7 @@
 //!     let mut program = Program::new(alloc, &[1, 1], 0)?;
 //!     let terms = [Entry { column: 0, value: -1 }, Entry { column: 1, value: -1 }];
 //!     program.add_row(alloc, &terms, -1)?;
-//!     let run = Solver::new(alloc, &program, 1000)?.run(100, None)?;
+//!     let run = Solver::new(alloc, &program, 1000)?.run(100, None);
 //!     if run.end() == End::Optimal {
 //!         let value = run.value();
 //!         println!("nothing costs less than {} / {}", value.numerator, value.denominator);
@@ -37,10 +37,11 @@
 //! a set of numbers, and the rows that may have an entry at an index in a list, which is made anew
 //! when it has become long.
 //!
-//! Memory: a program takes 8 bytes for each column, 16 for each factor and some 40 for each row; a
-//! run 84 for each of the cells, of which it touches some 16 to 40 for each entry of its tableau and
-//! 36 for each of the longest row (`row_arena`), 4 for each row in the lists (at most some four
-//! times the entries, or up to twice that, since the lists grow), and 24 for each index.
+//! Memory: a program takes 8 bytes for each column, 16 for each factor and some 40 for each row.
+//! `Solver::new` takes all that a run needs, 102 bytes for each of the cells and 24 for each index,
+//! and `run` takes none. What isn't written to isn't touched: of the rows what `row_arena` tells, 8
+//! bytes for each row in the lists, of which there are at most some four times as many as entries,
+//! and 4 for each in the longest list.
 #![tactic(auto)]
 
 mod basis;
@@ -52,6 +53,7 @@ mod fractions;
 mod iteration;
 mod iterations;
 mod laws;
+mod link;
 mod listing;
 mod lists;
 mod multiples;

@@ -1,72 +1,87 @@
 //! Rows that are added to the lists of their indices.
-ghost use Rattle.std.specs.Prelude.{◌≡◌, ◌<◌, ◌≤◌, ◌+◌, ◌++◌, ◌∷◌, [], All, IfOk, OnOk, length, get_or, map, set, take};
+ghost use Rattle.std.specs.Prelude.{◌≡◌, ◌⊎◌, ◌<◌, ◌≤◌, ◌+◌, ◌∷◌, [], get_or, length, map, vec_capacity};
 ghost use Rattle.row_arena.specs.Rows.{IsRow};
 ghost use Rattle.scaled_simplex.specs.Board.{AreAdded, AreListed, AreSorted, column_of};
 
 use crate::lists::RowLists;
-use flow_types::OutOfMemory;
 use row_arena::{Entry, RowArena};
-use std::alloc::Global;
 
-/// The lists of the first so many rows, for so many indices.
-#[tactic(auto, using(crate::proofs::ListedFacts::none_listed, crate::proofs::ListedFacts::listed_more))]
-pub fn lists_of(
-    alloc: Global,
-    arena: &RowArena,
-    rows: u32,
-    indices: usize,
-) -> Result<RowLists, OutOfMemory>
-    requires { rows ≤ length arena.now.rows }
-    ensures { IfOk result (AreListed arena.now.rows rows indices) }
+/// Makes the lists anew, of the first so many rows.
+#[tactic(auto, using(crate::proofs::ListedFacts::none_listed))]
+pub fn list_rows(lists: &mut RowLists, arena: &RowArena, rows: u32)
+    requires rows { rows ≤ length arena.now.rows }
+    requires room { arena.now.cells ≤ lists.old.room }
+    ensures listed { AreListed arena.now.rows rows (length lists.old.rows) lists.new.rows }
+    ensures room { lists.new.room ≡ lists.old.room }
 {
-    let mut lists = RowLists::new(alloc, indices)?;
+    lists.empty(arena.live());
     for row in 0..rows {
-        add_entries(&mut lists, row, arena.row(row))?;
+        add_entries(lists, row, arena.row(row));
     }
-    lists.are_new();
-    Ok(lists)
 }
 
 // Adds the row to the lists of its entries.
 #[tactic(auto, using(crate::proofs::ListedFacts::none_added, crate::proofs::ListedFacts::added_entry, crate::proofs::ListedFacts::added_entries))]
-fn add_entries(lists: &mut RowLists, row: u32, entries: &[Entry]) -> Result<(), OutOfMemory>
-    ensures { OnOk result (AreAdded row (map column_of entries.now) lists.old lists.new) }
+fn add_entries(lists: &mut RowLists, row: u32, entries: &[Entry])
+    requires room { lists.old.count + length entries.now ≤ lists.old.room }
+    ensures added { AreAdded row (map column_of entries.now) lists.old.rows lists.new.rows }
+    ensures count { lists.new.count ≤ lists.old.count + length entries.now }
+    ensures room { lists.new.room ≡ lists.old.room }
 {
     for k in 0..entries.len() {
-        add_within(lists, row, entries[k].column)?;
+        add_within(lists, row, entries[k].column);
     }
-    Ok(())
 }
 
-/// Adds the row to the lists of these indices, as far as they have one.
+/// Lists the row, of which so much is new: it is added to the lists of these indices, as far as they
+/// have one. Where there is no room for that, the lists are made anew, of the first so many rows.
+pub fn list_row(lists: &mut RowLists, arena: &RowArena, rows: u32, row: u32)
+    requires rows { rows ≤ length arena.now.rows }
+    requires room { arena.now.cells ≤ lists.old.room }
+    ensures listed { AreAdded row arena.now.filled lists.old.rows lists.new.rows
+        ⊎ AreListed arena.now.rows rows (length lists.old.rows) lists.new.rows }
+    ensures room { lists.new.room ≡ lists.old.room }
+{
+    if arena.filled().len() <= lists.left() {
+        add_filled(lists, row, arena.filled());
+    } else {
+        list_rows(lists, arena, rows);
+    }
+}
+
+// Adds the row to the lists of these indices, as far as they have one.
 #[tactic(auto, using(crate::proofs::ListedFacts::none_added, crate::proofs::ListedFacts::added_index, crate::proofs::ListedFacts::added_all))]
-pub fn add_filled(lists: &mut RowLists, row: u32, indices: &[u32]) -> Result<(), OutOfMemory>
-    ensures { OnOk result (AreAdded row indices.now lists.old lists.new) }
+fn add_filled(lists: &mut RowLists, row: u32, indices: &[u32])
+    requires room { lists.old.count + length indices.now ≤ lists.old.room }
+    ensures added { AreAdded row indices.now lists.old.rows lists.new.rows }
+    ensures room { lists.new.room ≡ lists.old.room }
 {
     for k in 0..indices.len() {
-        add_within(lists, row, indices[k])?;
+        add_within(lists, row, indices[k]);
     }
-    Ok(())
 }
 
 // Adds the row to the list of an index, if it has one.
 #[tactic(auto, using(crate::proofs::ListedFacts::added_one, crate::proofs::ListedFacts::added_none))]
-fn add_within(lists: &mut RowLists, row: u32, index: u32) -> Result<(), OutOfMemory>
-    ensures { OnOk result (AreAdded row (index ∷ []) lists.old lists.new) }
+fn add_within(lists: &mut RowLists, row: u32, index: u32)
+    requires room { lists.old.count < lists.old.room }
+    ensures added { AreAdded row (index ∷ []) lists.old.rows lists.new.rows }
+    ensures count { lists.new.count ≤ lists.old.count + 1 }
+    ensures room { lists.new.room ≡ lists.old.room }
 {
     if (index as usize) < lists.indices() {
-        lists.add(index, row)?;
+        lists.add(index, row);
     }
-    Ok(())
 }
 
-/// The rows of a list in ascending order, each once.
-pub fn sorted_rows(sorted: &mut Vec<u32>, list: &[u32]) -> Result<(), OutOfMemory>
-    ensures { OnOk result (AreSorted list.now sorted.new.items) }
+/// Writes the rows of an index, in ascending order and each once, in place of what was there.
+pub fn write_sorted(lists: &RowLists, index: u32, sorted: &mut Vec<u32>)
+    requires index { index < length lists.now.rows }
+    requires room { lists.now.room ≤ vec_capacity sorted.old }
+    ensures sorted { AreSorted (get_or lists.now.rows index []) sorted.new.items }
+    ensures room { vec_capacity sorted.old ≤ vec_capacity sorted.new }
 {
-    sorted.clear();
-    sorted.extend_from_slice(list)?;
+    lists.write_rows(index, sorted);
     sorted.sort_unstable();
     sorted.dedup();
-    Ok(())
 }

@@ -19,7 +19,6 @@ use std::marker::Model;
 /// The dual simplex of a program, in room for so many entries of its tableau.
 #[derive(Drop)]
 pub struct Solver<'a> {
-    alloc: Global,
     program: &'a Program,
     cells: u32,
     // The first tableau, unless it has no room.
@@ -63,8 +62,8 @@ impl<'a> Solver<'a> {
     ghost use Rattle.scaled_simplex.specs.Run.{simplex_run};
     ghost use Rattle.scaled_simplex.specs.declared.end.End.TheVariants.{Optimal};
 
-    /// The first tableau of the program. It takes 84 bytes for each of the cells, of which it touches
-    /// some 16 for each of its entries, and 24 for each index.
+    /// The first tableau of the program. It takes 102 bytes for each of the cells, of which it touches
+    /// some 24 for each of its entries, and 24 for each index.
     pub fn new(alloc: Global, program: &'a Program, cells: u32) -> Result<Solver<'a>, OutOfMemory>
         ensures { IfOk result (λ solver. solver
             ≡ record { problem = program.now; cells = cells }) }
@@ -75,7 +74,6 @@ impl<'a> Solver<'a> {
             Err(Refused::OutOfMemory) => return Err(OutOfMemory),
         };
         Ok(Solver {
-            alloc,
             program,
             cells,
             board,
@@ -83,38 +81,31 @@ impl<'a> Solver<'a> {
     }
 
     /// Runs with so many pivots at the most, until the value, rounded up, is at least the cutoff.
-    /// So after Optimal it is less.
-    pub fn run(self, pivots: u64, cutoff: Option<i64>) -> Result<Run<'a>, OutOfMemory>
-        ensures run { IfOk result (λ run. run ≡ record {
+    /// So after Optimal it is less. It takes no memory.
+    pub fn run(self, pivots: u64, cutoff: Option<i64>) -> Run<'a>
+        ensures run { result ≡ record {
           problem = self.entry.problem;
           outcome = simplex_run self.entry.problem pivots self.entry.cells cutoff;
-        }) }
-        ensures uncut { IfOk result (λ run. run.outcome.end ≡ Optimal
-            → IsBelow run.problem cutoff run.outcome) }
+        } }
+        ensures uncut { result.outcome.end ≡ Optimal
+            → IsBelow result.problem cutoff result.outcome }
     {
-        let Solver {
-            alloc,
-            program,
-            board,
-            ..
-        } = self;
-        match board {
-            None => Ok(Run {
+        let Solver { program, board, .. } = self;
+        let Some(mut board) = board else {
+            return Run {
                 program,
                 board: None,
                 ending: Ending {
                     end: End::Wide,
                     row: 0,
                 },
-            }),
-            Some(mut board) => {
-                let ending = run_from(&mut board, alloc, program, pivots, cutoff)?;
-                Ok(Run {
-                    program,
-                    board: Some(board),
-                    ending,
-                })
-            }
+            };
+        };
+        let ending = run_from(&mut board, program, pivots, cutoff);
+        Run {
+            program,
+            board: Some(board),
+            ending,
         }
     }
 }

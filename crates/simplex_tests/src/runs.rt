@@ -78,7 +78,7 @@ fn said_of(alloc: Global, program: &Program, limits: &str) -> Result<String, Fai
     let cells = u32::try_from(number_in(&mut words)?.unwrap_or(0))?;
     let pivots = u64::try_from(number_in(&mut words)?.unwrap_or(0))?;
     let cutoff = number_in(&mut words)?;
-    let run = Solver::new(alloc, program, cells)?.run(pivots, cutoff)?;
+    let run = Solver::new(alloc, program, cells)?.run(pivots, cutoff);
     text_of(alloc, &run)
 }
 

@@ -14,7 +14,7 @@ use Rattle.time_windows.specs.Boxes.{Box}
 use Rattle.flow_types.specs.Bounds.{IsNearBound, is_reached}
 use Rattle.branch_tree.specs.declared.tree.TreeNode.{TreeNode}
 use Rattle.relaxed_bound.proofs.LicenceFacts.{unreached_is}
-use Rattle.scaled_simplex.proofs.Products.{isnt_less, less_isnt}
+use Rattle.row_arena.proofs.WholeLaws.{isnt_less, less_isnt}
 use Rattle.tree_search.specs.declared.draft.RecordDraft.{RecordDraft}
 use Rattle.tree_search.specs.Drafts.{AreReached, IsBest, IsDraft, IsPlanAdded, IsNoted, IsOffered}
 use Rattle.tree_search.specs.Nodes.{cost_of, cutoff_after}

@@ -12,7 +12,7 @@ use Rattle.flow_types.specs.declared.bound.Bound.TheVariants.{AtLeast, NoPlan}
 use Rattle.flow_types.specs.declared.parts.Parts.{Parts}
 use Rattle.flow_types.specs.declared.plan.Stop.{Stop}
 use Rattle.flow_types.specs.Costs.{plan_cost}
-use Rattle.scaled_simplex.proofs.Products.{less_isnt}
+use Rattle.row_arena.proofs.WholeLaws.{less_isnt}
 use Rattle.flow_types.specs.Bounds.{is_reached, least_of, lesser, bound_of}
 use Rattle.time_windows.specs.Boxes.{Box}
 use Rattle.time_windows.specs.Plans.{IsBoundIn, IsPlanIn}

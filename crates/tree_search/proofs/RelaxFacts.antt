@@ -6,7 +6,7 @@ use Rattle.std.specs.Result.{IsOk}
 use Rattle.flow_types.specs.declared.bound.Bound.{Bound}
 use Rattle.flow_types.specs.declared.bound.Bound.TheVariants.{AtLeast, NoPlan}
 use Rattle.flow_types.specs.declared.parts.Parts.{Parts}
-use Rattle.scaled_simplex.proofs.Products.{less_times, low_times}
+use Rattle.row_arena.proofs.WholeLaws.{less_times, low_times}
 use Rattle.time_windows.specs.Boxes.{Box}
 use Rattle.cut_rows.specs.Pools.{is_row_with}
 use Rattle.bytime_model.specs.declared.multiplier.Multiplier.{Multiplier}

@@ -8,6 +8,7 @@ returns-clause-board c =
     board_turned c.args.program.now c.args.board.now c.args.row c.args.index c.negate.new.self
     c.put_sign.new.self c.enter.new.self c.requires.board c.requires.basic c.requires.row
     c.requires.leaves c.requires.index c.requires.enters
-    (ap (λ (a : Rows). a.rows) c.negate.ensures) c.put_sign.ensures.signs
+    (ap (λ (a : Rows). a.rows) c.negate.ensures) (ap (λ (a : Rows). a.cells) c.negate.ensures)
+    c.put_sign.ensures.signs
     c.put_sign.ensures.index_of c.put_sign.ensures.row_of c.enter.ensures.index_of
     c.enter.ensures.row_of c.enter.ensures.negative

@@ -1,10 +1,7 @@
-use Rattle.std.proofs.Common.{◌≡◌, Err, length, subst, sym}
-use Rattle.row_arena.specs.Arena.{row_at}
-use Rattle.scaled_simplex.specs.Refusals.{IfWide}
+use Rattle.std.proofs.Common.{subst, sym}
 use Rattle.scaled_simplex.specs.declared.end.End.TheVariants.{Wide as TooWide}
-use Rattle.scaled_simplex.specs.Run.{pivoted}
-use Rattle.scaled_simplex.specs.Steps.{IsTelling}
 use Rattle.scaled_simplex.specs.BoardOf.{tableau_of}
+use Rattle.scaled_simplex.specs.Steps.{IsTelling}
 use Rattle.scaled_simplex.proofs.StepFacts.{chosen_told, onward_told, wide_told}
 use Rattle.scaled_simplex.proofs.steps.go_on.Goals as goal
 
@@ -20,17 +17,12 @@ returns-in-Ok c =
     c.requires.derived
     c.in-Ok.ensures.ok c.in-Ok.ensures.basis c.in-Ok.ensures.board c.pivot.ensures.cells
 
-pub returns-in-Err-Wide : goal.returns-in-Err-Wide
-returns-in-Err-Wide c =
+pub returns-in-Err : goal.returns-in-Err
+returns-in-Err c =
     let problem = c.args.program.now in
     let old = c.args.board.now in
-    let costs = length problem.constraints in
     subst (λ row. IsTelling problem old.arena.cells c.args.cutoff c.args.left (tableau_of old)
     c.pivot.new.board (record { end = TooWide; row = row })) (sym c.rows.ensures.count)
     (wide_told problem c.args.cutoff c.args.left old c.requires.board c.pivot.new.board c.args.row
-    c.args.index c.requires.iteration c.requires.left c.in-Err-Wide.field-0-0
-    (subst (λ why. IfWide why (λ wide. pivoted problem old.arena.cells (tableau_of old) c.args.row
-    c.args.index ≡ Err wide)) c.in-Err-Wide.field-0-is c.in-Err-Wide.ensures.wide)
-    c.pivot.ensures.count
-    (subst (λ why. IfWide why (λ wide. row_at c.pivot.new.board.arena.rows costs
-    ≡ row_at old.arena.rows costs)) c.in-Err-Wide.field-0-is c.in-Err-Wide.ensures.costs))
+    c.args.index c.requires.iteration c.requires.left c.in-Err.field-0 c.in-Err.ensures.wide
+    c.pivot.ensures.count c.in-Err.ensures.costs)

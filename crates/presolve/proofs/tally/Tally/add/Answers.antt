@@ -7,4 +7,4 @@ returns-then-is_past-clause-wide c =
     past_more c.args.self.now.cells c.saturating_add-self.result
     (c.args.self.now.entries + c.args.count * c.args.each)
     (omega (arith, c.saturating_add-self.ensures, c.saturating_mul-more.ensures))
-    (c.is_past.ensures c.if-is_past.true)
+    (c.is_past.ensures.0 c.if-is_past.true)
