@@ -1,17 +1,16 @@
 -- Rows in room for so many entries.
 use Rattle.std.proofs.Common.{◌≡◌, ◌≢◌, ◌⊎◌, ℕ, zero, suc, ◌+◌, ◌-◌, ◌<◌, ◌≤◌, Option, None, Some, Ok, Err, List, [], ◌∷◌, ◌++◌, length, get_or, set, All, ℤ, pos, negsuc, neg_ℤ, nat_abs, vec_capacity, refl, sym, ap, ◌∙◌, subst, inl, inr, arith}
-use Rattle.std.specs.List.{find}
 use Rattle.std.proofs.lemmas.Int.{ints}
 use Rattle.std.proofs.lemmas.Bool.{cond-true, cond-false, le-leb, lt-leb, cases_lt}
 use Rattle.std.proofs.lemmas.List.{get_or-map, length-map, length-set, length_push}
 use Rattle.std.proofs.lemmas.List.Elements.{All-map, All-push, All-set}
 use Rattle.std.proofs.lemmas.List.Sums.{get_or-le-sum_by, sum_by-set, sum_by_push}
 use Rattle.row_arena.specs.declared.entry.Entry.{Entry}
-use Rattle.row_arena.specs.declared.products.WideEntry.{WideEntry}
-use Rattle.row_arena.specs.declared.wide.Wide.TheVariants.{Cells, Value}
+use Rattle.row_arena.specs.declared.desk.Desk.{Desk}
+use Rattle.row_arena.specs.declared.wide.Wide.TheVariants.{Cells}
 use Rattle.row_arena.specs.declared.shelf.Shelf.{Shelf}
-use Rattle.row_arena.specs.Arena.{IsArena, has_room, is_far, live, replaced, row_at, row_or_none, with_row}
-use Rattle.row_arena.specs.Products.{entries_of, entry_of, far_of}
+use Rattle.row_arena.specs.Arena.{IsArena, has_room, live, replaced, row_at, row_or_none, with_row}
+use Rattle.row_arena.specs.Desks.{IsDesk, KeepsRoom}
 use Rattle.row_arena.specs.Rows.{IsRow, most_entry, negated, negated_entry}
 use Rattle.row_arena.specs.Shelves.{HasRooms, IsShelf}
 use Rattle.exact_sums.proofs.ItemFacts.{slice_get-set_other}
@@ -48,52 +47,27 @@ live_of rows k within =
     subst (λ (r : List Entry). length r ≤ live rows) (row_is rows k [] within)
     (get_or-le-sum_by length rows k [] within)
 
--- why a row can't be put in the place of another
-module _ (cells : ℕ) (rows : List (List Entry)) (target : ℕ) (wides : List WideEntry) where
-  pub replaced_far : (wide : WideEntry) → far_of (Some wide) ≡ find is_far (entries_of wides)
-      → replaced (find is_far (entries_of wides)) cells rows target (entries_of wides)
-      ≡ Err (Value wide.column wide.value)
-  replaced_far wide found =
-      ap (λ o. replaced o cells rows target (entries_of wides)) (sym found)
+-- a row that is put in the place of another, or why it can't be
+module _ (cells : ℕ) (rows : List (List Entry)) (target : ℕ) (row : List Entry) where
+  pub put_full : (count more : ℕ) → count ≡ live rows → more ≡ length row → cells < count + more
+      → with_row cells rows target row ≡ Err (Cells count more)
+  put_full count more here size full =
+      cond-false (has_room cells rows row) (Ok (set rows target row))
+      (Err (Cells (live rows) (length row)))
+      (lt-leb (live rows + length row) cells (omega (arith, here, size, full)))
+      ∙ ap (λ n. Err (Cells n (length row))) (sym here) ∙ ap (λ n. Err (Cells count n)) (sym size)
 
-  no_room : cells < live rows + length (entries_of wides)
-      → with_row cells rows target (entries_of wides)
-      ≡ Err (Cells (live rows) (length (entries_of wides)))
-  no_room full =
-      cond-false (has_room cells rows (entries_of wides)) (Ok (set rows target (entries_of wides)))
-      (Err (Cells (live rows) (length (entries_of wides))))
-      (lt-leb (live rows + length (entries_of wides)) cells full)
-
-  long : length (entries_of wides) ≡ length wides
-  long = length-map wides entry_of
-
-  pub replaced_full : (none : Option WideEntry) (count more : ℕ)
-      → far_of None ≡ find is_far (entries_of wides) → count ≡ live rows → more ≡ length wides
-      → cells < count + more
-      → replaced (find is_far (entries_of wides)) cells rows target (entries_of wides)
-      ≡ Err (Cells count more)
-  replaced_full none count more found here new full =
-      let same = long in
-      ap (λ o. replaced o cells rows target (entries_of wides)) (sym found)
-      ∙ no_room (omega (arith, same, here, new, full))
-      ∙ ap (λ n. Err (Cells n (length (entries_of wides)))) (sym here)
-      ∙ ap (λ n. Err (Cells count n)) (same ∙ sym new)
-
-  pub replaced_ok : (new : List (List Entry)) (count more : ℕ)
-      → far_of None ≡ find is_far (entries_of wides) → count ≡ live rows → more ≡ length wides
-      → count + more ≤ cells → new ≡ set rows target (entries_of wides)
-      → replaced (find is_far (entries_of wides)) cells rows target (entries_of wides) ≡ Ok new
-  replaced_ok new count more found here more_is fits is =
-      let same = long in
-      ap (λ o. replaced o cells rows target (entries_of wides)) (sym found)
-      ∙ cond-true (has_room cells rows (entries_of wides)) (Ok (set rows target (entries_of wides)))
-      (Err (Cells (live rows) (length (entries_of wides))))
-      (le-leb (live rows + length (entries_of wides)) cells
-      (omega (arith, same, here, more_is, fits)))
+  pub put_there : (new : List (List Entry)) (count more : ℕ) → count ≡ live rows
+      → more ≡ length row → count + more ≤ cells → new ≡ set rows target row
+      → with_row cells rows target row ≡ Ok new
+  put_there new count more here size fits is =
+      cond-true (has_room cells rows row) (Ok (set rows target row))
+      (Err (Cells (live rows) (length row)))
+      (le-leb (live rows + length row) cells (omega (arith, here, size, fits)))
       ∙ ap Ok (sym is)
 
 -- what the rows are then
-with_row_is : (cells : ℕ) (rows new : List (List Entry)) (target : ℕ) (row : List Entry)
+pub with_row_is : (cells : ℕ) (rows new : List (List Entry)) (target : ℕ) (row : List Entry)
     → (cells < live rows + length row) ⊎ (live rows + length row ≤ cells)
     → with_row cells rows target row ≡ Ok new
     → (new ≡ set rows target row) × (live rows + length row ≤ cells)
@@ -115,16 +89,15 @@ replaced_is None cells rows new target row is =
     let at = with_row_is cells rows new target row (cases_lt cells (live rows + length row)) is in
     (refl, at.0, at.1)
 
-pub live_put : (rows new : List (List Entry)) (target count before : ℕ) (wides : List WideEntry)
+pub live_put : (rows new : List (List Entry)) (target count before : ℕ) (row : List Entry)
     → target < length rows → count ≡ live rows → before ≡ length (row_at rows target)
-    → new ≡ set rows target (entries_of wides) → count + length wides - before ≡ live new
-live_put rows new target count before wides within here old is =
-    let sum = live_set rows target (entries_of wides) within in
-    let long = length-map wides entry_of in
+    → new ≡ set rows target row → count + length row - before ≡ live new
+live_put rows new target count before row within here old is =
+    let sum = live_set rows target row within in
     let size = ap live is in
-    omega (arith, sum, long, size, here, old)
+    omega (arith, sum, size, here, old)
 
-pub ruleset puts = (replaced_far, replaced_full, live_put)
+pub ruleset puts = (put_full, put_there, live_put)
 
 -- The invariant after each call.
 pub arena_none : (most cells : ℕ)
@@ -240,14 +213,38 @@ two_live rows i j first second differ =
     omega (arith, sum, there, same)
 
 -- There is room still.
-pub rooms_kept : (s t : Shelf) (most cells wides filled wider fuller : ℕ)
-    → HasRooms s most cells wides filled → IsShelf t → t.half ≡ s.half
-    → vec_capacity s.places ≤ vec_capacity t.places → wides ≤ wider → filled ≤ fuller
-    → HasRooms t most cells wider fuller
-rooms_kept s t most cells wides filled wider fuller is shelf half places wide full = record {
+pub desk_kept : (cells : ℕ) (old new : Desk) → IsDesk cells old → KeepsRoom old new
+    → IsDesk cells new
+desk_kept cells old new is keeps = record {
+  narrow = let a = is.narrow in let b = keeps.narrow in omega (arith, a, b);
+  wides = let a = is.wides in let b = keeps.wides in omega (arith, a, b);
+  filled = let a = is.filled in let b = keeps.filled in omega (arith, a, b);
+}
+
+pub desk_less : (cells fewer : ℕ) (desk : Desk) → IsDesk cells desk → fewer ≤ cells
+    → IsDesk fewer desk
+desk_less cells fewer desk is less = record {
+  narrow = let a = is.narrow in omega (arith, a, less);
+  wides = let a = is.wides in omega (arith, a, less);
+  filled = let a = is.filled in omega (arith, a, less);
+}
+
+pub rooms_kept : (s t : Shelf) (most cells : ℕ) (old new : Desk) → HasRooms s most cells old
+    → IsShelf t → t.half ≡ s.half → vec_capacity s.places ≤ vec_capacity t.places
+    → KeepsRoom old new → HasRooms t most cells new
+rooms_kept s t most cells old new is shelf half places keeps = record {
   shelf = shelf;
   places = let a = is.places in omega (arith, a, places);
   half = let a = is.half in omega (arith, a, half);
-  long = let a = is.long in omega (arith, a, wide);
-  full = let a = is.full in omega (arith, a, full);
+  desk = desk_kept cells old new is.desk keeps;
+}
+
+pub rooms_same : (s t : Shelf) (most cells : ℕ) (desk : Desk) → HasRooms s most cells desk
+    → IsShelf t → t.half ≡ s.half → vec_capacity s.places ≤ vec_capacity t.places
+    → HasRooms t most cells desk
+rooms_same s t most cells desk is shelf half places = record {
+  shelf = shelf;
+  places = let a = is.places in omega (arith, a, places);
+  half = let a = is.half in omega (arith, a, half);
+  desk = is.desk;
 }

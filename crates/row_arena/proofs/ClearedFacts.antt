@@ -1,20 +1,19 @@
 -- A row with a column cleared: it is a row, and so many times what it has in a column is the
 -- difference of what the two rows have there.
-use Rattle.std.proofs.Common.{◌≡◌, ◌⊎◌, ℕ, zero, suc, ◌%◌, ◌==◌, ◌<◌, Bool, true, false, ◌&&◌, None, Ok, List, [], ◌∷◌, length, ℤ, pos, negsuc, ◌*ℤ◌, nat_abs, refl, sym, ap, ◌∙◌, subst, inl, inr, arith}
+use Rattle.std.proofs.Common.{◌≡◌, ◌⊎◌, ℕ, zero, suc, ◌%◌, ◌==◌, ◌+◌, ◌<◌, ◌≤◌, Bool, true, false, ◌&&◌, None, Ok, List, [], ◌∷◌, length, set, ℤ, pos, negsuc, ◌*ℤ◌, nat_abs, refl, sym, ap, ◌∙◌, subst, inl, inr, arith}
 use Rattle.std.specs.List.{find}
 use Rattle.std.proofs.Math.IntN.{*ℤ_comm}
 use Rattle.std.proofs.Math.Nat.{suc-mul}
 use Rattle.std.proofs.lemmas.Int.{ints}
-use Rattle.std.proofs.lemmas.Bool.{cases_Bool, cond-true, cond-false}
-use Rattle.std.proofs.lemmas.List.{length-set, take_all}
+use Rattle.std.proofs.lemmas.Bool.{cases_Bool, cases_lt, cond-true, cond-false}
+use Rattle.std.proofs.lemmas.List.{take_all}
 use Rattle.exact_sums.proofs.ItemFacts.{slice_get-set_same}
 use Rattle.row_arena.specs.declared.entry.Entry.{Entry}
-use Rattle.row_arena.specs.declared.products.WideEntry.{WideEntry}
-use Rattle.row_arena.specs.Arena.{AreFilled, IsArena, is_far, live, replaced, row_at, row_or_none}
+use Rattle.row_arena.specs.Arena.{AreFilled, IsArena, is_far, live, row_at, row_or_none, with_row}
 use Rattle.row_arena.specs.Combining.{cleared, difference, difference_at, divides_all, divisor_of, greatest}
-use Rattle.row_arena.specs.Products.{AreFilledBy, entries_of}
+use Rattle.row_arena.specs.Products.{AreFilledBy}
 use Rattle.row_arena.specs.Rows.{IsRow, entry_at}
-use Rattle.row_arena.proofs.ArenaFacts.{arena_set, live_set, replaced_is}
+use Rattle.row_arena.proofs.ArenaFacts.{arena_set, live_set, with_row_is}
 use Rattle.row_arena.proofs.DifferenceFacts.{no_difference}
 use Rattle.row_arena.proofs.DifferenceRows.{difference_ascending, difference_no_zeros, entry_at_difference}
 use Rattle.row_arena.proofs.DividedFacts.{IsSorted, entry_of_divided, none_of_divided, sorted_divided}
@@ -125,40 +124,34 @@ module _ (column : ℕ) (target pivot : List Entry) where
   }
 
 -- The rows after a column was cleared in one of them.
-module _ (cells target pivot column : ℕ) (rows new : List (List Entry)) (wides : List WideEntry)
+module _ (cells target pivot column : ℕ) (rows : List (List Entry)) (row : List Entry)
     (within : target < length rows)
-    (is : entries_of wides ≡ cleared column (row_at rows target) (row_at rows pivot))
-    (ok : replaced (find is_far (entries_of wides)) cells rows target (entries_of wides)
-    ≡ Ok new) where
+    (is : row ≡ cleared column (row_at rows target) (row_at rows pivot))
+    (near : find is_far (cleared column (row_at rows target) (row_at rows pivot)) ≡ None)
+    (new : List (List Entry)) (ok : with_row cells rows target row ≡ Ok new) where
+  put : (new ≡ set rows target row) × (live rows + length row ≤ cells)
+  put = with_row_is cells rows new target row (cases_lt cells (live rows + length row)) ok
+
   pub combined_filled : (filled : List ℕ)
       → AreFilledBy (row_at rows target) (row_at rows pivot) (length (row_at rows pivot)) filled
       → AreFilled (row_at rows target) (row_at new target) filled
   combined_filled filled by =
-      let at =
-      replaced_is (find is_far (entries_of wides)) cells rows new target (entries_of wides) ok in
-      let row : row_at new target ≡ cleared column (row_at rows target) (row_at rows pivot) =
-      ap (λ (l : List (List Entry)). row_at l target) at.1
-      ∙ ap row_or_none (slice_get-set_same rows target (entries_of wides) within) ∙ is in
-      subst (λ (l : List Entry). AreFilled (row_at rows target) l filled) (sym row)
+      let here : row_at new target ≡ cleared column (row_at rows target) (row_at rows pivot) =
+      ap (λ (l : List (List Entry)). row_at l target) put.0
+      ∙ ap row_or_none (slice_get-set_same rows target row within) ∙ is in
+      subst (λ (l : List Entry). AreFilled (row_at rows target) l filled) (sym here)
       (filled_cleared column (row_at rows target) (row_at rows pivot) filled by)
 
   pub combined_arena : (count now most : ℕ) (filled other : List ℕ)
-      → IsArena count (record { rows = rows; most_rows = most; cells = cells; filled = filled })
+      → IsArena count
+      (record { rows = rows; most_rows = most; cells = cells; filled = filled })
       → now ≡ live new
       → IsArena now (record { rows = new; most_rows = most; cells = cells; filled = other })
   combined_arena count now most filled other before here =
-      let at =
-      replaced_is (find is_far (entries_of wides)) cells rows new target (entries_of wides) ok in
-      let sum = live_set rows target (entries_of wides) within in
-      let size = ap live at.1 in
-      let fits = at.2 in
-      arena_set count now most cells target rows new (entries_of wides) filled other before
+      let sum = live_set rows target row within in
+      let size = ap live put.0 in
+      let fits = put.1 in
+      arena_set count now most cells target rows new row filled other before
       (subst IsRow (sym is) (cleared_is_row column (row_at rows target) (row_at rows pivot)
-      (ap (find is_far) (sym is) ∙ at.0))) within here
-      (omega (arith, sum, size, fits)) at.1
-
-  pub combined_count : length new ≡ length rows
-  combined_count =
-      let at =
-      replaced_is (find is_far (entries_of wides)) cells rows new target (entries_of wides) ok in
-      ap length at.1 ∙ length-set rows target (entries_of wides)
+      near)) within here
+      (omega (arith, sum, size, fits)) put.0

@@ -1,8 +1,7 @@
 -- What the difference of two rows is: a row but for numbers that may be too far from 0, with the
 -- difference of what both have in each column.
-use Rattle.std.proofs.Common.{◌≡◌, ◌≢◌, ◌⊎◌, ℕ, zero, suc, ◌+◌, ◌<◌, ◌≤◌, ◌^◌, max, List, [], ◌∷◌, ◌++◌, All, AllPairs, ℤ, pos, negsuc, ◌-ℤ◌, ◌*ℤ◌, nat_abs, refl, sym, ap, ◌∙◌, subst, inl, inr, arith, false, true}
+use Rattle.std.proofs.Common.{◌≡◌, ◌≢◌, ◌⊎◌, ℕ, zero, suc, ◌+◌, ◌<◌, ◌≤◌, max, List, [], ◌∷◌, ◌++◌, All, AllPairs, ℤ, pos, negsuc, nat_abs, refl, sym, ap, ◌∙◌, subst, inl, inr, arith, false, true}
 use Rattle.std.specs.Ordering.{int_eq}
-use Rattle.std.proofs.lemmas.Int.{ints}
 use Rattle.std.proofs.lemmas.Bool.{cases_Bool, cases_eq, cases_lt, cond-false}
 use Rattle.std.proofs.lemmas.Bool.Decides.{Decides-int_eq}
 use Rattle.std.proofs.lemmas.List.Elements.{All-cons, All-nil}
@@ -10,7 +9,6 @@ use Rattle.std.proofs.lemmas.List.Kept.{AllPairs-cons}
 use Rattle.row_arena.specs.declared.entry.Entry.{Entry}
 use Rattle.row_arena.specs.Rows.{IsRow, entry_at, most_entry, reach, row_from, unless_zero}
 use Rattle.row_arena.specs.Combining.{difference, difference_at}
-use Rattle.row_arena.proofs.ProductFacts.{product_near}
 use Rattle.row_arena.proofs.RowFacts.{IsAfter, entry_first, entry_later, entry_none, entry_past, first_is_least, row_tail}
 use Rattle.row_arena.proofs.DifferenceFacts.{no_difference, unless_none}
 
@@ -145,10 +143,6 @@ entry_near (e ∷ row) k is =
         subst (λ v. nat_abs v ≤ most_entry) (sym (entry_later k e row other))
         rest
 
-difference_within : (x y : ℤ) → nat_abs x < 2 ^ 125 → nat_abs y < 2 ^ 125
-    → nat_abs (x -ℤ y) < 2 ^ 126
-difference_within x y left right = grind (arith, ints)
-
 module _ (p a : ℤ) (t q : List Entry) where
   -- in each column p times what the one has, less a times what the other has
   pub entry_at_difference : (k : ℕ) → entry_at (difference p a t q) k ≡ difference_at p a t q k
@@ -173,12 +167,3 @@ module _ (p a : ℤ) (t q : List Entry) where
   difference_no_zeros =
       row_from_each (difference_at p a t q) (λ (e : Entry). e.value ≢ pos 0) 0
       (max (reach t) (reach q)) (λ k le some. some)
-
-  pub difference_wide : nat_abs p ≤ most_entry → nat_abs a ≤ most_entry → IsRow t → IsRow q
-      → All (λ (e : Entry). nat_abs e.value < 2 ^ 126) (difference p a t q)
-  difference_wide near_p near_a left right =
-      row_from_each (difference_at p a t q) (λ (e : Entry). nat_abs e.value < 2 ^ 126) 0
-      (max (reach t) (reach q))
-      (λ k le some. difference_within (p *ℤ entry_at t k) (a *ℤ entry_at q k)
-      (product_near p (entry_at t k) near_p (entry_near t k left))
-      (product_near a (entry_at q k) near_a (entry_near q k right)))

@@ -7,7 +7,7 @@ use Rattle.std.proofs.lemmas.Bool.{cases_Bool, cond-true, cond-false, eq-eqb, eq
 use Rattle.std.proofs.lemmas.List.{get_or-map, length-map, take_all, take_more, get_or_append_left, get_or_push, length-append}
 use Rattle.std.proofs.lemmas.List.Elements.{All-push, All-take, All-map}
 use Rattle.std.proofs.lemmas.List.Sums.{AllPass-from_list_all, list_all-from_AllPass}
-use Rattle.std.proofs.lemmas.Nat.Gcd.{dvd_of_mod-eq-zero, dvd_refl, dvd_trans, le_of_dvd, mod-eq-zero_of_dvd}
+use Rattle.std.proofs.lemmas.Nat.Gcd.{IsGcd-from_zero, IsGcd-swap, dvd-zero, dvd_of_mod-eq-zero, dvd_trans, le_of_dvd, mod-eq-zero_of_dvd}
 use Rattle.row_arena.specs.declared.entry.Entry.{Entry}
 use Rattle.row_arena.specs.declared.products.WideEntry.{WideEntry}
 use Rattle.row_arena.specs.Combining.{divides_all, divisor_of, greatest}
@@ -92,34 +92,17 @@ common_is (e ∷ row) g some no_zeros common =
     )
 
 -- The fold of the code.
-module _ (xs : List WideEntry) where
-  read : (k : ℕ) (w : WideEntry) (e : Entry) → k < length xs
-      → get_or (entries_of xs) k e ≡ entry_of (get_or xs k w)
-  read k w e within = get_or-map entry_of xs k w e within
-
-  long : length (entries_of xs) ≡ length xs
-  long = length-map xs entry_of
-
-  more_of : (k : ℕ) (w : WideEntry) → k < length xs
-      → take (k + 1) (entries_of xs) ≡ take k (entries_of xs) ++ entry_of (get_or xs k w) ∷ []
-  more_of k w within =
-      let same = long in
-      take_more (entries_of xs) k (entry_of w) (omega (arith, within, same))
-      ∙ ap (λ (e : Entry). take k (entries_of xs) ++ e ∷ []) (read k w (entry_of w) within)
-
-  pub common_more : (k : ℕ) (w : WideEntry) (g h : ℕ) → k < length xs
-      → IsCommon g (take k (entries_of xs)) → IsGcd g (nat_abs (get_or xs k w).value) h
-      → IsCommon h (take (k + 1) (entries_of xs))
-  common_more k w g h within common gcd =
-      subst (IsCommon h) (sym (more_of k w within)) (record {
+module _ (row : List Entry) where
+  pub common_next : (k : ℕ) (d : Entry) (g h : ℕ) → k < length row → IsCommon g (take k row)
+      → IsGcd g (nat_abs (get_or row k d).value) h → IsCommon h (take (k + 1) row)
+  common_next k d g h within common gcd =
+      subst (IsCommon h) (sym (take_more row k d within)) (record {
         divides = record {
-          each = All-push (λ (e : Entry). h ∣ nat_abs e.value) (take k (entries_of xs))
-              (entry_of (get_or xs k w))
+          each = All-push (λ (e : Entry). h ∣ nat_abs e.value) (take k row) (get_or row k d)
               (λ i e inside. dvd_trans h gcd.0 (common.divides.each i e inside)) gcd.1;
         };
-        greatest = λ d divides. gcd.2 d (common.greatest d (front d (take k (entries_of xs))
-            (entry_of (get_or xs k w)) divides)) (last d (take k (entries_of xs))
-            (entry_of (get_or xs k w)) divides);
+        greatest = λ n divides. gcd.2 n (common.greatest n (front n (take k row) (get_or row k d)
+            divides)) (last n (take k row) (get_or row k d) divides);
       })
     where
       front : (d : ℕ) (row : List Entry) (e : Entry) → Divides d (row ++ e ∷ []) → Divides d row
@@ -137,21 +120,45 @@ module _ (xs : List WideEntry) where
           (divides.each (length row) e
           (let same = length-append row (e ∷ []) in omega (arith, same)))
 
+  pub common_none : IsCommon 0 (take 0 row)
+  common_none = record {
+    divides = record { each = λ i e inside. absurd (omega (arith, inside)) };
+    greatest = λ d divides. dvd-zero d;
+  }
+
+  pub one_alone : (k g : ℕ) → 0 < length row → All (λ (e : Entry). e.value ≢ pos 0) row
+      → g ≡ 1 → IsCommon g (take k row) → 1 ≡ divisor_of row
+  one_alone k g some none one common =
+      (common_is row 1 some none (record {
+        divides = record { each = λ i e inside. one-dvd (nat_abs (get_or row i e).value) };
+        greatest = λ d divides. subst (λ n. d ∣ n) one (common.greatest d (record {
+          each = All-take (λ (e : Entry). d ∣ nat_abs e.value) k row divides.each;
+        }));
+      })).0
+
+module _ (xs : List WideEntry) where
+  read : (k : ℕ) (w : WideEntry) (e : Entry) → k < length xs
+      → get_or (entries_of xs) k e ≡ entry_of (get_or xs k w)
+  read k w e within = get_or-map entry_of xs k w e within
+
+  long : length (entries_of xs) ≡ length xs
+  long = length-map xs entry_of
+
+  pub common_more : (k : ℕ) (w : WideEntry) (g h : ℕ) → k < length xs
+      → IsCommon g (take k (entries_of xs)) → IsGcd g (nat_abs (get_or xs k w).value) h
+      → IsCommon h (take (k + 1) (entries_of xs))
+  common_more k w g h within common gcd =
+      let same = long in
+      common_next (entries_of xs) k (entry_of w) g h (omega (arith, within, same)) common
+      (subst (λ (e : Entry). IsGcd g (nat_abs e.value) h) (sym (read k w (entry_of w) within))
+      gcd)
+
   pub common_first : (w : WideEntry) (g : ℕ) → 0 < length xs
       → g ≡ nat_abs (get_or xs 0 w).value → IsCommon g (take 1 (entries_of xs))
   common_first w g some is =
-      subst (IsCommon g) (sym (more_of 0 w some)) (record {
-        divides = record {
-          each = λ i e inside. only i e inside;
-        };
-        greatest = λ d divides.
-            subst (λ n. d ∣ n) (sym is) (divides.each 0 (entry_of w) (omega arith));
-      })
-    where
-      only : (i : ℕ) (e : Entry) → i < length (entry_of (get_or xs 0 w) ∷ [])
-          → g ∣ nat_abs (get_or (entry_of (get_or xs 0 w) ∷ []) i e).value
-      only zero e inside = subst (λ n. g ∣ n) is (dvd_refl g)
-      only (suc i) e inside = absurd (omega (arith, inside))
+      common_more 0 w 0 g some (common_none (entries_of xs))
+      (subst (λ n. IsGcd 0 n g) is
+      (IsGcd-swap g 0 g (IsGcd-from_zero g 0 refl)))
 
   no_zero_entries : All (λ (w : WideEntry). w.value ≢ pos 0) xs
       → All (λ (e : Entry). e.value ≢ pos 0) (entries_of xs)
@@ -170,12 +177,4 @@ module _ (xs : List WideEntry) where
       → g ≡ 1 → IsCommon g (take k (entries_of xs)) → 1 ≡ divisor_of (entries_of xs)
   common_early k g some none one common =
       let same = long in
-      (common_is (entries_of xs) 1 (omega (arith, some, same)) (no_zero_entries none)
-      (record {
-        divides = record {
-          each = λ i e inside. one-dvd (nat_abs (get_or (entries_of xs) i e).value);
-        };
-        greatest = λ d divides. subst (λ n. d ∣ n) one (common.greatest d (record {
-          each = All-take (λ (e : Entry). d ∣ nat_abs e.value) k (entries_of xs) divides.each;
-        }));
-      })).0
+      one_alone (entries_of xs) k g (omega (arith, some, same)) (no_zero_entries none) one common

@@ -6,14 +6,16 @@ pub mod DifferenceRows
 pub mod DivideFacts
 pub mod DividedFacts
 pub mod DivisorFacts
-pub mod MergeFacts
+pub mod PairFacts
 pub mod PlaceFacts
 pub mod ProductFacts
+pub mod ReachFacts
 pub mod ReduceFacts
 pub mod RowFacts
 pub mod ScaledFacts
 pub mod ShelfFacts
 pub mod ShelfSteps
+pub mod WalkFacts
 pub mod WholeLaws
 pub mod WindowFacts
 pub mod WorkedRows

@@ -1,5 +1,5 @@
 -- Where a column stands in a row.
-use Rattle.std.proofs.Common.{◌≡◌, ◌⊎◌, ℕ, ◌+◌, ◌<◌, ◌≤◌, List, length, get_or, ℤ, pos, nat_abs, to_z, of_z, sym, ap, ◌∙◌, subst, inl, inr, arith}
+use Rattle.std.proofs.Common.{◌≡◌, ◌⊎◌, ℕ, ◌+◌, ◌<◌, ◌≤◌, ◌*◌, List, length, get_or, ℤ, pos, nat_abs, to_z, of_z, sym, ap, ◌∙◌, subst, inl, inr, arith}
 use mir.Syntax.{w64}
 use Rattle.std.proofs.lemmas.Int.{fits_signed_from_abs, to_z-of_z}
 use Rattle.std.proofs.lemmas.Bool.{cases_eq, cases_lt}
@@ -95,8 +95,20 @@ near_of r x same near =
 
 pub factors_near : (target pivot : List Entry) (column : ℕ) (p a : ℤ) → IsRow target → IsRow pivot
     → p ≡ entry_at pivot column → a ≡ entry_at target column
-    → AreNear (record { target = to_z w64 (of_z w64 p); pivot = to_z w64 (of_z w64 a) })
+    → AreNear (record {
+      target = to_z w64 (of_z w64 p);
+      pivot = to_z w64 (of_z w64 a);
+      reach = pos 0;
+    })
 factors_near target pivot column p a left right first second = record {
   target = near_of p (entry_at pivot column) first (entry_near pivot column right);
   pivot = near_of a (entry_at target column) second (entry_near target column left);
+  reach = record {
+    within = omega arith;
+    target = none (nat_abs (to_z w64 (of_z w64 p)));
+    pivot = none (nat_abs (to_z w64 (of_z w64 a)));
+  };
 }
+  where
+    none : (n : ℕ) → n * 0 ≤ most_entry
+    none n = omega arith

@@ -205,11 +205,11 @@ some_common z other g above gcd =
     dvd_some g (nat_abs z) gcd.0 (abs_some z (λ none. omega (arith, ints, above, none)))
 
 -- both divided by what they have in common
-pub scaled_by : (by : Factors) (g : ℕ) (x y : ℤ) → pos 0 <ℤ by.target
+pub scaled_by : (by less : Factors) (g : ℕ) → pos 0 <ℤ by.target
     → IsGcd (nat_abs by.target) (nat_abs by.pivot) g
-    → x ≡ int_div by.target (pos g) → y ≡ int_div by.pivot (pos g)
-    → AreScaled by (record { target = x; pivot = y })
-scaled_by by g x y above gcd first second = record {
+    → less.target ≡ int_div by.target (pos g) → less.pivot ≡ int_div by.pivot (pos g)
+    → AreScaled by less
+scaled_by by less g above gcd first second = record {
   times = g;
   some = some_common by.target (nat_abs by.pivot) g above gcd;
   target = sym (ap (λ z. pos g *ℤ z) first ∙ exact g by.target gcd.0);

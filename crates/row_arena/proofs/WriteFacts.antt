@@ -1,12 +1,10 @@
 -- Loops that write into the block, entry by entry.
 use Rattle.std.proofs.Common.{◌≡◌, ◌⊎◌, inl, inr, ℕ, ◌+◌, ◌<◌, ◌≤◌, List, [], ◌∷◌, ◌++◌, length, map, get_or, set, drop, take, Option, None, Some, sym, ap, ◌∙◌, arith}
-use Rattle.std.proofs.lemmas.List.{get_or-drop, get_or-map, get_or-take, get_or_append_left, length-map, map-append, take_all, take_more}
+use Rattle.std.proofs.lemmas.List.{get_or-drop, get_or-take, get_or_append_left, length-map, map-append, take_all, take_more}
 use Rattle.std.proofs.Common.{length-take-le}
 use Rattle.raw_block.specs.Places.{IsFilled}
 use Rattle.row_arena.specs.declared.entry.Entry.{Entry}
 use Rattle.row_arena.specs.declared.place.Place.{Place}
-use Rattle.row_arena.specs.declared.products.WideEntry.{WideEntry}
-use Rattle.row_arena.specs.Products.{entries_of, entry_of}
 use Rattle.row_arena.specs.Shelves.{row_in, written}
 use Rattle.row_arena.proofs.ShelfFacts.{place_item}
 use Rattle.row_arena.proofs.WindowFacts.{behind, length_run, written_length, written_more, written_none}
@@ -64,11 +62,6 @@ module _ (cs : List (Option Entry)) (at : ℕ) (row : List Entry) where
       get_or_append_left (take at cs) (map Some (take k row) ++ drop (at + length (map Some (take k row))) cs)
       None n (omega (arith, front, before))
       ∙ get_or-take at cs n None before
-
--- an entry of those that may be wide
-pub wide_item : (wides : List WideEntry) (k : ℕ) (d : WideEntry) (e : Entry) → k < length wides
-    → entry_of (get_or wides k d) ≡ get_or (entries_of wides) k e
-wide_item wides k d e within = sym (get_or-map entry_of wides k d e within)
 
 -- What a place has is copied to a position, or has its signs turned.
 module _ (cs : List (Option Entry)) (p : Place)

@@ -2,8 +2,10 @@
 use Rattle.std.specs.Prelude.{◌≡◌, ◌≢◌, ◌⊎◌, ℕ, ◌+◌, ◌-◌, ◌^◌, ◌<◌, ◌≤◌, All, List, [], ◌∷◌, ◌++◌, length, map, drop, take, get_or, vec_capacity, Option, None, Some}
 use Rattle.row_arena.specs.declared.entry.Entry.{Entry}
 use Rattle.row_arena.specs.declared.place.Place.{Place}
+use Rattle.row_arena.specs.declared.desk.Desk.{Desk}
 use Rattle.row_arena.specs.declared.shelf.Shelf.{Shelf}
 use Rattle.row_arena.specs.Arena.{live}
+use Rattle.row_arena.specs.Desks.{IsDesk}
 
 -- a list in which these are written from a position on
 abbrev pub written : {C : Type 0} → List C → ℕ → List C → List C
@@ -67,10 +69,9 @@ pub record IsMoving (shelf : Shelf) (row to : ℕ) : Type 0 where
   pub block : length shelf.block ≡ shelf.half + shelf.half
   pub small : shelf.half < 2 ^ 34
 
--- there is room in a half of the block, and in the lists, for what the limits allow
-pub record HasRooms (of : Shelf) (most cells wides filled : ℕ) : Type 0 where
+-- there is room in a half of the block, and where rows are combined, for what the limits allow
+pub record HasRooms (of : Shelf) (most cells : ℕ) (room : Desk) : Type 0 where
   pub shelf : IsShelf of
   pub places : most ≤ vec_capacity of.places
   pub half : cells ≤ of.half
-  pub long : cells ≤ wides
-  pub full : cells ≤ filled
+  pub desk : IsDesk cells room

@@ -1,17 +1,18 @@
 //! Rows of whole numbers, and how one of them is combined with another.
-ghost use Rattle.std.specs.Prelude.{◌≡◌, ◌<◌, ◌≤◌, ◌+◌, ◌^◌, ◌<ℤ◌, All, IfErr, IfOk, Err, Ok, OnErr, OnOk, length, pos, vec_capacity};
+ghost use Rattle.std.specs.Prelude.{◌≡◌, ◌<◌, ◌≤◌, ◌+◌, ◌^◌, ◌<ℤ◌, All, IfErr, IfOk, None, Err, Ok, OnErr, OnOk, length, pos, take, vec_capacity};
 ghost use Rattle.std.specs.List.{find};
-ghost use Rattle.row_arena.specs.Arena.{is_far, live, replaced, row_at};
+ghost use Rattle.row_arena.specs.Arena.{is_far, live, row_at, with_row};
 ghost use Rattle.row_arena.specs.Combining.{cleared};
-ghost use Rattle.row_arena.specs.Products.{AreFilledBy, entries_of};
+ghost use Rattle.row_arena.specs.Desks.{IsDesk, KeepsRoom};
+ghost use Rattle.row_arena.specs.Products.{AreFilledBy, TellsFar};
 ghost use Rattle.row_arena.specs.Rows.{IsRow, entry_at};
 ghost use Rattle.row_arena.specs.Shelves.{IsShelf, rows_of};
 ghost use Rattle.row_arena.specs.declared.wide.Wide.TheVariants as wide;
 
 use crate::combining::clear_column;
+use crate::desk::Desk;
 use crate::entry::Entry;
-use crate::products::WideEntry;
-use crate::row::{entry_in, first_far};
+use crate::row::entry_in;
 use crate::shelf::Shelf;
 use crate::wide::Wide;
 use flow_types::OutOfMemory;
@@ -26,9 +27,7 @@ pub struct RowArena {
     cells: u32,
     // How many entries all rows have.
     live: u64,
-    // Where a row is combined.
-    wides: Vec<WideEntry>,
-    filled: Vec<u32>,
+    desk: Desk,
 }
 
 impl Drop for RowArena {
@@ -38,14 +37,12 @@ impl Drop for RowArena {
             most_rows: _,
             cells: _,
             live: _,
-            wides: _,
-            filled: _,
+            desk: _,
         } = self;
     }
 }
 
 impl Model for RowArena {
-    ghost use Rattle.std.specs.Prelude.{vec_capacity};
     ghost use Rattle.row_arena.specs.Arena.{IsArena, Rows};
     ghost use Rattle.row_arena.specs.Shelves.{HasRooms, rows_of};
 
@@ -55,15 +52,15 @@ impl Model for RowArena {
       rows = rows_of a.shelf;
       most_rows = a.most_rows;
       cells = a.cells;
-      filled = a.filled.items;
+      filled = a.desk.filled.items;
     } };
 
     ghost invariant = { λ a. IsArena a.live (record {
       rows = rows_of a.shelf;
       most_rows = a.most_rows;
       cells = a.cells;
-      filled = a.filled.items;
-    }) × HasRooms a.shelf a.most_rows a.cells (vec_capacity a.wides) (vec_capacity a.filled) };
+      filled = a.desk.filled.items;
+    }) × HasRooms a.shelf a.most_rows a.cells a.desk };
 }
 
 impl RowArena {
@@ -72,8 +69,8 @@ impl RowArena {
     ghost use Rattle.row_arena.specs.Rows.{IsRow, entry_at, most_entry, negated};
     ghost use Rattle.row_arena.specs.declared.wide.Wide.TheVariants.{Cells};
 
-    /// No rows, in room for so many rows and entries. It takes 24 bytes for each of the rows and 84
-    /// for each of the cells, of which a call touches what it writes to.
+    /// No rows, in room for so many rows and entries. It takes 24 bytes for each of the rows and
+    /// 100 for each of the cells, of which a call touches what it writes to.
     pub fn new(alloc: Global, rows: u32, cells: u32) -> Result<RowArena, OutOfMemory>
         ensures { IfOk result (λ arena. arena
             ≡ record { rows = []; most_rows = rows; cells = cells; filled = [] }) }
@@ -83,8 +80,7 @@ impl RowArena {
             most_rows: rows,
             cells,
             live: 0,
-            wides: Vec::with_capacity(alloc, cells as usize)?,
-            filled: Vec::with_capacity(alloc, cells as usize)?,
+            desk: Desk::new(alloc, cells)?,
         })
     }
 
@@ -109,7 +105,7 @@ impl RowArena {
     pub fn filled(&self) -> &[u32]
         ensures { result.now ≡ self.now.filled }
     {
-        &self.filled
+        &self.desk.filled
     }
 
     /// The entries of a row, by ascending column, none of them 0.
@@ -199,18 +195,17 @@ impl RowArena {
         ensures most_rows { self.new.most_rows ≡ self.old.most_rows }
         ensures cells { self.new.cells ≡ self.old.cells }
     {
-        clear_in(
-            &mut self.wides,
-            &mut self.filled,
+        let count = clear_in(
+            &mut self.desk,
             &self.shelf,
             target as usize,
             pivot as usize,
             column,
-        );
+        )?;
         self.live = put(
             &mut self.shelf,
             target as usize,
-            &self.wides,
+            &self.desk.narrow[..count],
             self.live,
             self.cells,
         )?;
@@ -261,47 +256,45 @@ fn check_room(live: u64, more: u64, cells: u32) -> Result<(), Wide>
     }
 }
 
-// Writes the target with the column cleared, and the columns that only the pivot has.
+// Writes the target with the column cleared, where none of its entries is too far from 0, and the
+// columns that only the pivot has. Says how many entries that are.
 fn clear_in(
-    wides: &mut Vec<WideEntry>,
-    filled: &mut Vec<u32>,
+    desk: &mut Desk,
     shelf: &Shelf,
     target: usize,
     pivot: usize,
     column: u32,
-)
+) -> Result<usize, Wide>
     requires shelf { IsShelf shelf.now }
     requires target { target < length (rows_of shelf.now) }
     requires pivot { pivot < length (rows_of shelf.now) }
     requires valid { All IsRow (rows_of shelf.now) }
     requires above { pos 0 <ℤ entry_at (row_at (rows_of shelf.now) pivot) column }
-    requires wides_room { length (row_at (rows_of shelf.now) target)
-        + length (row_at (rows_of shelf.now) pivot) ≤ vec_capacity wides.old }
-    requires filled_room { length (row_at (rows_of shelf.now) pivot) ≤ vec_capacity filled.old }
-    ensures rows { entries_of wides.new.items
-        ≡ cleared column (row_at (rows_of shelf.now) target) (row_at (rows_of shelf.now) pivot) }
+    requires desk { IsDesk (length (row_at (rows_of shelf.now) target)
+        + length (row_at (rows_of shelf.now) pivot)) desk.old }
+    ensures ok { IfOk result (λ count. take count desk.new.narrow.items
+        ≡ cleared column (row_at (rows_of shelf.now) target) (row_at (rows_of shelf.now) pivot)) }
+    ensures within { IfOk result (λ count. count ≤ length desk.new.narrow.items) }
+    ensures near { OnOk result (find is_far
+        (cleared column (row_at (rows_of shelf.now) target) (row_at (rows_of shelf.now) pivot))
+        ≡ None) }
+    ensures far { IfErr result (TellsFar (find is_far
+        (cleared column (row_at (rows_of shelf.now) target) (row_at (rows_of shelf.now) pivot)))) }
     ensures filled { AreFilledBy (row_at (rows_of shelf.now) target)
         (row_at (rows_of shelf.now) pivot) (length (row_at (rows_of shelf.now) pivot))
-        filled.new.items }
-    ensures wides_room { vec_capacity wides.old ≤ vec_capacity wides.new }
-    ensures filled_room { vec_capacity filled.old ≤ vec_capacity filled.new }
+        desk.new.filled.items }
+    ensures room { KeepsRoom desk.old desk.new }
 {
-    clear_column(
-        wides,
-        filled,
-        row_of(shelf, target),
-        row_of(shelf, pivot),
-        column,
-    );
+    clear_column(desk, row_of(shelf, target), row_of(shelf, pivot), column)
 }
 
-// Puts entries in the place of a row, where none is too far from 0 and there is room for them, and
-// says how many there are then.
+// Puts entries in the place of a row, where there is room for them, and says how many there are in
+// all rows then.
 #[tactic(auto, using(crate::proofs::ArenaFacts::puts))]
 fn put(
     shelf: &mut Shelf,
     target: usize,
-    wides: &Vec<WideEntry>,
+    entries: &[Entry],
     count: u64,
     cells: u32,
 ) -> Result<u64, Wide>
@@ -311,26 +304,19 @@ fn put(
     requires live { count ≡ live (rows_of shelf.old) }
     requires room { count ≤ cells }
     ensures shelf { IsShelf shelf.new }
-    ensures ok { OnOk result (replaced (find is_far (entries_of wides.now.items)) cells
-        (rows_of shelf.old) target (entries_of wides.now.items) ≡ Ok (rows_of shelf.new)) }
+    ensures ok { OnOk result (with_row cells (rows_of shelf.old) target entries.now
+        ≡ Ok (rows_of shelf.new)) }
     ensures live { IfOk result (λ now. now ≡ live (rows_of shelf.new)) }
     ensures wide { IfErr result (λ wide.
-        replaced (find is_far (entries_of wides.now.items)) cells (rows_of shelf.old) target
-        (entries_of wides.now.items) ≡ Err wide) }
+        with_row cells (rows_of shelf.old) target entries.now ≡ Err wide) }
     ensures err { OnErr result (rows_of shelf.new ≡ rows_of shelf.old) }
     ensures half { shelf.new.half ≡ shelf.old.half }
     ensures places { vec_capacity shelf.old.places ≤ vec_capacity shelf.new.places }
 {
-    if let Some(far) = first_far(wides) {
-        return Err(Wide::Value {
-            column: far.column,
-            value: far.value,
-        });
-    }
-    let more = wides.len() as u64;
+    let more = entries.len() as u64;
     check_room(count, more, cells)?;
     let before = length_of(shelf, target);
-    shelf.replace(target, wides);
+    shelf.replace(target, entries);
     Ok(count + more - before)
 }
 

@@ -3,7 +3,9 @@ ghost use Rattle.std.specs.Prelude.{◌≡◌, ◌≢◌, ◌/◌, ℕ, ◌<◌,
 ghost use Rattle.std.specs.Int.{IsGcd};
 ghost use Rattle.row_arena.specs.Combining.{divisor_of, entry_by};
 ghost use Rattle.row_arena.specs.Products.{divided_by, entries_of, entry_of};
+ghost use Rattle.row_arena.specs.Rows.{most_entry};
 
+use crate::entry::Entry;
 use crate::products::WideEntry;
 
 // The greatest common divisor of the values: 1 where there are none.
@@ -35,7 +37,70 @@ fn common_divisor(entries: &[WideEntry]) -> u128
     divisor
 }
 
+// The greatest common divisor of entries in 64 bits: 1 where there are none.
+#[tactic(auto, using(crate::proofs::DivisorFacts::common_none))]
+pub fn narrow_divisor(entries: &[Entry]) -> u64
+    requires { All (λ entry. entry.value ≢ pos 0) entries.now }
+    ensures divisor { result ≡ divisor_of entries.now }
+    ensures some { 0 < result }
+{
+    if entries.is_empty() {
+        return 1;
+    }
+    let mut divisor = 0;
+    for k in 0..entries.len() {
+        divisor = gcd_narrow(size_of(entries[k]), divisor);
+        if divisor == 1 {
+            return 1;
+        }
+    }
+    divisor
+}
+
+// Divides each of the entries.
+#[tactic(auto, using(crate::proofs::ReduceFacts::near_at, crate::proofs::ReduceFacts::narrow_all))]
+pub fn divide_narrow(entries: &mut [Entry], divisor: u64)
+    requires some { 0 < divisor }
+    requires near { All (λ entry. nat_abs entry.value ≤ most_entry) entries.old }
+    ensures length { length entries.new ≡ length entries.old }
+    ensures divided { entries.new ≡ divided_by divisor entries.old }
+{
+    for k in 0..entries.len() {
+        entries[k] = narrow_quotient(entries[k], divisor);
+    }
+}
+
+// An entry with its value divided.
+#[inline(always)]
+#[tactic(auto, using(crate::proofs::DividedFacts::parts))]
+fn narrow_quotient(entry: Entry, divisor: u64) -> Entry
+    requires some { 0 < divisor }
+    requires near { nat_abs entry.value ≤ most_entry }
+    ensures { result ≡ entry_by divisor entry }
+{
+    let size = size_of(entry) / divisor;
+    if entry.value < 0 {
+        Entry {
+            column: entry.column,
+            value: -(size as i64),
+        }
+    } else {
+        Entry {
+            column: entry.column,
+            value: size as i64,
+        }
+    }
+}
+
 // How far an entry is from 0.
+#[inline(always)]
+fn size_of(entry: Entry) -> u64
+    ensures { result ≡ nat_abs entry.value }
+{
+    entry.value.unsigned_abs()
+}
+
+// How far an entry is from 0, in 128 bits.
 #[inline(always)]
 fn magnitude(entry: WideEntry) -> u128
     ensures { result ≡ nat_abs entry.value }

@@ -1,9 +1,10 @@
-//! Entries before their row is divided.
-ghost use Rattle.std.specs.Prelude.{◌≡◌, ◌≤◌, ◌<◌, ◌+◌, ◌^◌, ◌++◌, ◌*ℤ◌, ◌-ℤ◌, length, nat_abs, pos, vec_capacity};
-ghost use Rattle.row_arena.specs.Products.{AreNear, entries_of};
-ghost use Rattle.row_arena.specs.Rows.{most_entry, unless_zero};
+//! What comes of pairs, in 128 bits.
+ghost use Rattle.std.specs.Prelude.{◌≡◌, ◌<◌, ◌≤◌, ◌^◌, ◌*ℤ◌, ◌-ℤ◌, nat_abs};
+ghost use Rattle.row_arena.specs.Products.{AreNear};
+ghost use Rattle.row_arena.specs.Rows.{most_entry};
 
-use crate::entry::Entry;
+use crate::pair::Pair;
+use crate::width::Width;
 
 /// A number in a column, as wide as a difference of two products.
 #[derive(Clone, Copy, Debug, PartialEq, Eq)]
@@ -12,83 +13,72 @@ pub struct WideEntry {
     pub value: i128,
 }
 
-/// How often the target is taken, and how often the pivot is taken away.
+/// How often the target is taken, and how often the pivot is taken away; and how far from 0 an entry
+/// may be for its product with either not to be too far.
 #[derive(Clone, Copy, Debug, PartialEq, Eq)]
 pub struct Factors {
     pub target: i64,
     pub pivot: i64,
+    pub reach: i64,
 }
 
-// Adds an entry, where it isn't 0.
-#[inline(always)]
-pub fn add(out: &mut Vec<WideEntry>, entry: WideEntry)
-    requires room { length out.old.items < vec_capacity out.old }
-    ensures rows { entries_of out.new.items
-        ≡ entries_of out.old.items ++ unless_zero entry.column entry.value }
-    ensures count { length out.new.items ≤ length out.old.items + 1 }
-    ensures room { vec_capacity out.old ≤ vec_capacity out.new }
-{
-    if entry.value != 0 {
-        let _ = out.push(entry);
+impl Width for WideEntry {
+    ghost use Rattle.std.specs.Prelude.{◌<◌, ◌^◌, nat_abs, true};
+    ghost use Rattle.row_arena.specs.Products.{entry_of};
+
+    ghost entry = { entry_of };
+
+    ghost IsKept = { λ w. nat_abs w.value < 2 ^ 126 };
+
+    ghost takes_all = { true };
+
+    #[inline(always)]
+    fn of_pair(by: Factors, pair: Pair) -> Option<WideEntry> {
+        Some(wide_of(by, pair))
+    }
+
+    #[inline(always)]
+    fn is_zero(self) -> bool {
+        self.value == 0
     }
 }
 
-// What is of the target alone.
+// What comes of a pair.
+#[inline(always)]
+fn wide_of(by: Factors, pair: Pair) -> WideEntry
+    requires { AreNear by }
+    ensures column { result.column ≡ pair.column }
+    ensures value { result.value ≡ (by.target *ℤ pair.target) -ℤ (by.pivot *ℤ pair.pivot) }
+    ensures within { nat_abs result.value < 2 ^ 126 }
+{
+    WideEntry {
+        column: pair.column,
+        value: less(
+            product(by.target, pair.target),
+            product(by.pivot, pair.pivot),
+        ),
+    }
+}
+
+// The one less the other.
+#[inline(always)]
+fn less(one: i128, other: i128) -> i128
+    requires one { nat_abs one < 2 ^ 125 }
+    requires other { nat_abs other < 2 ^ 125 }
+    ensures less { result ≡ one -ℤ other }
+    ensures within { nat_abs result < 2 ^ 126 }
+{
+    one - other
+}
+
+// The product of two numbers of 64 bits.
 #[tactic(auto, using(crate::proofs::ProductFacts::product_near))]
 #[inline(always)]
-pub fn of_target(by: Factors, entry: Entry) -> WideEntry
-    requires factors { AreNear by }
-    requires near { nat_abs entry.value ≤ most_entry }
-    ensures column { result.column ≡ entry.column }
-    ensures value { result.value ≡ by.target *ℤ entry.value }
-    ensures within { nat_abs result.value < 2 ^ 125 }
+fn product(left: i64, right: i64) -> i128
+    requires left { nat_abs left ≤ most_entry }
+    requires right { nat_abs right ≤ most_entry }
+    ensures product { result ≡ left *ℤ right }
+    ensures within { nat_abs result < 2 ^ 125 }
 {
-    WideEntry {
-        column: entry.column,
-        value: by.target as i128 * entry.value as i128,
-    }
-}
-
-// As often the pivot's entry as it is taken away.
-#[tactic(auto, using(crate::proofs::ProductFacts::product_near))]
-#[inline(always)]
-fn pivot_multiple(by: Factors, entry: Entry) -> WideEntry
-    requires factors { AreNear by }
-    requires near { nat_abs entry.value ≤ most_entry }
-    ensures value { result.value ≡ by.pivot *ℤ entry.value }
-    ensures within { nat_abs result.value < 2 ^ 125 }
-{
-    WideEntry {
-        column: entry.column,
-        value: by.pivot as i128 * entry.value as i128,
-    }
-}
-
-// What is of the pivot alone.
-#[inline(always)]
-pub fn of_pivot(by: Factors, entry: Entry) -> WideEntry
-    requires factors { AreNear by }
-    requires near { nat_abs entry.value ≤ most_entry }
-    ensures column { result.column ≡ entry.column }
-    ensures value { result.value ≡ pos 0 -ℤ (by.pivot *ℤ entry.value) }
-{
-    WideEntry {
-        column: entry.column,
-        value: -pivot_multiple(by, entry).value,
-    }
-}
-
-// What is of both, in one column.
-#[inline(always)]
-pub fn of_both(by: Factors, target: Entry, pivot: Entry) -> WideEntry
-    requires factors { AreNear by }
-    requires target { nat_abs target.value ≤ most_entry }
-    requires pivot { nat_abs pivot.value ≤ most_entry }
-    ensures column { result.column ≡ target.column }
-    ensures value { result.value ≡ (by.target *ℤ target.value) -ℤ (by.pivot *ℤ pivot.value) }
-{
-    WideEntry {
-        column: target.column,
-        value: of_target(by, target).value - pivot_multiple(by, pivot).value,
-    }
+    left as i128 * right as i128
 }

@@ -1,9 +1,9 @@
 //! What a row has in a column, and whether an entry of it is too far from 0.
-ghost use Rattle.std.specs.Prelude.{◌≡◌, ◌≤◌, length};
+ghost use Rattle.std.specs.Prelude.{◌≡◌, ◌≤◌, length, nat_abs};
 ghost use Rattle.std.specs.List.{find};
 ghost use Rattle.row_arena.specs.Arena.{is_far};
 ghost use Rattle.row_arena.specs.Products.{IsPlaceOf, entries_of, entry_of, far_of};
-ghost use Rattle.row_arena.specs.Rows.{IsRow, entry_at, value_in};
+ghost use Rattle.row_arena.specs.Rows.{IsRow, entry_at, most_entry, value_in};
 
 use crate::entry::{Entry, MOST_ENTRY};
 use crate::products::WideEntry;
@@ -33,23 +33,27 @@ fn value_in(column: u32, entry: Entry) -> i64
     }
 }
 
-// The first position whose column isn't below this one, by bisection.
+// The first position whose column isn't below this one, by bisection. How often it halves depends
+// on the length alone, so that no guess of the processor goes wrong.
 fn place_of(row: &[Entry], column: u32) -> usize
     requires { IsRow row.now }
     ensures within { result ≤ length row.now }
     ensures place { IsPlaceOf row.now column result }
 {
     let mut low = 0;
-    let mut high = row.len();
-    while low < high {
-        let middle = low + (high - low) / 2;
-        if row[middle].column < column {
-            low = middle + 1;
-        } else {
-            high = middle;
+    let mut count = row.len();
+    while count > 1 {
+        let half = count / 2;
+        if row[low + half - 1].column < column {
+            low += half;
         }
+        count -= half;
     }
-    low
+    if count == 1 && row[low].column < column {
+        low + 1
+    } else {
+        low
+    }
 }
 
 // The first entry that is too far from 0.
@@ -66,8 +70,20 @@ pub fn first_far(wides: &[WideEntry]) -> Option<WideEntry>
 
 // It is too far from 0.
 #[inline(always)]
-fn is_far(wide: WideEntry) -> bool
+pub fn is_far(wide: WideEntry) -> bool
     ensures { result ≡ is_far (entry_of wide) }
 {
     wide.value > MOST_ENTRY as i128 || wide.value < -(MOST_ENTRY as i128)
+}
+
+// The entry, if it isn't too far from 0.
+#[inline(always)]
+pub fn narrow(wide: WideEntry) -> Entry
+    requires { nat_abs wide.value ≤ most_entry }
+    ensures { result ≡ entry_of wide }
+{
+    Entry {
+        column: wide.column,
+        value: wide.value as i64,
+    }
 }

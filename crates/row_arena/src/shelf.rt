@@ -1,14 +1,11 @@
 //! Rows side by side in one block.
 ghost use Rattle.std.specs.Prelude.{◌≡◌, ◌<◌, ◌≤◌, ◌+◌, ◌-◌, ◌/◌, ◌^◌, ◌++◌, ◌∷◌, [], IfOk, None, Some, drop, length, map, nat_abs, set, take, vec_capacity, ◌⊎◌};
-ghost use Rattle.std.specs.List.{find};
-ghost use Rattle.row_arena.specs.Arena.{is_far, live, row_at};
-ghost use Rattle.row_arena.specs.Products.{entries_of, entry_of};
+ghost use Rattle.row_arena.specs.Arena.{live, row_at};
 ghost use Rattle.row_arena.specs.Rows.{IsRow, most_entry, negated, negated_entry};
 ghost use Rattle.row_arena.specs.Shelves.{IsMoving, IsShelf, row_in, rows_of, written};
 
 use crate::entry::Entry;
 use crate::place::Place;
-use crate::products::WideEntry;
 use flow_types::OutOfMemory;
 use raw_block::Block;
 use std::alloc::Global;
@@ -45,9 +42,7 @@ impl Drop for Shelf {
 
 impl Shelf {
     ghost use Rattle.std.specs.Prelude.{◌≡◌, ◌<◌, ◌≤◌, ◌+◌, ◌^◌, ◌++◌, ◌∷◌, [], IfOk, None, get_or, length, set, vec_capacity};
-    ghost use Rattle.std.specs.List.{find};
-    ghost use Rattle.row_arena.specs.Arena.{is_far, live, row_at};
-    ghost use Rattle.row_arena.specs.Products.{entries_of};
+    ghost use Rattle.row_arena.specs.Arena.{live, row_at};
     ghost use Rattle.row_arena.specs.Rows.{IsRow, negated};
     ghost use Rattle.row_arena.specs.Shelves.{IsShelf, rows_of};
     ghost use Rattle.row_arena.specs.declared.place.Place.{Place};
@@ -102,62 +97,59 @@ impl Shelf {
         self.tail = from + entries.len();
     }
 
-    /// Puts entries, none of which is too far from 0, in the place of a row.
-    pub fn replace(&mut self, row: usize, wides: &[WideEntry])
+    /// Puts entries in the place of a row.
+    pub fn replace(&mut self, row: usize, entries: &[Entry])
         requires shelf { IsShelf self.old }
         requires within { row < length self.old.places.items }
-        requires near { find is_far (entries_of wides.now) ≡ None }
-        requires room { live (rows_of self.old) + length wides.now ≤ self.old.half }
+        requires room { live (rows_of self.old) + length entries.now ≤ self.old.half }
         ensures shelf { IsShelf self.new }
-        ensures rows { rows_of self.new ≡ set (rows_of self.old) row (entries_of wides.now) }
+        ensures rows { rows_of self.new ≡ set (rows_of self.old) row entries.now }
         ensures half { self.new.half ≡ self.old.half }
         ensures places { vec_capacity self.old.places ≤ vec_capacity self.new.places }
     {
-        if wides.len() <= self.places[row].room {
-            self.rewrite(row, wides);
+        if entries.len() <= self.places[row].room {
+            self.rewrite(row, entries);
         } else {
-            self.reserve(wides.len());
-            self.move_up(row, wides);
+            self.reserve(entries.len());
+            self.move_up(row, entries);
         }
     }
 
     // Puts entries in the place where the row lies.
-    fn rewrite(&mut self, row: usize, wides: &[WideEntry])
+    fn rewrite(&mut self, row: usize, entries: &[Entry])
         requires shelf { IsShelf self.old }
         requires within { row < length self.old.places.items }
-        requires near { find is_far (entries_of wides.now) ≡ None }
-        requires room { (d : Place) → length wides.now ≤ (get_or self.old.places.items row d).room }
+        requires room { (d : Place) → length entries.now ≤ (get_or self.old.places.items row d).room }
         ensures shelf { IsShelf self.new }
-        ensures rows { rows_of self.new ≡ set (rows_of self.old) row (entries_of wides.now) }
+        ensures rows { rows_of self.new ≡ set (rows_of self.old) row entries.now }
         ensures half { self.new.half ≡ self.old.half }
         ensures places { vec_capacity self.old.places ≤ vec_capacity self.new.places }
     {
         let place = self.places[row];
-        write_wides(&mut self.block, place.from, wides);
+        write(&mut self.block, place.from, entries);
         self.places[row] = Place {
             from: place.from,
-            len: wides.len(),
+            len: entries.len(),
             room: place.room,
         };
     }
 
     // Puts entries in a place for the row at the free end, with some room more if there is.
-    fn move_up(&mut self, row: usize, wides: &[WideEntry])
+    fn move_up(&mut self, row: usize, entries: &[Entry])
         requires shelf { IsShelf self.old }
         requires within { row < length self.old.places.items }
-        requires near { find is_far (entries_of wides.now) ≡ None }
-        requires room { self.old.tail + length wides.now ≤ self.old.start + self.old.half }
+        requires room { self.old.tail + length entries.now ≤ self.old.start + self.old.half }
         ensures shelf { IsShelf self.new }
-        ensures rows { rows_of self.new ≡ set (rows_of self.old) row (entries_of wides.now) }
+        ensures rows { rows_of self.new ≡ set (rows_of self.old) row entries.now }
         ensures half { self.new.half ≡ self.old.half }
         ensures places { vec_capacity self.old.places ≤ vec_capacity self.new.places }
     {
         let from = self.tail;
-        let room = room_for(wides.len(), self.start + self.half - from);
-        write_wides(&mut self.block, from, wides);
+        let room = room_for(entries.len(), self.start + self.half - from);
+        write(&mut self.block, from, entries);
         self.places[row] = Place {
             from,
-            len: wides.len(),
+            len: entries.len(),
             room,
         };
         self.tail = from + room;
@@ -263,30 +255,6 @@ fn write(block: &mut Block<Entry>, at: usize, entries: &[Entry])
 {
     for k in 0..entries.len() {
         block.put(at + k, entries[k]);
-    }
-}
-
-// Writes entries of which none is too far from 0.
-fn write_wides(block: &mut Block<Entry>, at: usize, wides: &[WideEntry])
-    requires within { at + length wides.now ≤ length block.old }
-    requires small { length block.old < 2 ^ 36 }
-    requires near { find is_far (entries_of wides.now) ≡ None }
-    ensures { block.new ≡ written block.old at (map Some (entries_of wides.now)) }
-{
-    for k in 0..wides.len() {
-        block.put(at + k, narrow(wides[k]));
-    }
-}
-
-// The entry, if it isn't too far from 0.
-#[inline(always)]
-fn narrow(wide: WideEntry) -> Entry
-    requires { nat_abs wide.value ≤ most_entry }
-    ensures { result ≡ entry_of wide }
-{
-    Entry {
-        column: wide.column,
-        value: wide.value as i64,
     }
 }
 

@@ -38,7 +38,7 @@
 //! when it has become long.
 //!
 //! Memory: a program takes 8 bytes for each column, 16 for each factor and some 40 for each row.
-//! `Solver::new` takes all that a run needs, 102 bytes for each of the cells and 24 for each index,
+//! `Solver::new` takes all that a run needs, 118 bytes for each of the cells and 24 for each index,
 //! and `run` takes none. What isn't written to isn't touched: of the rows what `row_arena` tells, 8
 //! bytes for each row in the lists, of which there are at most some four times as many as entries,
 //! and 4 for each in the longest list.

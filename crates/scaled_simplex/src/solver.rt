@@ -62,7 +62,7 @@ impl<'a> Solver<'a> {
     ghost use Rattle.scaled_simplex.specs.Run.{simplex_run};
     ghost use Rattle.scaled_simplex.specs.declared.end.End.TheVariants.{Optimal};
 
-    /// The first tableau of the program. It takes 102 bytes for each of the cells, of which it touches
+    /// The first tableau of the program. It takes 118 bytes for each of the cells, of which it touches
     /// some 24 for each of its entries, and 24 for each index.
     pub fn new(alloc: Global, program: &'a Program, cells: u32) -> Result<Solver<'a>, OutOfMemory>
         ensures { IfOk result (λ solver. solver

@@ -1,6 +1,6 @@
-use Rattle.std.proofs.Common.{rules, vec_capacity, arith}
+use Rattle.std.proofs.Common.{rules, arith}
 use Rattle.row_arena.specs.Shelves.{rows_of}
-use Rattle.row_arena.proofs.ArenaFacts.{arena_negated, rooms_kept, row_at_valid}
+use Rattle.row_arena.proofs.ArenaFacts.{arena_negated, rooms_same, row_at_valid}
 use Rattle.row_arena.proofs.arena.RowArena.negate.Goals as goal
 
 pub negate-requires-clause-valid : goal.negate-requires-clause-valid
@@ -10,11 +10,9 @@ negate-requires-clause-valid c =
 pub invariant_of-self : goal.invariant_of-self
 invariant_of-self c = (
   arena_negated c.self.inside.live c.self.inside.most_rows c.self.inside.cells c.args.row
-      (rows_of c.self.inside.shelf) (rows_of c.negate.new.self) c.self.inside.filled.items
+      (rows_of c.self.inside.shelf) (rows_of c.negate.new.self) c.self.inside.desk.filled.items
       c.self.invariant.0 (search rules) c.negate.ensures.rows,
-  rooms_kept c.self.inside.shelf c.negate.new.self c.self.inside.most_rows c.self.inside.cells
-      (vec_capacity c.self.inside.wides) (vec_capacity c.self.inside.filled)
-      (vec_capacity c.self.inside.wides) (vec_capacity c.self.inside.filled)
-      c.self.invariant.1 c.negate.ensures.shelf c.negate.ensures.half (rw c.negate.ensures.places (omega arith)) (omega arith)
-      (omega arith),
+  rooms_same c.self.inside.shelf c.negate.new.self c.self.inside.most_rows c.self.inside.cells
+      c.self.inside.desk c.self.invariant.1 c.negate.ensures.shelf c.negate.ensures.half
+      (rw c.negate.ensures.places (omega arith)),
 )

@@ -1,8 +1,0 @@
-use Rattle.row_arena.proofs.WriteFacts.{begun}
-use Rattle.std.proofs.Common.{◌≡◌}
-use Rattle.row_arena.specs.Products.{entries_of}
-use Rattle.row_arena.proofs.shelf.write_wides.Given as goal
-
-abbrev pub invariant-loop-k : goal.invariant-loop-k
-invariant-loop-k l =
-    l.block ≡ begun l.initial.block l.at (entries_of l.wides) l.k
