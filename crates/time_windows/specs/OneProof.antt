@@ -15,5 +15,5 @@ IsWindowWithin-prop (Some window) (Some outer) = ×_prop le_prop le_prop
 
 ruleset props = (IsWindowWithin-prop, std.props)
 
-pub IsMadeFor-prop : (parts : Parts) (held : Held) → IsProp (IsMadeFor parts held)
-IsMadeFor-prop parts held = Prim.hlevel props
+pub IsMadeFor-prop : {parts : Parts} {held : Held} → IsProp (IsMadeFor parts held)
+IsMadeFor-prop {parts} {held} = Prim.hlevel props

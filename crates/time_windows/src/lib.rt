@@ -26,10 +26,10 @@
 //!
 //! The definitions stand in `specs/`: `Boxes` (a box, the root box, and what it is for a trip or a
 //! plan to be in one), `Plans` (the plans in a box that keep every rule, and bounds over them),
-//! `Tight` (what a tight box is), `Splits` (the sides of a split), `Groups`
-//! (lists of items in one block), `Turns` with `Ends` (the connections of each flight), `Held`
-//! (what `Boxes` holds), `Subproblems` (a scenario with a box) and `Path` (a path of boxes, and the log that keeps it). `Steps` and
-//! `Narrowing` serve the proof of `tighten`, and `Trail` that of the trail.
+//! `Tight` (what a tight box is), `Splits` (the sides of a split), `Groups` (lists of items in one
+//! block), `Turns` with `Ends` (the connections of each flight), `Held` (what `Boxes` holds),
+//! `Subproblems` (a scenario with a box) and `Path` (a path of boxes, and the log that keeps it).
+//! `Steps` and `Narrowing` serve the proof of `tighten`, and `Trail` that of the trail.
 //!
 //! Proved: `tighten` leaves the widest tight box within (`tight`), loses no plan that keeps the
 //! turnarounds (`kept`), and tells the first node that must be entered and is closed (`told`). The

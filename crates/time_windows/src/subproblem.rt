@@ -11,5 +11,5 @@ use flow_types::Scenario;
 pub struct Subproblem<'a> {
     pub s: &'a Scenario,
     pub boxes: &'a Boxes,
-    pub ghost made: { IsMadeFor (parts_of s.now) boxes.now } by { IsMadeFor-prop (parts_of s.now) boxes.now },
+    pub ghost made: { IsMadeFor (parts_of s.now) boxes.now } by { IsMadeFor-prop },
 }

@@ -1,11 +1,9 @@
 pub mod Budgets
 pub mod Drafts
 pub mod Nodes
-pub mod OneProof
 pub mod Pools
 pub mod Records
 pub mod Rooms
 pub mod Searching
 pub mod Seen
-pub mod Subproblems
 pub mod Visits

@@ -6,16 +6,15 @@ ghost use Rattle.time_windows.specs.Boxes.{Box, IsProper, options_of};
 ghost use Rattle.time_windows.specs.Held.{box_of};
 ghost use Rattle.time_windows.specs.Splits.{IsBranching};
 ghost use Rattle.tree_search.specs.Seen.{IsBranchOf, IsChoiceIn};
-ghost use Rattle.tree_search.specs.Subproblems.{box_in, parts_in};
+ghost use Rattle.time_windows.specs.Subproblems.{box_in, parts_in};
 
-use crate::subproblem::Subproblem;
 use branch_tree::Branch;
 use bytime_model::Var;
 use flow_types::{MOST_NODES, OutOfMemory};
 use price_ascent::{Ascent, Spread};
 use relaxed_bound::Point;
 use std::alloc::Global;
-use time_windows::{Access, Boxes};
+use time_windows::{Access, Boxes, Subproblem};
 
 /// A branch of the box: the middle of the window of the first node that has several options. None
 /// where no node has.

@@ -2,16 +2,16 @@
 ghost use Rattle.std.specs.Prelude.{IfOk, IfSome, OnOk};
 ghost use Rattle.time_windows.specs.Plans.{IsPlanIn};
 ghost use Rattle.tree_search.specs.Rooms.{AreRoomsFor};
-ghost use Rattle.tree_search.specs.Subproblems.{box_in, parts_in};
+ghost use Rattle.time_windows.specs.Subproblems.{box_in, parts_in};
 ghost use Rattle.tree_search.specs.Visits.{IsImproved};
 
 use crate::draft::{RecordDraft, offer};
 use crate::rooms::Rooms;
 use crate::setting::Start;
-use crate::subproblem::Subproblem;
 use flow_types::{Bound, OutOfMemory, Plan};
 use plan_improver::Search;
 use price_ascent::WEIGHT;
+use time_windows::Subproblem;
 
 // After so many boxes a cheaper plan of the first box is looked for again, up to so many in all.
 const BOXES_A_SEARCH: u32 = 16;

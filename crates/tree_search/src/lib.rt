@@ -64,7 +64,6 @@ mod rooms;
 mod searching;
 mod seeing;
 mod setting;
-mod subproblem;
 
 pub use found::{Bounds, Budget, Counts, Found, Plans};
 pub use laws::{enough_nodes_close, search_records_are_bounds, search_trees_have_the_bound};

@@ -12,12 +12,11 @@ ghost use Rattle.time_windows.specs.Tight.{IsLive, IsTight};
 ghost use Rattle.tree_search.specs.Pools.{IsFirstPool, cuts_by, free_point, turned_at};
 ghost use Rattle.tree_search.specs.Rooms.{AreRoomsFor};
 ghost use Rattle.tree_search.specs.Seen.{IsBranchOf, IsRelaxedIn};
-ghost use Rattle.tree_search.specs.Subproblems.{box_in, parts_in};
+ghost use Rattle.time_windows.specs.Subproblems.{box_in, parts_in};
 
 use crate::branching::first_choice;
 use crate::rooms::Rooms;
 use crate::seeing::run_of;
-use crate::subproblem::Subproblem;
 use branch_tree::Branch;
 use cut_rows::{Pool, Table};
 use cut_separation::{FreePoint, separate};
@@ -25,6 +24,7 @@ use flow_types::{OutOfMemory, Sequence};
 use relaxed_bound::{Limits, Point, Relaxed};
 use scaled_simplex::Numerators;
 use std::alloc::Global;
+use time_windows::Subproblem;
 
 /// The pool of a search, and what the relaxation of its first box tells with it, where that is
 /// known: so the run needn't be made again where the pool has no cuts.

@@ -13,11 +13,10 @@ ghost use Rattle.priced_plans.specs.Keys.{ArePlaced};
 ghost use Rattle.time_windows.specs.Boxes.{Box};
 ghost use Rattle.price_ascent.specs.Work.{IsAscentRoomFor};
 ghost use Rattle.tree_search.specs.Rooms.{ArePriceRoomsFor, IsClimbed, IsToldBy, Tells, prices_from, weight_from};
-ghost use Rattle.tree_search.specs.Subproblems.{box_in, parts_in};
+ghost use Rattle.time_windows.specs.Subproblems.{box_in, parts_in};
 
 use crate::gap::Gap;
 use crate::rooms::PriceRooms;
-use crate::subproblem::Subproblem;
 use branch_tree::Leaf;
 use dual_leaf::{closing_leaf, lag_leaf};
 use flow_types::{Bound, OutOfMemory, Plan, Scenario};
@@ -25,6 +24,7 @@ use lagrange_bound::COST_WEIGHT;
 use plan_improver::delay_cost;
 use price_ascent::{Ascent, WEIGHT};
 use std::alloc::Global;
+use time_windows::Subproblem;
 
 // How many steps the first climb may take for each round.
 const FIRST_STEPS: u32 = 16;

@@ -6,16 +6,15 @@ ghost use Rattle.time_windows.specs.Held.{IsMadeFor, box_of};
 ghost use Rattle.time_windows.specs.Splits.{IsBranching};
 ghost use Rattle.tree_search.specs.Rooms.{AreRoomsFor};
 ghost use Rattle.tree_search.specs.Seen.{IsBranchOf};
-ghost use Rattle.tree_search.specs.Subproblems.{box_in, parts_in};
+ghost use Rattle.time_windows.specs.Subproblems.{box_in, parts_in};
 
 use crate::branching::most_spread;
 use crate::pricing::LEAD_PART;
 use crate::rooms::Rooms;
-use crate::subproblem::Subproblem;
 use branch_tree::Branch;
 use flow_types::OutOfMemory;
 use price_ascent::WEIGHT;
-use time_windows::{Boxes, Side, Tight};
+use time_windows::{Boxes, Side, Subproblem, Tight};
 
 // How many branches are tried.
 const CANDIDATES: usize = 4;

@@ -19,7 +19,7 @@ ghost use Rattle.tree_search.specs.Records.{IsSearchRecord};
 ghost use Rattle.tree_search.specs.Rooms.{AreRoomsFor, IsClimbed};
 ghost use Rattle.tree_search.specs.Searching.{IsLeft, IsSearched, IsSearching, IsStepped, planned_in};
 ghost use Rattle.tree_search.specs.Seen.{AreTold};
-ghost use Rattle.tree_search.specs.Subproblems.{box_in, parts_in};
+ghost use Rattle.time_windows.specs.Subproblems.{box_in, parts_in};
 ghost use Rattle.tree_search.specs.Visits.{IsImproved, IsVisited};
 ghost use Rattle.branch_tree.specs.Paths.{AreSteps, IsFork, IsNextOr, Path, top_box};
 
@@ -33,14 +33,13 @@ use crate::pricing::{LEAD_PART, begin_climb, climb_again, climb_by_plan, climb_f
 use crate::rooms::{Rooms, rooms_for};
 use crate::seeing::{Seen, Standing, Told, see};
 use crate::setting::{Setting, Start};
-use crate::subproblem::Subproblem;
 use branch_tree::{Branch, Leaf, Tree, TreeNode, Walk};
 use cut_rows::Pool;
 use flow_types::{Bound, OutOfMemory, Plan, Scenario};
 use greedy_plan::Greedy;
 use plan_improver::Search;
 use std::alloc::Global;
-use time_windows::Boxes;
+use time_windows::{Boxes, Subproblem};
 
 // Offers the greedy plan of the box.
 fn visit(

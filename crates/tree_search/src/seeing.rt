@@ -15,7 +15,7 @@ ghost use Rattle.time_windows.specs.Tight.{IsLive, IsTight};
 ghost use Rattle.cut_rows.specs.Pools.{IsPoolOf};
 ghost use Rattle.relaxed_bound.specs.Point.{IsPointIn, IsToldPoint};
 ghost use Rattle.tree_search.specs.Seen.{AreTold, IsBranchOf, IsRelaxedIn, IsSeen, may_split};
-ghost use Rattle.tree_search.specs.Subproblems.{box_in, parts_in};
+ghost use Rattle.time_windows.specs.Subproblems.{box_in, parts_in};
 
 use crate::branching::{first_choice, nearest_half};
 use crate::gap::Gap;
@@ -23,12 +23,12 @@ use crate::pricing::{price, price_leaf};
 use crate::probing::strongest;
 use crate::rooms::Rooms;
 use crate::setting::Setting;
-use crate::subproblem::Subproblem;
 use branch_tree::{Branch, Leaf};
 use cut_rows::Pool;
 use dual_leaf::LeafWork;
 use flow_types::{Bound, OutOfMemory};
 use relaxed_bound::{Limits, Point, Relaxed, relax};
+use time_windows::Subproblem;
 
 /// What is seen of a box.
 #[derive(Drop)]

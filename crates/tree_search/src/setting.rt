@@ -1,9 +1,9 @@
 //! What holds for all boxes of a search.
 
 use crate::found::Budget;
-use crate::subproblem::Subproblem;
 use cut_rows::Pool;
 use flow_types::Plan;
+use time_windows::Subproblem;
 
 /// What a search may spend, and the cuts that its leaves may name.
 #[derive(Clone, Copy)]

@@ -1,7 +1,7 @@
 use Rattle.std.proofs.Common.{ℕ, ◌<◌, ◌≤◌}
 use Rattle.flow_types.specs.Limits.{most_nodes}
 use Rattle.time_windows.specs.Boxes.{options_of}
-use Rattle.tree_search.specs.Subproblems.{box_in}
+use Rattle.time_windows.specs.Subproblems.{box_in}
 use Rattle.tree_search.proofs.branching.first_choice.Given as goal
 
 abbrev pub invariant-loop-flight : goal.invariant-loop-flight

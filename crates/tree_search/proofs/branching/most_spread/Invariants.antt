@@ -1,6 +1,6 @@
 use Rattle.std.proofs.Common.{All}
 use Rattle.tree_search.specs.Seen.{IsBranchOf}
-use Rattle.tree_search.specs.Subproblems.{box_in, parts_in}
+use Rattle.time_windows.specs.Subproblems.{box_in, parts_in}
 use Rattle.tree_search.proofs.branching.most_spread.Given as goal
 
 abbrev pub invariant-loop : goal.invariant-loop

@@ -2,7 +2,7 @@ use Rattle.std.proofs.Common.{[], IfSome, sym, subst}
 use Rattle.bytime_model.proofs.NumberFacts.{ready_box}
 use Rattle.cut_separation.specs.Points.{IsPointOf}
 use Rattle.relaxed_bound.specs.Point.{IsPointIn}
-use Rattle.tree_search.specs.Subproblems.{box_in, parts_in}
+use Rattle.time_windows.specs.Subproblems.{box_in, parts_in}
 use Rattle.tree_search.proofs.PoolFacts.{free_is}
 use Rattle.tree_search.proofs.pooling.exceeded.Goals as goal
 

@@ -1,7 +1,7 @@
 use Rattle.std.proofs.Common.{IfSome, subst}
 use Rattle.relaxed_bound.specs.Point.{IsPointIn, IsToldPoint}
 use Rattle.tree_search.specs.Seen.{IsRelaxedIn}
-use Rattle.tree_search.specs.Subproblems.{box_in, parts_in}
+use Rattle.time_windows.specs.Subproblems.{box_in, parts_in}
 use Rattle.tree_search.proofs.PoolFacts.{told_first}
 use Rattle.tree_search.proofs.pooling.pool_open.Goals as goal
 

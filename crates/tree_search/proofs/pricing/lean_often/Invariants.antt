@@ -1,6 +1,6 @@
 use Rattle.std.proofs.Common.{◌-◌}
 use Rattle.tree_search.specs.Rooms.{ArePriceRoomsFor}
-use Rattle.tree_search.specs.Subproblems.{parts_in}
+use Rattle.time_windows.specs.Subproblems.{parts_in}
 use Rattle.tree_search.proofs.pricing.lean_often.Given as goal
 
 abbrev pub invariant-loop-number : goal.invariant-loop-number

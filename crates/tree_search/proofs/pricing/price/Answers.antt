@@ -1,6 +1,6 @@
 use Rattle.std.proofs.Common.{◌≡◌, ◌∙◌, ap}
 use Rattle.tree_search.specs.declared.rooms.PriceRooms.{PriceRooms}
-use Rattle.tree_search.specs.Subproblems.{box_in, parts_in}
+use Rattle.time_windows.specs.Subproblems.{box_in, parts_in}
 use Rattle.tree_search.proofs.PriceFacts.{most_raised, rounds_told}
 use Rattle.tree_search.proofs.pricing.price.Goals as goal
 use Rattle.tree_search.proofs.pricing.price.Goals.{else-is_none-via-else-is_none, else-is_none-via-then-is_none+else-has_none}

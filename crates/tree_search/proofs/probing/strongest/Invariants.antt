@@ -1,7 +1,7 @@
 use Rattle.std.proofs.Common.{All}
 use Rattle.tree_search.specs.Rooms.{AreRoomsFor}
 use Rattle.tree_search.specs.Seen.{IsBranchOf}
-use Rattle.tree_search.specs.Subproblems.{box_in, parts_in}
+use Rattle.time_windows.specs.Subproblems.{box_in, parts_in}
 use Rattle.tree_search.proofs.probing.strongest.Given as goal
 
 abbrev pub invariant-loop-at : goal.invariant-loop-at

@@ -1,6 +1,6 @@
 use Rattle.std.proofs.Common.{◌∙◌, ap, length, refl, sym, subst, arith}
 use Rattle.tree_search.specs.Searching.{IsStepped}
-use Rattle.tree_search.specs.Subproblems.{box_in, parts_in}
+use Rattle.time_windows.specs.Subproblems.{box_in, parts_in}
 use Rattle.tree_search.proofs.ImproveFacts.{improved_nodes, improved_top}
 use Rattle.tree_search.proofs.searching.go_through.Goals as goal
 

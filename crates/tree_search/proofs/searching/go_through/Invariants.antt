@@ -2,7 +2,7 @@ use Rattle.std.proofs.Common.{◌≡◌, ◌-◌, ◌<◌, length}
 use Rattle.tree_search.specs.Rooms.{AreRoomsFor}
 use Rattle.tree_search.specs.Searching.{IsSearching}
 use Rattle.branch_tree.specs.Paths.{top_box}
-use Rattle.tree_search.specs.Subproblems.{parts_in}
+use Rattle.time_windows.specs.Subproblems.{parts_in}
 use Rattle.tree_search.proofs.searching.go_through.Given as goal
 
 abbrev pub invariant-loop-number : goal.invariant-loop-number

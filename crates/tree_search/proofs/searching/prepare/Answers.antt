@@ -1,4 +1,4 @@
-use Rattle.tree_search.specs.Subproblems.{box_in, parts_in}
+use Rattle.time_windows.specs.Subproblems.{box_in, parts_in}
 use Rattle.tree_search.proofs.ImproveFacts.{improved_top}
 use Rattle.tree_search.proofs.searching.prepare.Goals as goal
 

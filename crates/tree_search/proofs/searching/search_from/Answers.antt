@@ -4,7 +4,7 @@ use Rattle.time_windows.specs.Boxes.{Box}
 use Rattle.time_windows.specs.Held.{Held, box_of}
 use Rattle.tree_search.specs.declared.draft.RecordDraft.{RecordDraft}
 use Rattle.tree_search.specs.Searching.{IsSearched, IsStepped}
-use Rattle.tree_search.specs.Subproblems.{parts_in}
+use Rattle.time_windows.specs.Subproblems.{parts_in}
 use Rattle.tree_search.specs.Visits.{IsImproved}
 use Rattle.tree_search.proofs.ImproveFacts.{improved_on}
 use Rattle.tree_search.proofs.searching.search_from.Goals as goal

@@ -1,4 +1,4 @@
-use Rattle.tree_search.specs.Subproblems.{box_in, parts_in}
+use Rattle.time_windows.specs.Subproblems.{box_in, parts_in}
 use Rattle.tree_search.proofs.SeenFacts.{never, none_unit, unit_has}
 use Rattle.tree_search.proofs.seeing.see.Goals as goal
 

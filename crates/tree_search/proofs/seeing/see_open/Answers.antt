@@ -1,6 +1,6 @@
 use Rattle.std.proofs.Common.{refl, sym, ◌∙◌}
 use Rattle.tree_search.specs.Rooms.{prices_from, weight_from}
-use Rattle.tree_search.specs.Subproblems.{box_in, parts_in}
+use Rattle.time_windows.specs.Subproblems.{box_in, parts_in}
 use Rattle.tree_search.proofs.RelaxFacts.{leaf_has}
 use Rattle.tree_search.proofs.SeenFacts.{known_seen, priced_seen, run_seen, split_seen}
 use Rattle.tree_search.proofs.seeing.see_open.Goals as goal
