@@ -32,6 +32,6 @@ ruleset props = (IsProper-prop, next-prop, std.props)
 abbrev pub AreReady : Flight → List Access → RateLists → Type 0
 AreReady flight accesses rates = IsReady flight (row_of accesses) rates.span (rates_of rates)
 
-pub AreReady-prop : {flight : Flight} {accesses : List Access} {rates : RateLists}
+pub AreReady-prop : (flight : Flight) (accesses : List Access) (rates : RateLists)
     → IsProp (AreReady flight accesses rates)
-AreReady-prop {flight} {accesses} {rates} = Prim.hlevel props
+AreReady-prop flight accesses rates = Prim.hlevel props

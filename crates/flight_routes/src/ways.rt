@@ -14,5 +14,5 @@ pub struct Ways<'a> {
     pub accesses: &'a [Access],
     pub rates: &'a RateTable,
     pub ghost nodes: { length accesses.now ≡ most_nodes },
-    pub ghost ready: { AreReady flight.now accesses.now rates.now } by { AreReady-prop },
+    pub ghost ready: { AreReady flight.now accesses.now rates.now } by { AreReady-prop _ _ _ },
 }
