@@ -119,7 +119,8 @@ fn choose_trips(
     requires work { IsWorkFor (parts_in problem) work.old }
     requires loads { AreLoads (parts_in problem) (no_trips (parts_in problem)) loads.old }
     ensures greedy { IfOk result (IsGreedyAnswer (parts_in problem.entry) (box_in problem.entry)) }
-    ensures feasible { IfOk result (λ greedy. IfPlanned greedy (IsFeasible (parts_in problem.entry))) }
+    ensures feasible { IfOk result
+        (λ greedy. IfPlanned greedy (IsFeasible (parts_in problem.entry))) }
     ensures work { IsWorkFor (parts_in problem.entry) work.new }
     ensures made { AreLoadsFor (parts_in problem.entry) loads.new }
 {

@@ -35,9 +35,9 @@ fn take_trip(
     requires loads { AreLoadsFor (parts_in problem) loads.old }
     ensures least { IsLeast (IsTripIn (parts_in problem.entry) (box_in problem.entry) flight)
         (priced_cost cost_weight prices.now (parts_in problem.entry) flight) result }
-    ensures taken { HaveTaken (parts_in problem.entry) (box_in problem.entry) prices.now flight loads.old
-        → IfSome result (λ least. HaveTaken (parts_in problem.entry) (box_in problem.entry) prices.now
-        (flight + 1) loads.new) }
+    ensures taken { HaveTaken (parts_in problem.entry) (box_in problem.entry) prices.now flight
+        loads.old → IfSome result (λ least. HaveTaken (parts_in problem.entry)
+        (box_in problem.entry) prices.now (flight + 1) loads.new) }
     ensures work { IsWorkFor (parts_in problem.entry) work.new }
     ensures made { AreLoadsFor (parts_in problem.entry) loads.new }
 {

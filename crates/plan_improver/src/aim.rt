@@ -1,8 +1,9 @@
 //! What a search looks for, and what it goes by.
-ghost use Rattle.std.specs.Prelude.{◌<◌, ◌^◌, IfSome};
+ghost use Rattle.std.specs.Prelude.{◌<◌, ◌^◌};
 ghost use Rattle.std.proofs.Props.{props};
 ghost use Rattle.flight_routes.specs.Prices.{ArePricesOf};
 ghost use Rattle.flow_types.specs.Scenario.{parts_of};
+ghost use Rattle.plan_improver.specs.Guides.{ArePriced};
 
 use flight_routes::Prices;
 use flow_types::Bound;
@@ -26,6 +27,6 @@ pub struct Guide<'a> {
     pub problem: Subproblem<'a>,
     pub prices: Option<&'a Prices>,
     pub weight: u64,
-    pub ghost priced: { IfSome prices (λ table. ArePricesOf (parts_of problem.s.now) table.now) } by { Prim.hlevel props },
+    pub ghost priced: { ArePriced problem.s.now prices } by { Prim.hlevel props },
     pub ghost light: { weight < 2 ^ 62 },
 }

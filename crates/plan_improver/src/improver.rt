@@ -306,8 +306,8 @@ impl Improver {
         best.keep(alloc, cost, &self.choices)
     }
 
-    // Makes one trial with the chosen flights from a plan of this cost, and tells what the plan costs
-    // then. A plan that is left for one that costs more is kept, if it is the best.
+    // Makes one trial with the chosen flights from a plan of this cost, and tells what the plan
+    // costs then. A plan that is left for one that costs more is kept, if it is the best.
     fn make_trial(
         &mut self,
         alloc: Global,

@@ -139,7 +139,8 @@ impl Rank {
 
 // The next branch of the box after the one of this rank.
 fn next_spread(problem: Subproblem<'_>, ascent: &Ascent, below: Rank) -> Option<(Branch, Rank)>
-    ensures { IfSome result (λ found. IsBranchOf (parts_in problem.entry) (box_in problem.entry) found.0) }
+    ensures { IfSome result
+        (λ found. IsBranchOf (parts_in problem.entry) (box_in problem.entry) found.0) }
 {
     let mut best: Option<(Branch, Rank)> = None;
     let mut widest = 0;

@@ -9,7 +9,7 @@ use crate::draft::{RecordDraft, offer};
 use crate::rooms::Rooms;
 use crate::setting::Start;
 use flow_types::{Bound, OutOfMemory, Plan};
-use plan_improver::Search;
+use plan_improver::{Aim, Search};
 use price_ascent::WEIGHT;
 use time_windows::Subproblem;
 
@@ -149,16 +149,16 @@ fn find_cheaper(
         (λ found. IfSome found (IsPlanIn (parts_in problem.entry) (box_in problem.entry))) }
     ensures rooms { AreRoomsFor (parts_in problem.entry) rooms.new }
 {
-    rooms.plans.improver.cheaper_plan(
-        rooms.alloc,
-        problem.s,
-        problem.boxes,
-        from,
-        rooms.prices.ascent.prices(),
-        WEIGHT,
-        bound,
-        search,
-    )
+    let aim = Aim {
+        problem,
+        prices: rooms.prices.ascent.prices(),
+        weight: WEIGHT,
+        enough: bound,
+    };
+    rooms
+        .plans
+        .improver
+        .cheaper_plan(rooms.alloc, aim, from, search)
 }
 
 /// Offers a plan of the subproblem, if one is found.
