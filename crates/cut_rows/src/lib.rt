@@ -20,8 +20,8 @@
 //!
 //! A `Pool` has cuts in their order, each once. Whoever has one asks `fill_row` by the names of all
 //! rows, of which those of cuts are positions in the pool (`cut_names`); it wants the scenario's
-//! `Table`, which is made once and lent for each box. A `Relaxation` is of a box with a table and a
-//! pool, and is lent to whoever works out what these tell of the box.
+//! `Table`, which is made once and lent for each box. A `Relaxation` lends a box with a table and a
+//! pool to whoever works out what these tell of the box.
 //!
 //! The definitions stand in `specs/`: `Cuts` (which cuts there are, and their rows), `Order` (the
 //! order of cuts), `Routes` (the distances of all flights), `Table` (what is looked up again and

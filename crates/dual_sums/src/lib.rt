@@ -7,8 +7,7 @@
 //!     let mut sums = Sums::new(alloc, table.columns.count())?;
 //!     let mut buffer = RowBuffer::new(alloc)?;
 //!     let pool = Pool::empty(alloc);
-//!     let problem = Subproblem { s: &s, boxes: &boxes };
-//!     let relaxation = Relaxation { problem, table: &table, pool: &pool };
+//!     let relaxation = Relaxation::of(&s, &boxes, &table, &pool);
 //!     let rows = [Multiplier { row: RowName::Dep { place, period }, value: 3 }];
 //!     match dual_value(&mut sums, &mut buffer, relaxation, 1, &rows) {
 //!         Ok(value) => println!("they come to {value} at the least"),
