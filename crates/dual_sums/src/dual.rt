@@ -1,5 +1,5 @@
 //! What a list of rows comes to beside the cost.
-ghost use Rattle.std.specs.Prelude.{◌≡◌, ◌≢◌, ◌≤◌, ◌<◌, ◌+◌, ◌^◌, All, IfOk, MatchOption, length, pos, unsigned_abs};
+ghost use Rattle.std.specs.Prelude.{◌≡◌, ◌<◌, ◌^◌, IfOk, length, unsigned_abs};
 ghost use Rattle.bytime_model.specs.Multipliers.{HasRange};
 ghost use Rattle.cut_rows.specs.Relaxations.{box_under, parts_under};
 ghost use Rattle.dual_sums.specs.Dual.{IsValued};
