@@ -4,7 +4,7 @@ ghost use Rattle.flow_types.specs.Limits.{most_capacity};
 ghost use Rattle.flow_types.specs.Scenario.{parts_of};
 ghost use Rattle.bytime_model.specs.Rows.{most_terms};
 ghost use Rattle.cut_rows.specs.Pools.{is_row_with, row_with};
-ghost use Rattle.cut_rows.specs.Table.{IsTableFor};
+ghost use Rattle.cut_rows.specs.Relaxations.{parts_under};
 ghost use Rattle.bytime_model.specs.Columns.{IsThere};
 ghost use Rattle.dual_sums.specs.Dual.{IsFirstUnknown, excess};
 ghost use Rattle.bytime_model.specs.Landing.{IsReady, choice_in};
@@ -15,9 +15,9 @@ ghost use Rattle.dual_sums.specs.Sums.{mass};
 use crate::sums::Sums;
 use crate::terms::add_terms;
 use bytime_model::{Columns, Landing, Multiplier, RowBuffer};
-use cut_rows::{Pool, Table, fill_row};
+use cut_rows::{Relaxation, fill_row};
 use flow_types::Scenario;
-use time_windows::Boxes;
+use time_windows::{Boxes, Subproblem};
 
 // So many times the limit, taken away.
 fn charge(row: &RowBuffer, count: u64) -> i128
@@ -54,28 +54,31 @@ fn add_row(
 }
 
 // Adds what the multiplier says, and tells whether its row is there.
-#[tactic(auto, using(crate::proofs::RowGrowFacts::row_small, cut_rows::proofs::PoolRows::limit_with, cut_rows::proofs::PoolRows::few_with, cut_rows::proofs::PoolRows::there_with))]
+#[tactic(auto, using(crate::proofs::RowGrowFacts::row_small, cut_rows::proofs::PoolRows::limit_with, cut_rows::proofs::PoolRows::few_with, cut_rows::proofs::PoolRows::there_with, cut_rows::proofs::RelaxationFacts::ready_under))]
 fn add_multiplier(
     sums: &mut Sums,
     buffer: &mut RowBuffer,
-    table: &Table,
-    s: &Scenario,
-    pool: &Pool,
-    boxes: &Boxes,
+    relaxation: Relaxation<'_>,
     multiplier: Multiplier,
 ) -> bool
-    requires ready { IsReady (parts_of s.now) table.now.columns boxes.now }
-    requires table { IsTableFor (parts_of s.now) table.now }
-    requires positions { length sums.old.factors ≡ table.now.columns.count }
+    requires positions { length sums.old.factors ≡ relaxation.table.now.columns.count }
     requires count { multiplier.value < 2 ^ 62 }
     requires room { mass sums.old + 2 ^ 82 < 2 ^ 126 }
-    ensures told { result ≡ is_row_with (parts_of s.now) pool.now multiplier.row }
-    ensures grows { result ≡ true → Grows (choice_in (parts_of s.now) table.now.columns boxes.now)
+    ensures told { result ≡ is_row_with (parts_under relaxation.entry) relaxation.entry.pool.now
+        multiplier.row }
+    ensures grows { result ≡ true → Grows (choice_in (parts_under relaxation.entry)
+        relaxation.entry.table.now.columns relaxation.entry.problem.boxes.now)
         (λ value. pos multiplier.value *ℤ excess value (row_with
-        (parts_of s.now) pool.now multiplier.row))
+        (parts_under relaxation.entry) relaxation.entry.pool.now multiplier.row))
         (2 ^ 82) sums.old sums.new }
     ensures positions { length sums.new.factors ≡ length sums.old.factors }
 {
+    let Relaxation {
+        problem,
+        table,
+        pool,
+    } = relaxation;
+    let Subproblem { s, boxes } = problem;
     if !fill_row(buffer, s, table, pool, multiplier.row) {
         return false;
     }
@@ -89,27 +92,25 @@ fn add_multiplier(
 pub fn add_rows(
     sums: &mut Sums,
     buffer: &mut RowBuffer,
-    table: &Table,
-    s: &Scenario,
-    pool: &Pool,
-    boxes: &Boxes,
+    relaxation: Relaxation<'_>,
     rows: &[Multiplier],
 ) -> Option<u32>
-    requires ready { IsReady (parts_of s.now) table.now.columns boxes.now }
-    requires table { IsTableFor (parts_of s.now) table.now }
-    requires positions { length sums.old.factors ≡ table.now.columns.count }
+    requires positions { length sums.old.factors ≡ relaxation.table.now.columns.count }
     requires counts { All (λ multiplier. multiplier.value < 2 ^ 62) rows.now }
     requires few { length rows.now < 2 ^ 32 }
     requires room { mass sums.old + 2 ^ 114 < 2 ^ 126 }
     ensures rows { MatchOption result
-        (AreAdded (parts_of s.now) pool.now (choice_in (parts_of s.now) table.now.columns boxes.now)
+        (AreAdded (parts_under relaxation.entry) relaxation.entry.pool.now
+        (choice_in (parts_under relaxation.entry) relaxation.entry.table.now.columns
+        relaxation.entry.problem.boxes.now)
         rows.now
         sums.old sums.new)
-        (λ position. IsFirstUnknown (parts_of s.now) pool.now rows.now position) }
+        (λ position. IsFirstUnknown (parts_under relaxation.entry) relaxation.entry.pool.now
+        rows.now position) }
     ensures positions { length sums.new.factors ≡ length sums.old.factors }
 {
     for position in 0..rows.len() {
-        if !add_multiplier(sums, buffer, table, s, pool, boxes, rows[position]) {
+        if !add_multiplier(sums, buffer, relaxation, rows[position]) {
             return Some(position as u32);
         }
     }

@@ -24,7 +24,7 @@ use crate::probing::strongest;
 use crate::rooms::Rooms;
 use crate::setting::Setting;
 use branch_tree::{Branch, Leaf};
-use cut_rows::Pool;
+use cut_rows::{Pool, Relaxation};
 use dual_leaf::LeafWork;
 use flow_types::{Bound, OutOfMemory};
 use relaxed_bound::{Limits, Point, Relaxed, relax};
@@ -202,8 +202,8 @@ pub fn run_of(
         (box_in problem.entry) limits cutoff relaxed.point) }
 {
     let Subproblem { s, boxes } = problem;
-    let table = rooms.leaves.table();
-    relax(rooms.alloc, s, pool, boxes, table, limits, cutoff)
+    let relaxation = Relaxation::of(s, boxes, rooms.leaves.table(), pool);
+    relax(rooms.alloc, relaxation, limits, cutoff)
 }
 
 // Whether a plan is known, and the bound reaches what it costs.
