@@ -17,7 +17,7 @@ pub struct Relaxation<'a> {
     pub problem: Subproblem<'a>,
     pub table: &'a Table,
     pub pool: &'a Pool,
-    pub ghost suits: { IsTableFor (parts_of problem.s.now) table.now } by { IsTableFor-prop (parts_of problem.s.now) table.now },
+    pub ghost suits: { IsTableFor (parts_of problem.s.now) table.now } by { IsTableFor-prop _ _ },
     // That some leg leads to a window is kept, and not which one.
     pub ghost tight: { ∥ IsTight (parts_of problem.s.now) (box_of problem.boxes.now) ∥₁ },
 }

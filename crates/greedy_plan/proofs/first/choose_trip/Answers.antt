@@ -1,6 +1,6 @@
 use Rattle.std.proofs.Common.{◌≡◌, ◌∙◌, ◌++◌, ◌∷◌, [], ap, subst, sym}
 use Rattle.flow_types.specs.Costs.{trip_cost_at}
-use Rattle.flow_types.specs.Scenario.{flight_at, parts_of}
+use Rattle.flow_types.specs.Scenario.{flight_at}
 use Rattle.flight_routes.specs.Fits.{IsTripThatFits}
 use Rattle.greedy_plan.specs.Greedy.{IsChosen, with_rest}
 use Rattle.exact_sums.proofs.ItemFacts.{item_there}
