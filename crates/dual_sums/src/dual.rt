@@ -9,12 +9,10 @@ use crate::rows::add_rows;
 use crate::sums::Sums;
 use bytime_model::{Multiplier, RowBuffer};
 use cut_rows::Relaxation;
-use time_windows::Subproblem;
 
 /// The least, over all values 0 or 1 that the box leaves the variables, of so many times the cost
 /// and so many times what each row is above its limit, cuts of the pool among them; or the position
 /// of the first row that isn't there.
-#[tactic(auto, using(cut_rows::proofs::RelaxationFacts::ready_under))]
 pub fn dual_value(
     sums: &mut Sums,
     buffer: &mut RowBuffer,
@@ -29,9 +27,8 @@ pub fn dual_value(
     ensures near { IfOk result (λ value. unsigned_abs value < 2 ^ 115) }
     ensures positions { length sums.new.factors ≡ relaxation.entry.table.now.columns.count }
 {
-    let Subproblem { s, boxes } = relaxation.problem;
     sums.clear();
-    add_cost(sums, &relaxation.table.columns, s, boxes, weight);
+    add_cost(sums, relaxation, weight);
     match add_rows(sums, buffer, relaxation, rows) {
         Some(position) => Err(position),
         None => Ok(sums.least()),

@@ -1,23 +1,19 @@
 //! Adding rows to the sums.
 ghost use Rattle.std.specs.Prelude.{◌≡◌, ◌≤◌, ◌<◌, ◌+◌, ◌*◌, ◌^◌, All, MatchOption, false, true, length, pos, neg_ℤ, unsigned_abs, ◌*ℤ◌};
 ghost use Rattle.flow_types.specs.Limits.{most_capacity};
-ghost use Rattle.flow_types.specs.Scenario.{parts_of};
 ghost use Rattle.bytime_model.specs.Rows.{most_terms};
 ghost use Rattle.cut_rows.specs.Pools.{is_row_with, row_with};
 ghost use Rattle.cut_rows.specs.Relaxations.{parts_under};
 ghost use Rattle.bytime_model.specs.Columns.{IsThere};
 ghost use Rattle.dual_sums.specs.Dual.{IsFirstUnknown, excess};
-ghost use Rattle.bytime_model.specs.Landing.{IsReady, choice_in};
-ghost use Rattle.dual_sums.specs.Growing.{Grows};
+ghost use Rattle.dual_sums.specs.Growing.{Grows, choice_under};
 ghost use Rattle.dual_sums.specs.Rows.{AreAdded};
 ghost use Rattle.dual_sums.specs.Sums.{mass};
 
 use crate::sums::Sums;
 use crate::terms::add_terms;
-use bytime_model::{Columns, Landing, Multiplier, RowBuffer};
+use bytime_model::{Landing, Multiplier, RowBuffer};
 use cut_rows::{Relaxation, fill_row};
-use flow_types::Scenario;
-use time_windows::{Boxes, Subproblem};
 
 // So many times the limit, taken away.
 fn charge(row: &RowBuffer, count: u64) -> i128
@@ -30,31 +26,24 @@ fn charge(row: &RowBuffer, count: u64) -> i128
 }
 
 // Adds so many times what the row is above its limit.
-fn add_row(
-    sums: &mut Sums,
-    columns: &Columns,
-    s: &Scenario,
-    boxes: &Boxes,
-    row: &RowBuffer,
-    count: u64,
-)
-    requires ready { IsReady (parts_of s.now) columns.now boxes.now }
-    requires there { All (λ term. IsThere (parts_of s.now).flights term.variable) row.now.terms }
-    requires positions { length sums.old.factors ≡ columns.now.count }
+fn add_row(sums: &mut Sums, relaxation: Relaxation<'_>, row: &RowBuffer, count: u64)
+    requires there { All (λ term. IsThere (parts_under relaxation).flights term.variable)
+        row.now.terms }
+    requires positions { length sums.old.factors ≡ relaxation.table.now.columns.count }
     requires count { count < 2 ^ 62 }
     requires small { All (λ term. unsigned_abs term.factor ≤ 1) row.now.terms }
     requires few { length row.now.terms ≤ most_terms }
     requires limit { unsigned_abs row.now.limit ≤ most_capacity }
     requires room { mass sums.old + 2 ^ 82 < 2 ^ 126 }
-    ensures { Grows (choice_in (parts_of s.now) columns.now boxes.now)
+    ensures { Grows (choice_under relaxation.entry)
         (λ value. pos count *ℤ excess value row.now) (2 ^ 82) sums.old sums.new }
 {
-    add_terms(sums, columns, s, boxes, row.terms(), count);
+    add_terms(sums, relaxation, row.terms(), count);
     sums.land(Landing::Surely, charge(row, count));
 }
 
 // Adds what the multiplier says, and tells whether its row is there.
-#[tactic(auto, using(crate::proofs::RowGrowFacts::row_small, cut_rows::proofs::PoolRows::limit_with, cut_rows::proofs::PoolRows::few_with, cut_rows::proofs::PoolRows::there_with, cut_rows::proofs::RelaxationFacts::ready_under))]
+#[tactic(auto, using(crate::proofs::RowGrowFacts::row_small, cut_rows::proofs::PoolRows::limit_with, cut_rows::proofs::PoolRows::few_with, cut_rows::proofs::PoolRows::there_with))]
 fn add_multiplier(
     sums: &mut Sums,
     buffer: &mut RowBuffer,
@@ -66,8 +55,7 @@ fn add_multiplier(
     requires room { mass sums.old + 2 ^ 82 < 2 ^ 126 }
     ensures told { result ≡ is_row_with (parts_under relaxation.entry) relaxation.entry.pool.now
         multiplier.row }
-    ensures grows { result ≡ true → Grows (choice_in (parts_under relaxation.entry)
-        relaxation.entry.table.now.columns relaxation.entry.problem.boxes.now)
+    ensures grows { result ≡ true → Grows (choice_under relaxation.entry)
         (λ value. pos multiplier.value *ℤ excess value (row_with
         (parts_under relaxation.entry) relaxation.entry.pool.now multiplier.row))
         (2 ^ 82) sums.old sums.new }
@@ -78,11 +66,10 @@ fn add_multiplier(
         table,
         pool,
     } = relaxation;
-    let Subproblem { s, boxes } = problem;
-    if !fill_row(buffer, s, table, pool, multiplier.row) {
+    if !fill_row(buffer, problem.s, table, pool, multiplier.row) {
         return false;
     }
-    add_row(sums, &table.columns, s, boxes, buffer, multiplier.value);
+    add_row(sums, relaxation, buffer, multiplier.value);
     true
 }
 
@@ -101,8 +88,7 @@ pub fn add_rows(
     requires room { mass sums.old + 2 ^ 114 < 2 ^ 126 }
     ensures rows { MatchOption result
         (AreAdded (parts_under relaxation.entry) relaxation.entry.pool.now
-        (choice_in (parts_under relaxation.entry) relaxation.entry.table.now.columns
-        relaxation.entry.problem.boxes.now)
+        (choice_under relaxation.entry)
         rows.now
         sums.old sums.new)
         (λ position. IsFirstUnknown (parts_under relaxation.entry) relaxation.entry.pool.now
