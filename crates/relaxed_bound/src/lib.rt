@@ -35,8 +35,8 @@
 //! it has the weight 0 and comes to more than 0 (`run_leaves_tell_no_less`).
 //!
 //! Memory: the program, 16 bytes for each entry, and what a solver takes (`scaled_simplex`): 118
-//! bytes for each of the cells, of which the run touches what its tableau needs. Time: for each pivot
-//! the rows that have an entry in its column.
+//! bytes for each of the cells, of which the run touches what its tableau needs. Time: for each
+//! pivot the rows that have an entry in its column.
 #![tactic(auto)]
 
 mod laws;

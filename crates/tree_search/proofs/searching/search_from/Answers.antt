@@ -34,6 +34,7 @@ returns-clause-searched c = elim c.if-branch.branch [
     stepped : Bool → Type 0
     stepped = IsStepped (parts_in c.args.start.whole) c.in_ok-pool.field-0.pool c.args.budget
         c.args.walk.now c.climb_on.new.draft c.step.new.walk c.step.new.draft
+
     searched : RecordDraft → Type 0
     searched draft = IsSearched (parts_in c.args.start.whole) c.in_ok-pool.field-0.pool
         c.args.budget (top_box c.args.walk.now) draft
