@@ -32,25 +32,31 @@ struct NextLine {
     number: u32,
 }
 
+// What the lines are of: a scenario, and its routes.
+#[derive(Clone, Copy)]
+struct RoutedDay<'a> {
+    s: &'a Scenario,
+    routes: &'a Routes,
+}
+
 // What the next line tells, and what may stand after it; nothing at the end of the text.
 fn next_item<F: Files>(
     alloc: Global,
     files: &mut F,
-    s: &Scenario,
-    routes: &Routes,
+    day: RoutedDay<'_>,
     pieces: &mut Pieces,
     line: &mut Vec<u8>,
     next: &NextLine,
 ) -> Result<Option<(CertItem, Stage)>, CertRefusal>
     requires reading { IsReading pieces.old next.now.stage next.now.number }
-    requires routes { AreRoutesOf (parts_of s.now) routes.now }
-    ensures item { IfOk result (λ found. IfSome found (λ it. IsItemTaken (parts_of s.now)
+    requires routes { AreRoutesOf (parts_of day.s.now) day.routes.now }
+    ensures item { IfOk result (λ found. IfSome found (λ it. IsItemTaken (parts_of day.entry.s.now)
         (F.seen files.old).held pieces.old pieces.new next.now.stage it.0 it.1)) }
     ensures end { IfOk result (λ found. IfNone found ((next.now.stage ≡ stages.Ended)
         × IsAtEnd pieces.new × AreTaken (F.seen files.old).held pieces.old pieces.new [])) }
     ensures bounded { OnOk result (AreBounded pieces.old pieces.new) }
     ensures refused { IfErr result
-        (IsRefused (parts_of s.now) (F.seen files.old).held pieces.old next.now.stage
+        (IsRefused (parts_of day.entry.s.now) (F.seen files.old).held pieces.old next.now.stage
         next.now.number) }
     ensures ended { IsAtEnd pieces.old → next.now.stage ≡ stages.Ended
         → (result ≡ Ok None) × (pieces.new ≡ pieces.old) }
@@ -64,7 +70,7 @@ fn next_item<F: Files>(
         return Ok(None);
     }
     let end = take_line(files, pieces, line)?;
-    item_of_line(alloc, s, routes, next, line, end)
+    item_of_line(alloc, day, next, line, end)
 }
 
 impl From<TakeError> for CertRefusal {
@@ -95,19 +101,18 @@ fn refusal_of(number: u32, error: LineError) -> CertRefusal
 // ended as it may.
 fn item_of_line(
     alloc: Global,
-    s: &Scenario,
-    routes: &Routes,
+    day: RoutedDay<'_>,
     next: &NextLine,
     line: &[u8],
     end: LineEnd,
 ) -> Result<Option<(CertItem, Stage)>, CertRefusal>
     requires small { IsSmall next.now.stage }
-    requires routes { AreRoutesOf (parts_of s.now) routes.now }
+    requires routes { AreRoutesOf (parts_of day.s.now) day.routes.now }
     ensures { Tells next.now.number result
-        (told_by (parts_of s.now) next.now.stage line.now end) }
+        (told_by (parts_of day.entry.s.now) next.now.stage line.now end) }
 {
     match end {
-        LineEnd::Feed => match line_step(alloc, s, routes, &next.stage, line) {
+        LineEnd::Feed => match line_step(alloc, day.s, day.routes, &next.stage, line) {
             Ok(found) => Ok(Some(found)),
             Err(error) => Err(refusal_of(next.number, error)),
         },
@@ -256,8 +261,7 @@ impl CertReader {
         match next_item(
             self.alloc,
             files,
-            s,
-            routes,
+            RoutedDay { s, routes },
             &mut self.pieces,
             &mut self.line,
             &self.next,

@@ -1,9 +1,11 @@
 pub mod PoolFacts
 pub mod PoolRows
+pub mod RelaxationFacts
 pub mod RouteFacts
 pub mod NodeFacts
 pub mod FillFacts
 pub mod SumFacts
+pub mod TightFacts
 pub mod WayFacts
 pub mod CutLaws
 pub mod WorkedCuts

@@ -1,8 +1,7 @@
 -- What holds of each row of a day with a pool: of those of the day, and of those of cuts.
-use Rattle.std.proofs.Common.{◌≡◌, ◌∙◌, ℕ, ◌-◌, ◌+◌, ◌<◌, ◌≤◌, Bool, true, false, ◌&&◌, nat_le, nat_lt, List, [], ◌∷◌, ◌++◌, length, map, get_or, Option, None, Some, slice_get, slice_index_or, All, if◌then◌else◌, ℤ, pos, unsigned_abs, inl, inr, refl, sym, ap, subst, arith}
+use Rattle.std.proofs.Common.{◌≡◌, ◌∙◌, ℕ, ◌-◌, ◌≤◌, Bool, true, false, nat_le, nat_lt, List, [], ◌∷◌, length, map, Option, None, Some, slice_get, All, if◌then◌else◌, unsigned_abs, inl, refl, arith}
 use Rattle.std.specs.List.{range_with_len}
 use Rattle.std.proofs.lemmas.Bool.{and_parts}
-use Rattle.std.proofs.lemmas.Int.{ints}
 use Rattle.std.proofs.lemmas.List.{length-append, length-map}
 use Rattle.std.proofs.lemmas.List.Elements.{All-append, All-cons, All-nil}
 use Rattle.std.proofs.lemmas.List.FromFn.{length-range_with_len}
@@ -17,14 +16,14 @@ use Rattle.bytime_model.specs.declared.names.RowName.TheVariants.{Arr, Connect, 
 use Rattle.bytime_model.specs.declared.variables.Term.{Term}
 use Rattle.bytime_model.specs.declared.variables.Var.TheVariants.{By}
 use Rattle.bytime_model.specs.Columns.{IsThere}
-use Rattle.bytime_model.specs.Rows.{AtMost, RowHolds, by_before, is_row, minus_one, most_terms, no_row, one, row_of, term_of}
+use Rattle.bytime_model.specs.Rows.{AtMost, RowHolds, by_before, is_row, minus_one, most_terms, one, row_of, term_of}
 use Rattle.bytime_model.specs.Values.{value_at}
 use Rattle.bytime_model.proofs.RowLaws.{row_few, row_kept, row_limit_small, row_there, row_units}
 use Rattle.bytime_model.proofs.SmallFacts.{IsUnit, all_if, minus, with_one}
 use Rattle.route_distances.specs.Walks.{legs_of, shortest_of}
 use Rattle.cut_rows.specs.declared.names.CutName.{CutName}
 use Rattle.cut_rows.specs.declared.names.CutName.TheVariants.{Apart, Departed, Heads}
-use Rattle.cut_rows.specs.Cuts.{apart_term, are_apart, are_heads, cut_limit, cut_row, cut_terms, head_term, is_cut}
+use Rattle.cut_rows.specs.Cuts.{apart_term, are_apart, are_heads, cut_limit, cut_terms, head_term, is_cut}
 use Rattle.cut_rows.specs.Pools.{cut_names, cut_row_at, is_cut_at, is_row_with, row_with}
 use Rattle.cut_rows.proofs.CutLaws.{cut_kept}
 use Rattle.cut_rows.proofs.NodeFacts.{heads_few, nodes_few}

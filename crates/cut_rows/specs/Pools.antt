@@ -1,5 +1,5 @@
 -- The rows of a day with a pool of cuts, by their names.
-use Rattle.std.specs.Prelude.{◌≡◌, ℕ, ◌^◌, ◌<◌, All, Bool, false, true, List, ◌++◌, length, map, Option, None, Some, slice_get}
+use Rattle.std.specs.Prelude.{◌≡◌, ◌^◌, ◌<◌, All, Bool, false, true, List, ◌++◌, length, map, Option, None, Some, slice_get}
 use Rattle.std.specs.List.{range_with_len}
 use Rattle.flow_types.specs.declared.parts.Parts.{Parts}
 use Rattle.bytime_model.specs.declared.names.RowName.{RowName}

@@ -20,13 +20,15 @@
 //!
 //! A `Pool` has cuts in their order, each once. Whoever has one asks `fill_row` by the names of all
 //! rows, of which those of cuts are positions in the pool (`cut_names`); it wants the scenario's
-//! `Table`, which is made once and lent for each box.
+//! `Table`, which is made once and lent for each box. A `Relaxation` lends a box with a table and a
+//! pool to whoever works out what these tell of the box.
 //!
 //! The definitions stand in `specs/`: `Cuts` (which cuts there are, and their rows), `Order` (the
 //! order of cuts), `Routes` (the distances of all flights), `Table` (what is looked up again and
-//! again) and `Pools` (the rows of a day with a pool, by their names). Why a cut holds at each plan
-//! is shown in `proofs/CutLaws.antt`, of the three kinds one by one; `proofs/PoolRows.antt` has
-//! what holds of each row with a pool, for the proofs of crates above.
+//! again), `Pools` (the rows of a day with a pool, by their names) and `Relaxations` (the scenario
+//! and the box of a relaxation). Why a cut holds at each plan is shown in `proofs/CutLaws.antt`, of
+//! the three kinds one by one; `proofs/PoolRows.antt` has what holds of each row with a pool, for
+//! the proofs of crates above.
 //!
 //! Proved: `fill_cut` and `fill_row` tell whether there is such a cut or row (`told`) and hold
 //! exactly it (`row`), which no plan that keeps every rule breaks (`valid`), or no terms (`none`).
@@ -53,6 +55,7 @@ mod names;
 mod nodes;
 mod order;
 mod pool;
+mod relaxation;
 mod routes;
 mod table;
 
@@ -62,5 +65,6 @@ pub use heads::{hold_heads, is_head};
 pub use names::{CutName, Heads};
 pub use order::is_before;
 pub use pool::{Cuts, Pool, cut_names};
+pub use relaxation::Relaxation;
 pub use routes::Routes;
 pub use table::{Table, table_for};

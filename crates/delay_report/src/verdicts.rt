@@ -37,6 +37,13 @@ pub fn broken_line(
     Ok(line)
 }
 
+// A plan that was judged, and its scenario.
+#[derive(Clone, Copy)]
+struct JudgedPlan<'a> {
+    s: &'a Scenario,
+    plan: &'a Plan,
+}
+
 /// Adds the fields that say which rule is broken, and where.
 pub fn put_broken(
     alloc: Global,
@@ -48,22 +55,23 @@ pub fn put_broken(
     ensures { OnOk result
         (out.new.items ≡ out.old.items ++ broken_fields (parts_of s.now) plan.now broken) }
 {
+    let judged = JudgedPlan { s, plan };
     match broken {
         Broken::Trips { got, need } => put_trip_count(alloc, out, got, need),
         Broken::Start { flight } => put_rule(out, b"start", s, flight),
         Broken::Window {
             flight,
             place_in_trip,
-        } => put_window(alloc, out, s, plan, flight, place_in_trip),
+        } => put_window(alloc, out, judged, flight, place_in_trip),
         Broken::NoLeg {
             flight,
             place_in_trip,
-        } => put_no_leg(out, s, plan, flight, place_in_trip),
+        } => put_no_leg(out, judged, flight, place_in_trip),
         Broken::Least {
             flight,
             place_in_trip,
             least,
-        } => put_least(alloc, out, s, plan, flight, place_in_trip, least),
+        } => put_least(alloc, out, judged, flight, place_in_trip, least),
         Broken::Ending { flight } => put_rule(out, b"ending", s, flight),
         Broken::Turn {
             connection,
@@ -102,15 +110,16 @@ fn put_rule(out: &mut Vec<u8>, rule: &[u8], s: &Scenario, flight: u32) -> Result
 fn put_window(
     alloc: Global,
     out: &mut Vec<u8>,
-    s: &Scenario,
-    plan: &Plan,
+    judged: JudgedPlan<'_>,
     flight: u32,
     stop: u16,
 ) -> Result<(), OutOfMemory>
     ensures { OnOk result
         (out.new.items ≡ out.old.items
-        ++ broken_fields (parts_of s.now) plan.now (Broken.Window flight stop)) }
+        ++ broken_fields (parts_of judged.entry.s.now) judged.entry.plan.now
+        (Broken.Window flight stop)) }
 {
+    let JudgedPlan { s, plan } = judged;
     let entered = stop_at(plan, flight, usize::from(stop));
     put_rule(out, b"window", s, flight)?;
     put_stop(out, s, flight, entered)?;
@@ -120,15 +129,16 @@ fn put_window(
 // Adds two stops that no leg joins.
 fn put_no_leg(
     out: &mut Vec<u8>,
-    s: &Scenario,
-    plan: &Plan,
+    judged: JudgedPlan<'_>,
     flight: u32,
     stop: u16,
 ) -> Result<(), OutOfMemory>
     ensures { OnOk result
         (out.new.items ≡ out.old.items
-        ++ broken_fields (parts_of s.now) plan.now (Broken.NoLeg flight stop)) }
+        ++ broken_fields (parts_of judged.entry.s.now) judged.entry.plan.now
+        (Broken.NoLeg flight stop)) }
 {
+    let JudgedPlan { s, plan } = judged;
     put_rule(out, b"noleg", s, flight)?;
     put_stop(out, s, flight, stop_at(plan, flight, usize::from(stop)))?;
     put_stop(out, s, flight, stop_at(plan, flight, usize::from(stop) + 1))
@@ -138,16 +148,17 @@ fn put_no_leg(
 fn put_least(
     alloc: Global,
     out: &mut Vec<u8>,
-    s: &Scenario,
-    plan: &Plan,
+    judged: JudgedPlan<'_>,
     flight: u32,
     stop: u16,
     least: u16,
 ) -> Result<(), OutOfMemory>
     ensures { OnOk result
         (out.new.items ≡ out.old.items
-        ++ broken_fields (parts_of s.now) plan.now (Broken.Least flight stop least)) }
+        ++ broken_fields (parts_of judged.entry.s.now) judged.entry.plan.now
+        (Broken.Least flight stop least)) }
 {
+    let JudgedPlan { s, plan } = judged;
     let entered = stop_at(plan, flight, usize::from(stop));
     let next = stop_at(plan, flight, usize::from(stop) + 1);
     put_rule(out, b"least", s, flight)?;

@@ -15,7 +15,7 @@ use exact_sums::plus;
 use flight_routes::Work;
 use flow_types::{Bound, Scenario};
 use plan_rules::Loads;
-use time_windows::Boxes;
+use time_windows::{Boxes, Subproblem};
 
 /// What the plan in the box costs that keeps every rule, or that there is none. Each node of the
 /// box has one option, so no flight has two trips in it: each takes the one that fits beside those
@@ -84,7 +84,7 @@ fn add_next(
     ensures work { IsWorkFor (parts_of s.now) work.new }
     ensures loads { AreLoadsFor (parts_of s.now) loads.new }
 {
-    let cost = work.least_fit(s, boxes, flight, loads);
+    let cost = work.least_fit(Subproblem { s, boxes }, flight, loads);
     if cost.is_some() {
         loads.add(s, flight, work.trip());
     }

@@ -4,9 +4,8 @@ ghost use Rattle.flow_types.specs.Scenario.{parts_of};
 ghost use Rattle.flight_routes.specs.Prices.{ArePricesOf};
 ghost use Rattle.flight_routes.specs.Work.{IsWorkFor};
 ghost use Rattle.time_windows.specs.Held.{IsMadeFor, box_of};
-ghost use Rattle.time_windows.specs.Tight.{IsTight};
 ghost use Rattle.bytime_model.specs.Multipliers.{HasRange};
-ghost use Rattle.cut_rows.specs.Table.{IsTableFor};
+ghost use Rattle.cut_rows.specs.Relaxations.{box_under, parts_under};
 ghost use Rattle.dual_leaf.specs.Leaf.{IsDualAnswer, IsLagAnswer, IsNearPriced};
 ghost use Rattle.time_windows.specs.Plans.{IsBoundIn};
 ghost use Rattle.flow_types.specs.Bounds.{IsNearBound};
@@ -18,14 +17,14 @@ use crate::options::first_closed;
 use crate::plain::{empty_bound, unit_bound};
 use branch_tree::Leaf;
 use bytime_model::{Multiplier, RowBuffer};
-use cut_rows::{Pool, Table, table_for};
+use cut_rows::{Pool, Relaxation, Table, table_for};
 use dual_sums::{Sums, dual_value};
 use flight_routes::{Prices, Work};
 use flow_types::{Bound, OutOfMemory, Scenario};
 use plan_rules::Loads;
 use std::alloc::Global;
 use std::marker::Model;
-use time_windows::Boxes;
+use time_windows::{Boxes, Subproblem};
 
 /// The room in which leaves get their bounds, made once for a scenario.
 #[derive(Debug)]
@@ -143,16 +142,16 @@ impl LeafWork {
         match leaf {
             Leaf::Empty => empty_bound(s, boxes),
             Leaf::Unit => unit_bound(&mut self.work, &mut self.loads, s, boxes),
-            Leaf::Dual { weight, rows } => dual_bound(
-                &mut self.sums,
-                &mut self.buffer,
-                &self.table,
-                s,
-                pool,
-                boxes,
-                *weight,
-                rows.items(),
-            ),
+            Leaf::Dual { weight, rows } => {
+                let relaxation = Relaxation::of(s, boxes, &self.table, pool);
+                dual_bound(
+                    &mut self.sums,
+                    &mut self.buffer,
+                    relaxation,
+                    *weight,
+                    rows.items(),
+                )
+            }
             Leaf::Lag { weight, rows } => lag_bound(
                 &mut self.work,
                 &mut self.prices,
@@ -170,28 +169,24 @@ impl LeafWork {
 fn dual_bound(
     sums: &mut Sums,
     buffer: &mut RowBuffer,
-    table: &Table,
-    s: &Scenario,
-    pool: &Pool,
-    boxes: &Boxes,
+    relaxation: Relaxation<'_>,
     weight: u64,
     rows: &[Multiplier],
 ) -> Result<Bound, LeafFault>
-    requires table { IsTableFor (parts_of s.now) table.now }
-    requires positions { length sums.old.factors ≡ table.now.columns.count }
-    requires boxes { IsMadeFor (parts_of s.now) boxes.now }
-    requires tight { IsTight (parts_of s.now) (box_of boxes.now) }
+    requires positions { length sums.old.factors ≡ relaxation.table.now.columns.count }
     requires range { HasRange weight rows.now }
-    ensures bound { IsDualAnswer (parts_of s.now) pool.now (box_of boxes.now) weight rows.now
-        result }
-    ensures sound { IfOk result (IsBoundIn (parts_of s.now) (box_of boxes.now)) }
+    ensures bound { IsDualAnswer (parts_under relaxation.entry) relaxation.entry.pool.now
+        (box_under relaxation.entry) weight rows.now result }
+    ensures sound { IfOk result (IsBoundIn (parts_under relaxation.entry)
+        (box_under relaxation.entry)) }
     ensures near { IfOk result IsNearBound }
-    ensures positions { length sums.new.factors ≡ table.now.columns.count }
+    ensures positions { length sums.new.factors ≡ relaxation.entry.table.now.columns.count }
 {
+    let Subproblem { s, boxes } = relaxation.problem;
     if let Some(closed) = first_closed(s, boxes) {
         return Err(LeafFault::Closed(closed.flight, closed.node));
     }
-    match dual_value(sums, buffer, table, s, pool, boxes, weight, rows) {
+    match dual_value(sums, buffer, relaxation, weight, rows) {
         Err(position) => Err(LeafFault::UnknownRow(position)),
         Ok(value) => answer_of(value, weight),
     }

@@ -7,8 +7,9 @@
 //!     let mut sums = Sums::new(alloc, table.columns.count())?;
 //!     let mut buffer = RowBuffer::new(alloc)?;
 //!     let pool = Pool::empty(alloc);
+//!     let relaxation = Relaxation::of(&s, &boxes, &table, &pool);
 //!     let rows = [Multiplier { row: RowName::Dep { place, period }, value: 3 }];
-//!     match dual_value(&mut sums, &mut buffer, &table, &s, &pool, &boxes, 1, &rows) {
+//!     match dual_value(&mut sums, &mut buffer, relaxation, 1, &rows) {
 //!         Ok(value) => println!("they come to {value} at the least"),
 //!         Err(position) => println!("there is no row with the name at {position}"),
 //!     }

@@ -3,7 +3,7 @@ use Rattle.std.proofs.Common.{◌^◌, IfSome, get_or, ◌≡◌, ◌≢◌, ◌
 use Rattle.std.proofs.lemmas.Bool.{cases_eq, cases_lt}
 use Rattle.flow_types.specs.declared.flight.Flight.{Flight}
 use Rattle.flow_types.specs.declared.parts.Parts.{Parts}
-use Rattle.flow_types.specs.Limits.{most_nodes, most_periods}
+use Rattle.flow_types.specs.Limits.{most_periods}
 use Rattle.flow_types.specs.declared.place.CapKind.TheVariants as kind
 use Rattle.flow_types.specs.Capacities.{capacity_of, caps_of}
 use Rattle.plan_rules.specs.Tally.{Tally}

@@ -7,8 +7,11 @@ pub mod Firsts
 pub mod FitRates
 pub mod FitTimes
 pub mod Fits
+pub mod FlightParts
 pub mod Inside
 pub mod Later
+pub mod OneProof
+pub mod PassageParts
 pub mod PriceRates
 pub mod PricedFitRates
 pub mod Prices
@@ -19,5 +22,6 @@ pub mod TimeCosts
 pub mod TripOrder
 pub mod TripRates
 pub mod TurnTimes
+pub mod WayParts
 pub mod Ways
 pub mod Work

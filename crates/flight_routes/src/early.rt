@@ -6,16 +6,18 @@ ghost use Rattle.flow_types.specs.Limits.{most_nodes, most_periods};
 ghost use Rattle.flow_types.specs.Trips.{arrival_from};
 ghost use Rattle.flight_routes.specs.Early.{AreAhead, AreEnds, IsLess, IsNoMore, ahead_in, cut_at, cut_window};
 ghost use Rattle.flight_routes.specs.RateLists.{rates_of};
-ghost use Rattle.flight_routes.specs.Rates.{IsWay, value_or_zero, whole_cost};
+ghost use Rattle.flight_routes.specs.Rates.{value_or_zero};
 ghost use Rattle.exact_sums.specs.Near.{IsNear};
-ghost use Rattle.flight_routes.specs.Ready.{AreRising, AreSmall, AreWindows, IsReady, row_of};
+ghost use Rattle.flight_routes.specs.Ready.{AreSmall, AreWindows, row_of};
 ghost use Rattle.flight_routes.specs.TripOrder.{IsNoLater};
+ghost use Rattle.flight_routes.specs.WayParts.{AreRisingIn, IsWayIn, cost_in};
 
 use crate::accesses::window_at;
 use crate::cost::Cost;
 use crate::rates::RateTable;
 use crate::table::Table;
-use flow_types::{Flight, MOST_NODES, Stop};
+use crate::ways::Ways;
+use flow_types::{MOST_NODES, Stop};
 use time_windows::{Access, End, Window};
 
 // The part of a window from which the flight may still arrive by the period, so many periods on.
@@ -119,36 +121,35 @@ fn first_rated(rates: &RateTable, end: End, window: Window) -> u32
     u32::from(window.hi) + 1
 }
 
+/// The last node of the flight.
+pub fn last_node(ways: Ways<'_>) -> u16
+    ensures { result + 1 ≡ length ways.entry.flight.now.nodes }
+{
+    (ways.flight.nodes.items().len() - 1) as u16
+}
+
 /// About the first period in which the flight can arrive: as early as it may, but not before it
 /// could, if it left as soon as it may.
-pub fn about_first_end(accesses: &[Access], rates: &RateTable, last: u16) -> u32
-    requires accesses { length accesses.now ≡ most_nodes }
-    requires windows { AreWindows rates.now.span (row_of accesses.now) }
-    requires few { rates.now.span.hi < most_periods }
-    requires last { last < most_nodes }
+pub fn about_first_end(ways: Ways<'_>) -> u32
     ensures { result ≤ 2 * most_periods }
 {
-    let Some(leaves) = window_at(accesses, 0) else {
+    let Some(leaves) = window_at(ways.accesses, 0) else {
         return 0;
     };
-    let Some(arrives) = window_at(accesses, last) else {
+    let Some(arrives) = window_at(ways.accesses, last_node(ways)) else {
         return 0;
     };
-    let waits = first_rated(rates, End::Departure, leaves).saturating_sub(u32::from(leaves.lo));
-    first_rated(rates, End::Arrival, arrives).max(u32::from(arrives.lo) + waits)
+    let rated = first_rated(ways.rates, End::Departure, leaves);
+    let waits = rated.saturating_sub(u32::from(leaves.lo));
+    let rated = first_rated(ways.rates, End::Arrival, arrives);
+    rated.max(u32::from(arrives.lo) + waits)
 }
 
 /// The last period in which the flight can arrive, 0 where it can't.
-pub fn last_end(accesses: &[Access], rates: &RateTable, last: u16) -> u32
-    requires accesses { length accesses.now ≡ most_nodes }
-    requires windows { AreWindows rates.now.span (row_of accesses.now) }
-    requires few { rates.now.span.hi < most_periods }
-    requires last { last < most_nodes }
-    ensures small { result < most_periods }
-    ensures end { MatchOption (row_of accesses.now last).window (result ≡ 0)
-        (λ window. result ≡ window.hi) }
+pub fn last_end(ways: Ways<'_>) -> u32
+    ensures { result < most_periods }
 {
-    match window_at(accesses, last) {
+    match window_at(ways.accesses, last_node(ways)) {
         None => 0,
         Some(window) => u32::from(window.hi),
     }
@@ -157,61 +158,43 @@ pub fn last_end(accesses: &[Access], rates: &RateTable, last: u16) -> u32
 // No more than any way costs that ends in the periods from `lo` to `hi`: it leaves and arrives at
 // some cost, takes its time, and what it pays in between isn't below 0. None only where there is no
 // such way.
-fn ways_bound(
-    flight: &Flight,
-    accesses: &[Access],
-    rates: &RateTable,
-    distances: &[u16],
-    last: u16,
-    lo: u16,
-    hi: u16,
-) -> Cost
-    requires accesses { length accesses.now ≡ most_nodes }
+fn ways_bound(ways: Ways<'_>, distances: &[u16], lo: u16, hi: u16) -> Cost
     requires distances { length distances.now ≡ most_nodes }
-    requires ready { IsReady flight.now (row_of accesses.now) rates.now.span
-        (rates_of rates.now) }
-    requires rising { AreRising flight.now rates.now.span (rates_of rates.now) }
-    requires ahead { AreAhead flight.now (ahead_in distances.now) }
+    requires rising { AreRisingIn ways }
+    requires ahead { AreAhead ways.flight.now (ahead_in distances.now) }
     requires far { ahead_in distances.now 0 ≤ most_periods }
-    requires last { last + 1 ≡ length flight.now.nodes }
     ensures { (stop : Stop) (rest : List Stop)
-        → IsWay flight.now (row_of accesses.now) (rates_of rates.now) (stop ∷ rest)
+        → IsWayIn ways.entry (stop ∷ rest)
         → lo ≤ arrival_from stop rest → arrival_from stop rest ≤ hi
-        → IsNoMore result (whole_cost (rates_of rates.now) (stop ∷ rest)) }
+        → IsNoMore result (cost_in ways.entry (stop ∷ rest)) }
 {
-    let Some(leave) = window_at(accesses, 0) else {
+    let Some(leave) = window_at(ways.accesses, 0) else {
         return Cost::none();
     };
-    let Some(arrive) = window_at(accesses, last) else {
+    let last = last_node(ways);
+    let Some(arrive) = window_at(ways.accesses, last) else {
         return Cost::none();
     };
     let ends = Window {
         lo: arrive.lo.max(lo),
         hi: arrive.hi.min(hi),
     };
-    ends_bound(rates, leave, ends, distances[0])
+    ends_bound(ways.rates, leave, ends, distances[0])
 }
 
 // Whether every way that ends after the period costs more than the least, where none of them costs
 // less than `later`.
 #[tactic(auto, using(crate::proofs::EarlyFacts::less_more))]
-fn later_cost_more(
-    flight: &Flight,
-    accesses: &[Access],
-    rates: &RateTable,
-    cap: u16,
-    later: Cost,
-    least: Cost,
-) -> bool
+fn later_cost_more(ways: Ways<'_>, cap: u16, later: Cost, least: Cost) -> bool
     requires later { (stop : Stop) (rest : List Stop)
-        → IsWay flight.now (row_of accesses.now) (rates_of rates.now) (stop ∷ rest)
+        → IsWayIn ways (stop ∷ rest)
         → cap < arrival_from stop rest
-        → IsNoMore later (whole_cost (rates_of rates.now) (stop ∷ rest)) }
+        → IsNoMore later (cost_in ways (stop ∷ rest)) }
     ensures some { IsTrue result → IsSome least }
     ensures more { IsTrue result → (stop : Stop) (rest : List Stop)
-        → IsWay flight.now (row_of accesses.now) (rates_of rates.now) (stop ∷ rest)
+        → IsWayIn ways.entry (stop ∷ rest)
         → cap < arrival_from stop rest
-        → IsLess least (Some (whole_cost (rates_of rates.now) (stop ∷ rest))) }
+        → IsLess least (Some (cost_in ways.entry (stop ∷ rest))) }
 {
     least.is_less(later)
 }
@@ -220,46 +203,42 @@ fn later_cost_more(
 /// with the stops of the first that reaches it. Else none, and nothing is known.
 pub fn early_way(
     table: &mut Table,
-    flight: &Flight,
-    accesses: &[Access],
+    ways: Ways<'_>,
     cut: &mut [Access],
-    rates: &RateTable,
     distances: &[u16],
-    last: u16,
     cap: u16,
     stops: &mut Vec<Stop>,
 ) -> Cost
-    requires accesses { length accesses.now ≡ most_nodes }
     requires distances { length distances.now ≡ most_nodes }
-    requires ahead { AreAhead flight.now (ahead_in distances.now) }
+    requires ahead { AreAhead ways.flight.now (ahead_in distances.now) }
     requires far { ahead_in distances.now 0 ≤ most_periods }
     requires cut { length cut.old ≡ most_nodes }
-    requires ready { IsReady flight.now (row_of accesses.now) rates.now.span
-        (rates_of rates.now) }
-    requires rising { AreRising flight.now rates.now.span (rates_of rates.now) }
-    requires last { last + 1 ≡ length flight.now.nodes }
+    requires rising { AreRisingIn ways }
     requires cap { cap < most_periods }
     requires room { most_nodes ≤ vec_capacity stops.old }
     ensures least { IsSome result
-        → IsLeast (IsWay flight.now (row_of accesses.now) (rates_of rates.now))
-        (whole_cost (rates_of rates.now)) result }
+        → IsLeast (IsWayIn ways.entry) (cost_in ways.entry) result }
     ensures first { IsSome result
-        → IsFirstLeast (IsWay flight.now (row_of accesses.now) (rates_of rates.now))
-        (whole_cost (rates_of rates.now)) IsNoLater stops.new.items }
+        → IsFirstLeast (IsWayIn ways.entry) (cost_in ways.entry) IsNoLater stops.new.items }
     ensures room { most_nodes ≤ vec_capacity stops.new }
     ensures length { length cut.new ≡ most_nodes }
 {
-    let early = ways_bound(flight, accesses, rates, distances, last, 0, cap);
-    let later = ways_bound(flight, accesses, rates, distances, last, cap + 1, u16::MAX);
+    let early = ways_bound(ways, distances, 0, cap);
+    let later = ways_bound(ways, distances, cap + 1, u16::MAX);
     // the least of the early ways is no less than `early`, and would have to be less than `later`
     if !early.is_less(later) {
         return Cost::none();
     }
-    cut_row(accesses, cap, distances, cut);
-    let least = table.least_way(flight, cut, rates);
-    if !later_cost_more(flight, accesses, rates, cap, later, least) {
+    cut_row(ways.accesses, cap, distances, cut);
+    let early_ways = Ways {
+        flight: ways.flight,
+        accesses: cut,
+        rates: ways.rates,
+    };
+    let least = table.least_way(early_ways);
+    if !later_cost_more(ways, cap, later, least) {
         return Cost::none();
     }
-    table.trace(flight, cut, rates, least, stops);
+    table.trace(early_ways, least, stops);
     least
 }

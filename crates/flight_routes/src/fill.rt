@@ -6,61 +6,58 @@ ghost use Rattle.flow_types.specs.Routes.{IsLeg};
 ghost use Rattle.time_windows.specs.Boxes.{IsInWindow};
 ghost use Rattle.flight_routes.specs.Entries.{IsMoveBy, Offers, cell_at, entry_cost};
 ghost use Rattle.flight_routes.specs.RateLists.{paid_in, rates_of};
-ghost use Rattle.flight_routes.specs.Rates.{IsClear, IsWayOn};
+ghost use Rattle.flight_routes.specs.Rates.{IsWayOn};
 ghost use Rattle.exact_sums.specs.Near.{IsNear};
-ghost use Rattle.flight_routes.specs.Ready.{AreRates, AreWindows, IsReady, row_of};
-ghost use Rattle.flight_routes.specs.Ways.{AreCells, HasLegsFrom, IsCell, IsLimit, entered_cost, stop_at};
+ghost use Rattle.flight_routes.specs.WayParts.{AreCellsIn, rates_in, row_in};
+ghost use Rattle.flight_routes.specs.Ways.{HasLegsFrom, IsCell, IsLimit, entered_cost, stop_at};
 
 use crate::accesses::{limit_of, window_at};
 use crate::cost::Cost;
+use crate::passage::Passage;
 use crate::rates::{RateTable, part_of, place_of};
 use crate::relax::relax;
-use flow_types::{Flight, Leg};
-use time_windows::{Access, Window};
+use crate::ways::Ways;
+use flow_types::Leg;
+use time_windows::Window;
 
-// Offers to the slot of each period of the node's window the least entry by a leg, if it starts
-// there.
-fn relax_leg(
-    rates: &RateTable,
-    accesses: &[Access],
-    cells: &[Cost],
-    nodes: u16,
+// An open node, and how far a leg from there may lead.
+#[derive(Clone, Copy)]
+struct Origin {
     node: u16,
     window: Window,
     limit: u16,
-    leg: Leg,
-    row: &mut [Cost],
-)
-    requires accesses { length accesses.now ≡ most_nodes }
+}
+
+// Offers to the slot of each period of the node's window the least entry by a leg, if it starts
+// there.
+fn relax_leg(ways: Ways<'_>, cells: &[Cost], origin: Origin, leg: Leg, row: &mut [Cost])
     requires cells { length cells.now ≡ most_nodes * most_periods }
     requires row { length row.old ≡ most_periods }
-    requires nodes { nodes ≤ most_nodes }
-    requires node { node < nodes }
-    requires leg { IsLeg nodes leg }
-    requires window { (row_of accesses.now node).window ≡ Some window }
-    requires limit { IsLimit (row_of accesses.now) nodes node limit }
-    requires day { AreRates rates.now.span (rates_of rates.now) }
-    requires clear { IsClear rates.now.span.lo rates.now.span.hi
-        ((rates_of rates.now).clear node) }
-    requires windows { AreWindows rates.now.span (row_of accesses.now) }
-    requires costs { (n u : ℕ) → node < n → n < nodes → IsInWindow (row_of accesses.now n).window u
-        → IfSome (cell_at cells.now n u) (IsNear (2 ^ 111)) }
-    ensures { (t : ℕ) → window.lo ≤ t → t ≤ window.hi → Offers
-        (IsMoveBy (row_of accesses.now) (rates_of rates.now) cells.now leg node t)
-        (entry_cost ((rates_of rates.now).paid node) (cell_at cells.now leg.to))
+    requires node { origin.node < length ways.flight.now.nodes }
+    requires leg { IsLeg (length ways.flight.now.nodes) leg }
+    requires window { (row_in ways origin.node).window ≡ Some origin.window }
+    requires limit { IsLimit (row_in ways) (length ways.flight.now.nodes) origin.node origin.limit }
+    requires costs { (n u : ℕ) → origin.node < n → n < length ways.flight.now.nodes
+        → IsInWindow (row_in ways n).window u → IfSome (cell_at cells.now n u) (IsNear (2 ^ 111)) }
+    ensures { (t : ℕ) → origin.window.lo ≤ t → t ≤ origin.window.hi → Offers
+        (IsMoveBy (row_in ways.entry) (rates_in ways.entry) cells.now leg origin.node t)
+        (entry_cost ((rates_in ways.entry).paid origin.node) (cell_at cells.now leg.to))
         (slice_index_or row.old t None) (slice_index_or row.new t None) }
 {
+    let Origin {
+        node,
+        window,
+        limit,
+    } = origin;
     if leg.from == node && leg.to <= limit {
-        if let Some(next) = window_at(accesses, leg.to) {
-            relax(
-                rates.paid_part(node),
-                rates.clear_part(node),
-                part_of(cells, leg.to),
-                leg.least,
+        if let Some(next) = window_at(ways.accesses, leg.to) {
+            let passage = Passage {
+                paid: ways.rates.paid_part(node),
+                clear: ways.rates.clear_part(node),
+                cells: part_of(cells, leg.to),
                 next,
-                window,
-                row,
-            );
+            };
+            relax(passage, leg.least, window, row);
         }
     }
 }
@@ -91,36 +88,33 @@ fn arrive_row(rates: &RateTable, window: Window, row: &mut [Cost])
 // Puts into the slot of each period of a node's window the least cost of the ways on from there,
 // with what being at the node had cost by then.
 fn enter_row(
-    flight: &Flight,
-    accesses: &[Access],
-    rates: &RateTable,
+    ways: Ways<'_>,
     legs: &[Leg],
     cells: &[Cost],
     node: u16,
     window: Window,
     row: &mut [Cost],
 )
-    requires accesses { length accesses.now ≡ most_nodes }
-    requires ready { IsReady flight.now (row_of accesses.now) rates.now.span
-        (rates_of rates.now) }
-    requires legs { HasLegsFrom node flight.now.legs legs.now }
+    requires legs { HasLegsFrom node ways.flight.now.legs legs.now }
     requires length { length cells.now ≡ most_nodes * most_periods }
-    requires cells { AreCells flight.now (row_of accesses.now) (rates_of rates.now) (node + 1)
-        cells.now }
-    requires node { node + 1 < length flight.now.nodes }
-    requires window { (row_of accesses.now node).window ≡ Some window }
+    requires cells { AreCellsIn ways (node + 1) cells.now }
+    requires node { node + 1 < length ways.flight.now.nodes }
+    requires window { (row_in ways node).window ≡ Some window }
     requires row { length row.old ≡ most_periods }
     ensures { (t : ℕ) → window.lo ≤ t → t ≤ window.hi
-        → IsLeast (IsWayOn flight.now (row_of accesses.now) (rates_of rates.now) (stop_at node t))
-        (entered_cost (rates_of rates.now) (stop_at node t)) (slice_index_or row.new t None) }
+        → IsLeast (IsWayOn ways.entry.flight.now (row_in ways.entry) (rates_in ways.entry)
+        (stop_at node t)) (entered_cost (rates_in ways.entry) (stop_at node t))
+        (slice_index_or row.new t None) }
 {
-    let nodes = flight.nodes.items().len() as u16;
-    let limit = limit_of(accesses, nodes, node);
+    let nodes = ways.flight.nodes.items().len() as u16;
+    let origin = Origin {
+        node,
+        window,
+        limit: limit_of(ways.accesses, nodes, node),
+    };
     clear_row(window, row);
     for at in 0..legs.len() {
-        relax_leg(
-            rates, accesses, cells, nodes, node, window, limit, legs[at], row,
-        );
+        relax_leg(ways, cells, origin, legs[at], row);
     }
 }
 
@@ -143,62 +137,50 @@ fn lower_row(paid: &[i128], window: Window, row: &mut [Cost])
 
 // Puts into the slot of each period of a node's window the least cost of the ways on from there.
 fn leave_row(
-    flight: &Flight,
-    accesses: &[Access],
-    rates: &RateTable,
+    ways: Ways<'_>,
     legs: &[Leg],
     cells: &[Cost],
     node: u16,
     window: Window,
     row: &mut [Cost],
 )
-    requires accesses { length accesses.now ≡ most_nodes }
-    requires ready { IsReady flight.now (row_of accesses.now) rates.now.span
-        (rates_of rates.now) }
-    requires legs { HasLegsFrom node flight.now.legs legs.now }
+    requires legs { HasLegsFrom node ways.flight.now.legs legs.now }
     requires length { length cells.now ≡ most_nodes * most_periods }
-    requires cells { AreCells flight.now (row_of accesses.now) (rates_of rates.now) (node + 1)
-        cells.now }
-    requires node { node + 1 < length flight.now.nodes }
-    requires window { (row_of accesses.now node).window ≡ Some window }
+    requires cells { AreCellsIn ways (node + 1) cells.now }
+    requires node { node + 1 < length ways.flight.now.nodes }
+    requires window { (row_in ways node).window ≡ Some window }
     requires row { length row.old ≡ most_periods }
     ensures { (t : ℕ) → window.lo ≤ t → t ≤ window.hi
-        → IsCell flight.now (row_of accesses.now) (rates_of rates.now) node t
+        → IsCell ways.entry.flight.now (row_in ways.entry) (rates_in ways.entry) node t
         (slice_index_or row.new t None) }
 {
-    enter_row(flight, accesses, rates, legs, cells, node, window, row);
-    lower_row(rates.paid_part(node), window, row);
+    enter_row(ways, legs, cells, node, window, row);
+    lower_row(ways.rates.paid_part(node), window, row);
 }
 
 // Fills the row of any node, the last one among them.
 fn fill_row(
-    flight: &Flight,
-    accesses: &[Access],
-    rates: &RateTable,
+    ways: Ways<'_>,
     legs: &[Leg],
     cells: &[Cost],
     node: u16,
     window: Window,
     row: &mut [Cost],
 )
-    requires accesses { length accesses.now ≡ most_nodes }
-    requires ready { IsReady flight.now (row_of accesses.now) rates.now.span
-        (rates_of rates.now) }
-    requires legs { HasLegsFrom node flight.now.legs legs.now }
+    requires legs { HasLegsFrom node ways.flight.now.legs legs.now }
     requires length { length cells.now ≡ most_nodes * most_periods }
-    requires cells { AreCells flight.now (row_of accesses.now) (rates_of rates.now) (node + 1)
-        cells.now }
-    requires node { node < length flight.now.nodes }
-    requires window { (row_of accesses.now node).window ≡ Some window }
+    requires cells { AreCellsIn ways (node + 1) cells.now }
+    requires node { node < length ways.flight.now.nodes }
+    requires window { (row_in ways node).window ≡ Some window }
     requires row { length row.old ≡ most_periods }
     ensures { (t : ℕ) → window.lo ≤ t → t ≤ window.hi
-        → IsCell flight.now (row_of accesses.now) (rates_of rates.now) node t
+        → IsCell ways.entry.flight.now (row_in ways.entry) (rates_in ways.entry) node t
         (slice_index_or row.new t None) }
 {
-    if usize::from(node) + 1 == flight.nodes.items().len() {
-        arrive_row(rates, window, row);
+    if usize::from(node) + 1 == ways.flight.nodes.items().len() {
+        arrive_row(ways.rates, window, row);
     } else {
-        leave_row(flight, accesses, rates, legs, cells, node, window, row);
+        leave_row(ways, legs, cells, node, window, row);
     }
 }
 
@@ -220,50 +202,29 @@ fn store(row: &[Cost], node: u16, window: Window, cells: &mut [Cost])
 
 // Fills the cells of a node, where those of the nodes after it are filled. The legs are those of
 // the flight from the node, it may be with others of the flight.
-fn fill_node(
-    flight: &Flight,
-    accesses: &[Access],
-    rates: &RateTable,
-    legs: &[Leg],
-    node: u16,
-    row: &mut [Cost],
-    cells: &mut [Cost],
-)
-    requires accesses { length accesses.now ≡ most_nodes }
-    requires ready { IsReady flight.now (row_of accesses.now) rates.now.span
-        (rates_of rates.now) }
-    requires legs { HasLegsFrom node flight.now.legs legs.now }
-    requires node { node < length flight.now.nodes }
+fn fill_node(ways: Ways<'_>, legs: &[Leg], node: u16, row: &mut [Cost], cells: &mut [Cost])
+    requires legs { HasLegsFrom node ways.flight.now.legs legs.now }
+    requires node { node < length ways.flight.now.nodes }
     requires row { length row.old ≡ most_periods }
     requires length { length cells.old ≡ most_nodes * most_periods }
-    requires cells { AreCells flight.now (row_of accesses.now) (rates_of rates.now) (node + 1)
-        cells.old }
-    ensures { AreCells flight.now (row_of accesses.now) (rates_of rates.now) node cells.new }
+    requires cells { AreCellsIn ways (node + 1) cells.old }
+    ensures { AreCellsIn ways.entry node cells.new }
 {
-    if let Some(window) = window_at(accesses, node) {
-        fill_row(flight, accesses, rates, legs, cells, node, window, row);
+    if let Some(window) = window_at(ways.accesses, node) {
+        fill_row(ways, legs, cells, node, window, row);
         store(row, node, window, cells);
     }
 }
 
 /// Fills the cells of all nodes, from the last to the first.
-pub fn fill_nodes(
-    flight: &Flight,
-    accesses: &[Access],
-    rates: &RateTable,
-    row: &mut [Cost],
-    cells: &mut [Cost],
-)
-    requires accesses { length accesses.now ≡ most_nodes }
-    requires ready { IsReady flight.now (row_of accesses.now) rates.now.span
-        (rates_of rates.now) }
+pub fn fill_nodes(ways: Ways<'_>, row: &mut [Cost], cells: &mut [Cost])
     requires row { length row.old ≡ most_periods }
     requires length { length cells.old ≡ most_nodes * most_periods }
-    ensures { AreCells flight.now (row_of accesses.now) (rates_of rates.now) 0 cells.new }
+    ensures { AreCellsIn ways.entry 0 cells.new }
 {
-    let legs = flight.legs.items();
-    let nodes = flight.nodes.items().len() as u16;
+    let legs = ways.flight.legs.items();
+    let nodes = ways.flight.nodes.items().len() as u16;
     for node in (0..nodes).rev() {
-        fill_node(flight, accesses, rates, legs, node, row, cells);
+        fill_node(ways, legs, node, row, cells);
     }
 }

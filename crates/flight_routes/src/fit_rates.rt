@@ -9,23 +9,24 @@ ghost use Rattle.flow_types.specs.Scenario.{flight_at, parts_of};
 ghost use Rattle.flow_types.specs.Trips.{place_at};
 ghost use Rattle.plan_rules.specs.Loads.{AreLoads, IsMadeFor};
 ghost use Rattle.time_windows.specs.Boxes.{IsInWindow};
+ghost use Rattle.flight_routes.specs.FlightParts.{IsFreeFor, plain_value};
 ghost use Rattle.flight_routes.specs.Filling.{AreSmallAt, IsFitTable, OnlyClear, OnlyEnd};
 ghost use Rattle.flight_routes.specs.FitRates.{AreFitRates, IsGiven};
-ghost use Rattle.flight_routes.specs.FitTimes.{HasSpace, IsClearAt, IsFirstFull, IsFreeAt, IsInTimeAt, IsNextFull, fit_value};
+ghost use Rattle.flight_routes.specs.FitTimes.{HasSpace, IsClearAt, IsFirstFull, IsInTimeAt, IsNextFull, fit_value};
 ghost use Rattle.flight_routes.specs.RateLists.{rates_of};
 ghost use Rattle.exact_sums.specs.Near.{IsNear};
 ghost use Rattle.flight_routes.specs.Rates.{AreClear, rate_at};
 ghost use Rattle.flight_routes.specs.Ready.{AreWindows, IsInSpan, row_of};
-ghost use Rattle.time_windows.specs.Turns.{AreTurnsOf};
 
 use crate::cost::Cost;
 use crate::ends::{airport_at, kind_at};
+use crate::loaded_flight::LoadedFlight;
 use crate::rates::RateTable;
 use crate::time_costs::{credit_then, last_of, total_then};
 use crate::turn_times::{arrive_limit, first_leave};
 use flow_types::{CapKind, Flight, MOST_PERIODS, Scenario, place_at};
 use plan_rules::Loads;
-use time_windows::{Access, End, Turns, Window};
+use time_windows::{Access, End, Window};
 
 // Whether there is room for one more flight.
 fn has_space(s: &Scenario, loads: &Loads, kind: CapKind, place: u32, time: u16) -> bool
@@ -84,15 +85,19 @@ fn value_at(s: &Scenario, flight: u32, end: End, time: u16) -> Option<i128>
 
 // What this end of the trip costs in the period; nothing where the flight may not leave or arrive
 // then: out of time, or without room.
-fn fit_at(s: &Scenario, flight: u32, end: End, time: u16, bound: u32, loads: &Loads) -> Option<i128>
-    requires loads { IsMadeFor (parts_of s.now) loads.now }
-    requires flight { flight < length (parts_of s.now).flights }
-    requires time { time < (parts_of s.now).day.periods }
+fn fit_at(loaded: LoadedFlight<'_>, end: End, time: u16, bound: u32) -> Option<i128>
+    requires time { time < (parts_of loaded.s.now).day.periods }
     ensures given { IsGiven result
-        (IsFreeAt end (parts_of s.now) loads.now (flight_at s.now flight) bound time)
-        (fit_value end (parts_of s.now).tables (flight_at s.now flight) time) }
+        (IsFreeFor loaded.entry end bound time)
+        (plain_value loaded.entry end time) }
     ensures within { IfSome result (IsNear (2 ^ 110)) }
 {
+    let LoadedFlight {
+        s,
+        flight,
+        loads,
+        ..
+    } = loaded;
     if !is_in_time(end, bound, time) {
         return None;
     }
@@ -105,27 +110,17 @@ fn fit_at(s: &Scenario, flight: u32, end: End, time: u16, bound: u32, loads: &Lo
 
 // Sets what this end of the trip costs in each period of the window.
 #[tactic(auto, using(crate::proofs::FillFacts::end_more, crate::proofs::FillFacts::end_none))]
-fn set_end(
-    table: &mut RateTable,
-    s: &Scenario,
-    flight: u32,
-    end: End,
-    window: Window,
-    bound: u32,
-    loads: &Loads,
-)
-    requires loads { IsMadeFor (parts_of s.now) loads.now }
-    requires flight { flight < length (parts_of s.now).flights }
-    requires window { window.hi < (parts_of s.now).day.periods }
+fn set_end(table: &mut RateTable, loaded: LoadedFlight<'_>, end: End, window: Window, bound: u32)
+    requires { window.hi < (parts_of loaded.s.now).day.periods }
     ensures costs { (t : ℕ) → window.lo ≤ t → t ≤ window.hi
         → IsGiven (rate_at end (rates_of table.new) t)
-        (IsFreeAt end (parts_of s.now) loads.now (flight_at s.now flight) bound t)
-        (fit_value end (parts_of s.now).tables (flight_at s.now flight) t) }
+        (IsFreeFor loaded.entry end bound t)
+        (plain_value loaded.entry end t) }
     ensures only { OnlyEnd end table.old table.new }
     ensures within { AreSmallAt end table.old → AreSmallAt end table.new }
 {
     for time in window.lo..window.hi + 1 {
-        let value = fit_at(s, flight, end, time, bound, loads);
+        let value = fit_at(loaded, end, time, bound);
         table.set_end(end, time, Cost::new(value));
     }
 }
@@ -133,29 +128,25 @@ fn set_end(
 // Sets what that end of the trip costs, where its node is open; a closed one has no period to set.
 fn set_end_in(
     table: &mut RateTable,
-    s: &Scenario,
-    flight: u32,
+    loaded: LoadedFlight<'_>,
     end: End,
     accesses: &[Access],
     node: u16,
     bound: u32,
-    loads: &Loads,
 )
-    requires loads { IsMadeFor (parts_of s.now) loads.now }
-    requires flight { flight < length (parts_of s.now).flights }
     requires accesses { length accesses.now ≡ most_nodes }
     requires windows { AreWindows table.old.span (row_of accesses.now) }
-    requires day { table.old.span.hi < (parts_of s.now).day.periods }
+    requires day { table.old.span.hi < (parts_of loaded.s.now).day.periods }
     requires node { node < most_nodes }
     ensures costs { (t : ℕ) → IsInWindow (row_of accesses.now node).window t
         → IsGiven (rate_at end (rates_of table.new) t)
-        (IsFreeAt end (parts_of s.now) loads.now (flight_at s.now flight) bound t)
-        (fit_value end (parts_of s.now).tables (flight_at s.now flight) t) }
+        (IsFreeFor loaded.entry end bound t)
+        (plain_value loaded.entry end t) }
     ensures only { OnlyEnd end table.old table.new }
     ensures within { AreSmallAt end table.old → AreSmallAt end table.new }
 {
     if let Some(window) = accesses[usize::from(node)].window {
-        set_end(table, s, flight, end, window, bound, loads);
+        set_end(table, loaded, end, window, bound);
     }
 }
 
@@ -242,37 +233,35 @@ fn set_all_full(table: &mut RateTable, s: &Scenario, flight: &Flight, last: u16,
 /// Sets the rates of the flight beside the loads: what leaving and arriving cost it where there is
 /// room and its connections let it, and how long there is room in each of its sectors, from each
 /// period of the table on.
-pub fn set_fit_rates(
-    table: &mut RateTable,
-    s: &Scenario,
-    accesses: &[Access],
-    flight: u32,
-    loads: &Loads,
-    turns: &Turns,
-)
+pub fn set_fit_rates(table: &mut RateTable, loaded: LoadedFlight<'_>, accesses: &[Access])
     requires table { IsFitTable table.old }
-    requires day { table.old.span.hi < (parts_of s.now).day.periods }
-    requires loads { IsMadeFor (parts_of s.now) loads.now }
-    requires turns { AreTurnsOf (parts_of s.now) turns.now }
-    requires flight { flight < length (parts_of s.now).flights }
+    requires day { table.old.span.hi < (parts_of loaded.s.now).day.periods }
     requires accesses { length accesses.now ≡ most_nodes }
     requires windows { AreWindows table.old.span (row_of accesses.now) }
     ensures rates { (trips : List (List Stop)) (details : Flight)
-        → AreLoads (parts_of s.now) trips loads.now → flight_at s.now flight ≡ Some details
-        → AreFitRates (parts_of s.now) trips flight details (row_of accesses.now) table.old.span
-        (rates_of table.new) }
-    ensures clear { (details : Flight) → flight_at s.now flight ≡ Some details
+        → AreLoads (parts_of loaded.entry.s.now) trips loaded.entry.loads.now
+        → flight_at loaded.entry.s.now loaded.entry.flight ≡ Some details
+        → AreFitRates (parts_of loaded.entry.s.now) trips loaded.entry.flight details
+        (row_of accesses.now) table.old.span (rates_of table.new) }
+    ensures clear { (details : Flight)
+        → flight_at loaded.entry.s.now loaded.entry.flight ≡ Some details
         → AreClear details table.old.span (rates_of table.new) }
     ensures table { IsFitTable table.new }
     ensures span { table.new.span ≡ table.old.span }
 {
+    let LoadedFlight {
+        s,
+        flight,
+        turns,
+        loads,
+    } = loaded;
     let details = &s.flights()[flight as usize];
     let last = last_of(details);
     let leave = End::Departure;
     let first = first_leave(turns.of_flight(flight, leave), loads);
-    set_end_in(table, s, flight, leave, accesses, 0, first, loads);
+    set_end_in(table, loaded, leave, accesses, 0, first);
     let arrive = End::Arrival;
     let limit = arrive_limit(turns.of_flight(flight, arrive), loads);
-    set_end_in(table, s, flight, arrive, accesses, last, limit, loads);
+    set_end_in(table, loaded, arrive, accesses, last, limit);
     set_all_full(table, s, details, last, loads);
 }

@@ -21,9 +21,10 @@
 //! `TripOrder` (the order of trips). `Work` is what the room for least trips is seen as. The others
 //! serve the proof: `Rates` and `Ways` (what a flight pays on its way, and the least ways on from a
 //! stop), `TripRates`, `FitRates` and `PricedFitRates` (the rates at which ways are trips, trips
-//! that fit, and trips that fit under prices), `Entries` and `Firsts` (the next stop), `Early` (ways
-//! that end early), and `Costs`, `Ends`, `Filling`, `FitTimes`, `Later`, `PriceRates`, `RateLists`,
-//! `Ready`, `TimeCosts` and `TurnTimes`.
+//! that fit, and trips that fit under prices), `Entries` and `Firsts` (the next stop), `Early`
+//! (ways that end early), `FlightParts`, `PassageParts` and `WayParts` (parts of what private
+//! functions are lent as one), and `Costs`, `Ends`, `Filling`, `FitTimes`, `Later`, `OneProof`,
+//! `PriceRates`, `RateLists`, `Ready`, `TimeCosts` and `TurnTimes`.
 //!
 //! Proved: `least_trip` answers the least over all trips of the flight in the box, `least_fit`
 //! and `least_priced_fit` over all of those that fit, and nothing exactly where there is none
@@ -60,9 +61,12 @@ mod ends;
 mod fill;
 mod fit_rates;
 mod later;
+mod loaded_flight;
+mod passage;
 mod price_block;
 mod price_rates;
 mod priced_fit_rates;
+mod priced_flight;
 mod prices;
 mod rates;
 mod relax;
@@ -71,6 +75,7 @@ mod table;
 mod time_costs;
 mod trace;
 mod turn_times;
+mod ways;
 mod work;
 
 pub use prices::Prices;

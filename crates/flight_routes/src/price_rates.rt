@@ -5,24 +5,24 @@ ghost use Rattle.flow_types.specs.Limits.{most_connections, most_delay_cost, mos
 ghost use Rattle.flow_types.specs.Scenario.{flight_at, parts_of};
 ghost use Rattle.flow_types.specs.Trips.{place_at};
 ghost use Rattle.time_windows.specs.Boxes.{IsInWindow};
+ghost use Rattle.flight_routes.specs.FlightParts.{paid_cost, paid_value};
 ghost use Rattle.flight_routes.specs.Filling.{ArePaidSmall, AreSmallAt, IsPriceTable, OnlyEnd, OnlyPaid, OnlyStays};
-ghost use Rattle.flight_routes.specs.PriceRates.{end_cost, end_value};
 ghost use Rattle.flight_routes.specs.Prices.{ArePricesOf, price_in, summed};
 ghost use Rattle.flight_routes.specs.RateLists.{rates_of};
 ghost use Rattle.flight_routes.specs.Rates.{rate_at};
 ghost use Rattle.exact_sums.specs.Near.{IsNear};
 ghost use Rattle.flight_routes.specs.Ready.{AreWindows, IsInSpan, row_of};
 ghost use Rattle.flight_routes.specs.TripRates.{AreTripRates};
-ghost use Rattle.time_windows.specs.Turns.{AreTurnsOf};
 
 use crate::cost::Cost;
 use crate::ends::{airport_at, kind_at};
 use crate::later::add_up_later;
+use crate::priced_flight::PricedFlight;
 use crate::prices::Prices;
 use crate::rates::RateTable;
 use crate::time_costs::{credit_then, last_of, total_then};
 use flow_types::{CapKind, Flight, PriceKey, PriceKind, Scenario, place_at};
-use time_windows::{Access, End, Turns, Window};
+use time_windows::{Access, End, Window};
 
 // A weight times a cost.
 fn weighted_cost(weight: u64, cost: Option<i64>) -> Option<i128>
@@ -66,25 +66,19 @@ fn more(cost: Option<i128>, paid: u64, back: u128) -> Option<i128>
 // What this end of the trip costs in the period: leaving its price, and what the connections cost
 // from then on, less the credit; arriving the total and its price, less what the connections pay
 // back.
-fn end_value(
-    s: &Scenario,
-    flight: u32,
-    end: End,
-    time: u16,
-    weight: u64,
-    prices: &Prices,
-    later: u128,
-) -> Option<i128>
-    requires prices { ArePricesOf (parts_of s.now) prices.now }
-    requires flight { flight < length (parts_of s.now).flights }
-    requires time { time < (parts_of s.now).day.periods }
-    requires weight { weight < 2 ^ 62 }
+fn end_value(priced: PricedFlight<'_>, end: End, time: u16, later: u128) -> Option<i128>
+    requires time { time < (parts_of priced.s.now).day.periods }
     requires later { later ≤ most_connections * 2 ^ 71 }
-    ensures value { result ≡ Some (end_value end weight prices.now (parts_of s.now)
-        (flight_at s.now flight) time later) }
+    ensures value { result ≡ Some (paid_value priced.entry end time later) }
     ensures within { IfSome result (IsNear (2 ^ 110)) }
 {
-    let price = prices.get(PriceKey {
+    let PricedFlight {
+        s,
+        flight,
+        weight,
+        ..
+    } = priced;
+    let price = priced.prices.get(PriceKey {
         kind: PriceKind::Capacity(kind_at(end)),
         row: airport_at(end, &s.flights()[flight as usize]),
         period: time,
@@ -108,32 +102,19 @@ fn end_value(
 
 // Sets what this end of the trip costs in each period of the window.
 #[tactic(auto, using(crate::proofs::FillFacts::end_more, crate::proofs::FillFacts::end_none))]
-fn set_end(
-    table: &mut RateTable,
-    s: &Scenario,
-    flight: u32,
-    end: End,
-    window: Window,
-    weight: u64,
-    prices: &Prices,
-    sums: &[u128],
-)
-    requires prices { ArePricesOf (parts_of s.now) prices.now }
-    requires flight { flight < length (parts_of s.now).flights }
-    requires window { window.hi < (parts_of s.now).day.periods }
-    requires weight { weight < 2 ^ 62 }
-    requires sums { length sums.now ≡ (parts_of s.now).day.periods }
+fn set_end(table: &mut RateTable, priced: PricedFlight<'_>, end: End, window: Window, sums: &[u128])
+    requires window { window.hi < (parts_of priced.s.now).day.periods }
+    requires sums { length sums.now ≡ (parts_of priced.s.now).day.periods }
     requires small { (t : ℕ) → window.lo ≤ t → t ≤ window.hi
         → slice_index sums.now t ≤ most_connections * 2 ^ 71 }
     ensures costs { (t : ℕ) → window.lo ≤ t → t ≤ window.hi
-        → rate_at end (rates_of table.new) t ≡ Some (end_value end weight prices.now
-        (parts_of s.now) (flight_at s.now flight) t (slice_index sums.now t)) }
+        → rate_at end (rates_of table.new) t
+        ≡ Some (paid_value priced.entry end t (slice_index sums.now t)) }
     ensures only { OnlyEnd end table.old table.new }
     ensures within { AreSmallAt end table.old → AreSmallAt end table.new }
 {
     for time in window.lo..window.hi + 1 {
-        let later = sums[usize::from(time)];
-        let value = end_value(s, flight, end, time, weight, prices, later);
+        let value = end_value(priced, end, time, sums[usize::from(time)]);
         table.set_end(end, time, Cost::new(value));
     }
 }
@@ -164,69 +145,46 @@ fn set_paid(table: &mut RateTable, s: &Scenario, node: u16, place: u32, prices: 
 fn set_end_rates(
     table: &mut RateTable,
     sums: &mut [u128],
-    s: &Scenario,
-    flight: u32,
+    priced: PricedFlight<'_>,
     end: End,
     window: Window,
-    weight: u64,
-    prices: &Prices,
-    turns: &Turns,
 )
-    requires prices { ArePricesOf (parts_of s.now) prices.now }
-    requires turns { AreTurnsOf (parts_of s.now) turns.now }
-    requires flight { flight < length (parts_of s.now).flights }
-    requires window { window.hi < (parts_of s.now).day.periods }
-    requires weight { weight < 2 ^ 62 }
-    requires sums { length sums.old ≡ (parts_of s.now).day.periods }
+    requires window { window.hi < (parts_of priced.s.now).day.periods }
+    requires sums { length sums.old ≡ (parts_of priced.s.now).day.periods }
     ensures costs { (t : ℕ) → window.lo ≤ t → t ≤ window.hi
-        → rate_at end (rates_of table.new) t ≡ Some (end_cost end weight prices.now
-        (parts_of s.now) flight (flight_at s.now flight) t) }
+        → rate_at end (rates_of table.new) t ≡ Some (paid_cost priced.entry end t) }
     ensures only { OnlyEnd end table.old table.new }
     ensures within { AreSmallAt end table.old → AreSmallAt end table.new }
-    ensures sums { length sums.new ≡ (parts_of s.now).day.periods }
+    ensures sums { length sums.new ≡ (parts_of priced.entry.s.now).day.periods }
 {
-    add_up_later(
-        sums,
-        prices,
-        turns.of_flight(flight, end),
-        end,
-        window,
-        s.day().periods,
-    );
-    set_end(table, s, flight, end, window, weight, prices, sums);
+    let turns = priced.turns.of_flight(priced.flight, end);
+    let periods = priced.s.day().periods;
+    add_up_later(sums, priced.prices, turns, end, window, periods);
+    set_end(table, priced, end, window, sums);
 }
 
 // Sets what that end of the trip costs, where its node is open; a closed one has no period to set.
 fn set_end_in(
     table: &mut RateTable,
     sums: &mut [u128],
-    s: &Scenario,
-    flight: u32,
+    priced: PricedFlight<'_>,
     end: End,
     accesses: &[Access],
     node: u16,
-    weight: u64,
-    prices: &Prices,
-    turns: &Turns,
 )
-    requires prices { ArePricesOf (parts_of s.now) prices.now }
-    requires turns { AreTurnsOf (parts_of s.now) turns.now }
-    requires flight { flight < length (parts_of s.now).flights }
     requires accesses { length accesses.now ≡ most_nodes }
     requires windows { AreWindows table.old.span (row_of accesses.now) }
-    requires day { table.old.span.hi < (parts_of s.now).day.periods }
+    requires day { table.old.span.hi < (parts_of priced.s.now).day.periods }
     requires node { node < most_nodes }
-    requires weight { weight < 2 ^ 62 }
-    requires sums { length sums.old ≡ (parts_of s.now).day.periods }
+    requires sums { length sums.old ≡ (parts_of priced.s.now).day.periods }
     ensures costs { (t : ℕ) → IsInWindow (row_of accesses.now node).window t
-        → rate_at end (rates_of table.new) t ≡ Some (end_cost end weight prices.now
-        (parts_of s.now) flight (flight_at s.now flight) t) }
+        → rate_at end (rates_of table.new) t ≡ Some (paid_cost priced.entry end t) }
     ensures only { OnlyEnd end table.old table.new }
     ensures within { AreSmallAt end table.old → AreSmallAt end table.new }
-    ensures sums { length sums.new ≡ (parts_of s.now).day.periods }
+    ensures sums { length sums.new ≡ (parts_of priced.entry.s.now).day.periods }
 {
     if let Some(window) = accesses[usize::from(node)].window {
-        set_end_rates(table, sums, s, flight, end, window, weight, prices, turns);
+        set_end_rates(table, sums, priced, end, window);
     }
 }
 
@@ -256,38 +214,31 @@ fn set_stays(table: &mut RateTable, s: &Scenario, flight: &Flight, last: u16, pr
 pub fn set_price_rates(
     table: &mut RateTable,
     sums: &mut [u128],
-    s: &Scenario,
+    priced: PricedFlight<'_>,
     accesses: &[Access],
-    flight: u32,
-    weight: u64,
-    prices: &Prices,
-    turns: &Turns,
 )
     requires table { IsPriceTable table.old }
-    requires prices { ArePricesOf (parts_of s.now) prices.now }
-    requires turns { AreTurnsOf (parts_of s.now) turns.now }
-    requires flight { flight < length (parts_of s.now).flights }
     requires accesses { length accesses.now ≡ most_nodes }
     requires windows { AreWindows table.old.span (row_of accesses.now) }
-    requires day { table.old.span.hi < (parts_of s.now).day.periods }
-    requires weight { weight < 2 ^ 62 }
-    requires sums { length sums.old ≡ (parts_of s.now).day.periods }
-    ensures rates { (details : Flight) → flight_at s.now flight ≡ Some details
-        → AreTripRates weight prices.now (parts_of s.now) flight details (row_of accesses.now)
-        table.old.span (rates_of table.new) }
+    requires day { table.old.span.hi < (parts_of priced.s.now).day.periods }
+    requires sums { length sums.old ≡ (parts_of priced.s.now).day.periods }
+    ensures rates { (details : Flight)
+        → flight_at priced.entry.s.now priced.entry.flight ≡ Some details
+        → AreTripRates priced.entry.weight priced.entry.prices.now (parts_of priced.entry.s.now)
+        priced.entry.flight details (row_of accesses.now) table.old.span (rates_of table.new) }
     ensures table { IsPriceTable table.new }
     ensures span { table.new.span ≡ table.old.span }
-    ensures sums { length sums.new ≡ (parts_of s.now).day.periods }
+    ensures sums { length sums.new ≡ (parts_of priced.entry.s.now).day.periods }
 {
+    let PricedFlight {
+        s,
+        flight,
+        prices,
+        ..
+    } = priced;
     let details = &s.flights()[flight as usize];
     let last = last_of(details);
-    let leave = End::Departure;
-    set_end_in(
-        table, sums, s, flight, leave, accesses, 0, weight, prices, turns,
-    );
-    let arrive = End::Arrival;
-    set_end_in(
-        table, sums, s, flight, arrive, accesses, last, weight, prices, turns,
-    );
+    set_end_in(table, sums, priced, End::Departure, accesses, 0);
+    set_end_in(table, sums, priced, End::Arrival, accesses, last);
     set_stays(table, s, details, last, prices);
 }

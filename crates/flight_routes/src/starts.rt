@@ -4,17 +4,16 @@ ghost use Rattle.exact_sums.specs.Leasts.{IsLeast};
 ghost use Rattle.flow_types.specs.Limits.{most_nodes, most_periods};
 ghost use Rattle.flight_routes.specs.Entries.{cell_at};
 ghost use Rattle.flight_routes.specs.RateLists.{rates_of};
-ghost use Rattle.flight_routes.specs.Rates.{IsWay, whole_cost};
 ghost use Rattle.exact_sums.specs.Near.{IsNear};
-ghost use Rattle.flight_routes.specs.Ready.{IsReady, row_of};
-ghost use Rattle.flight_routes.specs.Ways.{AreCells, IsStart, both_of, start_cost};
+ghost use Rattle.flight_routes.specs.WayParts.{AreCellsIn, IsWayIn, cost_in, rates_in, row_in};
+ghost use Rattle.flight_routes.specs.Ways.{IsStart, both_of, start_cost};
 
 use crate::accesses::window_at;
 use crate::cost::Cost;
 use crate::rates::RateTable;
 use crate::relax::cell_at;
-use flow_types::Flight;
-use time_windows::{Access, Window};
+use crate::ways::Ways;
+use time_windows::Window;
 
 /// What the ways from a first stop in the period cost at least.
 pub fn start_of(rates: &RateTable, cells: &[Cost], time: u16) -> Cost
@@ -28,41 +27,28 @@ pub fn start_of(rates: &RateTable, cells: &[Cost], time: u16) -> Cost
 }
 
 // The least of them over the window of the first node.
-fn least_start(
-    flight: &Flight,
-    accesses: &[Access],
-    rates: &RateTable,
-    cells: &[Cost],
-    window: Window,
-) -> Cost
-    requires accesses { length accesses.now ≡ most_nodes }
-    requires ready { IsReady flight.now (row_of accesses.now) rates.now.span
-        (rates_of rates.now) }
-    requires window { (row_of accesses.now 0).window ≡ Some window }
+fn least_start(ways: Ways<'_>, cells: &[Cost], window: Window) -> Cost
+    requires window { (row_in ways 0).window ≡ Some window }
     requires length { length cells.now ≡ most_nodes * most_periods }
-    requires cells { AreCells flight.now (row_of accesses.now) (rates_of rates.now) 0 cells.now }
-    ensures { IsLeast (IsStart (row_of accesses.now) (rates_of rates.now) cells.now)
-        (start_cost (rates_of rates.now) cells.now) result }
+    requires cells { AreCellsIn ways 0 cells.now }
+    ensures { IsLeast (IsStart (row_in ways.entry) (rates_in ways.entry) cells.now)
+        (start_cost (rates_in ways.entry) cells.now) result }
 {
     let mut least = Cost::none();
     for time in window.lo..window.hi + 1 {
-        least = least.lesser(start_of(rates, cells, time));
+        least = least.lesser(start_of(ways.rates, cells, time));
     }
     least
 }
 
 /// The least over the window of the first node, if it is open.
-pub fn least_cost(flight: &Flight, accesses: &[Access], rates: &RateTable, cells: &[Cost]) -> Cost
-    requires accesses { length accesses.now ≡ most_nodes }
-    requires ready { IsReady flight.now (row_of accesses.now) rates.now.span
-        (rates_of rates.now) }
+pub fn least_cost(ways: Ways<'_>, cells: &[Cost]) -> Cost
     requires length { length cells.now ≡ most_nodes * most_periods }
-    requires cells { AreCells flight.now (row_of accesses.now) (rates_of rates.now) 0 cells.now }
-    ensures { IsLeast (IsWay flight.now (row_of accesses.now) (rates_of rates.now))
-        (whole_cost (rates_of rates.now)) result }
+    requires cells { AreCellsIn ways 0 cells.now }
+    ensures { IsLeast (IsWayIn ways.entry) (cost_in ways.entry) result }
 {
-    match window_at(accesses, 0) {
+    match window_at(ways.accesses, 0) {
         None => Cost::none(),
-        Some(window) => least_start(flight, accesses, rates, cells, window),
+        Some(window) => least_start(ways, cells, window),
     }
 }

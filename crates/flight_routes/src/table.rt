@@ -1,13 +1,13 @@
 //! The least way of a flight, in room that is made once.
 use crate::cost::Cost;
 use crate::fill::fill_nodes;
-use crate::rates::{CELLS, PERIODS, RateTable, no_costs};
+use crate::rates::{CELLS, PERIODS, no_costs};
 use crate::starts::least_cost;
 use crate::trace::trace;
-use flow_types::{Flight, OutOfMemory, Stop};
+use crate::ways::Ways;
+use flow_types::{OutOfMemory, Stop};
 use std::alloc::Global;
 use std::marker::Model;
-use time_windows::Access;
 
 /// The least cost of the ways on from each stop of one flight, in room that is made once. Contracts
 /// see it as its cells.
@@ -39,11 +39,8 @@ impl Table {
     ghost use Rattle.std.specs.Prelude.{◌≡◌, ◌≤◌, IsSome, length, vec_capacity};
     ghost use Rattle.exact_sums.specs.Leasts.{IsFirstLeast, IsLeast};
     ghost use Rattle.flow_types.specs.Limits.{most_nodes};
-    ghost use Rattle.flight_routes.specs.RateLists.{rates_of};
-    ghost use Rattle.flight_routes.specs.Rates.{IsWay, whole_cost};
-    ghost use Rattle.flight_routes.specs.Ready.{IsReady, row_of};
     ghost use Rattle.flight_routes.specs.TripOrder.{IsNoLater};
-    ghost use Rattle.flight_routes.specs.Ways.{AreCells};
+    ghost use Rattle.flight_routes.specs.WayParts.{AreCellsIn, IsWayIn, cost_in};
 
     /// A table of no flight. It is all the memory that the least ways take.
     pub fn new(alloc: Global) -> Result<Table, OutOfMemory> {
@@ -55,40 +52,25 @@ impl Table {
 
     /// The least cost of the flight's ways through a row of accesses, nothing where there is no
     /// way. The table is then of the flight.
-    pub fn least_way(&mut self, flight: &Flight, accesses: &[Access], rates: &RateTable) -> Cost
-        requires accesses { length accesses.now ≡ most_nodes }
-        requires ready { IsReady flight.now (row_of accesses.now) rates.now.span
-            (rates_of rates.now) }
-        ensures least { IsLeast (IsWay flight.now (row_of accesses.now) (rates_of rates.now))
-            (whole_cost (rates_of rates.now)) result }
-        ensures cells { AreCells flight.now (row_of accesses.now) (rates_of rates.now) 0 self.new }
+    pub fn least_way(&mut self, ways: Ways<'_>) -> Cost
+        ensures least { IsLeast (IsWayIn ways.entry) (cost_in ways.entry) result }
+        ensures cells { AreCellsIn ways.entry 0 self.new }
     {
-        fill_nodes(flight, accesses, rates, &mut self.row, &mut self.cells);
-        least_cost(flight, accesses, rates, &self.cells)
+        fill_nodes(ways, &mut self.row, &mut self.cells);
+        least_cost(ways, &self.cells)
     }
 
     /// Puts the stops of the first of the least ways into a vector that has room for them, where
     /// there is one. The table is of the flight.
-    pub fn trace(
-        &self,
-        flight: &Flight,
-        accesses: &[Access],
-        rates: &RateTable,
-        least: Cost,
-        stops: &mut Vec<Stop>,
-    )
-        requires accesses { length accesses.now ≡ most_nodes }
-        requires ready { IsReady flight.now (row_of accesses.now) rates.now.span
-            (rates_of rates.now) }
-        requires cells { AreCells flight.now (row_of accesses.now) (rates_of rates.now) 0 self.now }
-        requires least { IsLeast (IsWay flight.now (row_of accesses.now) (rates_of rates.now))
-            (whole_cost (rates_of rates.now)) least }
+    pub fn trace(&self, ways: Ways<'_>, least: Cost, stops: &mut Vec<Stop>)
+        requires cells { AreCellsIn ways 0 self.now }
+        requires least { IsLeast (IsWayIn ways) (cost_in ways) least }
         requires some { IsSome least }
         requires room { most_nodes ≤ vec_capacity stops.old }
-        ensures first { IsFirstLeast (IsWay flight.now (row_of accesses.now) (rates_of rates.now))
-            (whole_cost (rates_of rates.now)) IsNoLater stops.new.items }
+        ensures first { IsFirstLeast (IsWayIn ways.entry) (cost_in ways.entry) IsNoLater
+            stops.new.items }
         ensures room { most_nodes ≤ vec_capacity stops.new }
     {
-        trace(flight, accesses, rates, &self.cells, least, stops);
+        trace(ways, &self.cells, least, stops);
     }
 }

@@ -7,19 +7,19 @@ ghost use Rattle.time_windows.specs.Boxes.{IsInWindow};
 ghost use Rattle.flight_routes.specs.Entries.{cell_at, cell_in};
 ghost use Rattle.flight_routes.specs.Firsts.{IsFirst, IsFirstAt, IsFirstTime, IsEntryAt, IsFirstTimeAt, IsKeptMove, IsKeptStart, IsNext, IsNextBy, earlier, key_of};
 ghost use Rattle.flight_routes.specs.RateLists.{paid_in, rates_of};
-ghost use Rattle.flight_routes.specs.Rates.{IsWay, whole_cost};
 ghost use Rattle.exact_sums.specs.Near.{IsNear};
-ghost use Rattle.flight_routes.specs.Ready.{AreRates, AreWindows, IsReady, row_of};
 ghost use Rattle.flight_routes.specs.TripOrder.{IsNoLater};
-ghost use Rattle.flight_routes.specs.Ways.{AreCells, IsLimit};
+ghost use Rattle.flight_routes.specs.WayParts.{AreCellsIn, IsWayIn, cost_in, rates_in, row_in};
+ghost use Rattle.flight_routes.specs.Ways.{IsLimit};
 
 use crate::accesses::{limit_of, window_at};
 use crate::cost::Cost;
 use crate::rates::{RateTable, part_of};
 use crate::relax::{cell_at, entry_at};
 use crate::starts::start_of;
-use flow_types::{Flight, Leg, Stop};
-use time_windows::{Access, Window};
+use crate::ways::Ways;
+use flow_types::{Leg, Stop};
+use time_windows::Window;
 
 // The place of the stop among all.
 fn key_of(stop: Stop) -> u32
@@ -96,28 +96,22 @@ fn first_entry(
 
 // The first stop to go on to by the leg, if that keeps the cost.
 fn first_by(
-    rates: &RateTable,
-    accesses: &[Access],
+    ways: Ways<'_>,
     cells: &[Cost],
-    nodes: u16,
     stop: Stop,
     limit: u16,
     leg: Leg,
     value: Cost,
 ) -> Option<Stop>
-    requires accesses { length accesses.now ≡ most_nodes }
     requires cells { length cells.now ≡ most_nodes * most_periods }
-    requires nodes { nodes ≤ most_nodes }
-    requires leg { IsLeg nodes leg }
+    requires leg { IsLeg (length ways.flight.now.nodes) leg }
     requires time { stop.time < most_periods }
-    requires limit { IsLimit (row_of accesses.now) nodes stop.node limit }
-    requires day { AreRates rates.now.span (rates_of rates.now) }
-    requires windows { AreWindows rates.now.span (row_of accesses.now) }
-    requires costs { (n u : ℕ) → n < nodes → IsInWindow (row_of accesses.now n).window u
-        → IfSome (cell_at cells.now n u) (IsNear (2 ^ 111)) }
+    requires limit { IsLimit (row_in ways) (length ways.flight.now.nodes) stop.node limit }
+    requires costs { (n u : ℕ) → n < length ways.flight.now.nodes
+        → IsInWindow (row_in ways n).window u → IfSome (cell_at cells.now n u) (IsNear (2 ^ 111)) }
     requires some { IsSome value }
     requires value { IfSome value (IsNear (2 ^ 111)) }
-    ensures { IsFirst (IsNextBy leg (row_of accesses.now) (rates_of rates.now) cells.now stop value)
+    ensures { IsFirst (IsNextBy leg (row_in ways.entry) (rates_in ways.entry) cells.now stop value)
         result }
 {
     if leg.from != stop.node {
@@ -126,44 +120,32 @@ fn first_by(
     if leg.to > limit {
         return None;
     }
-    let Some(next) = window_at(accesses, leg.to) else {
+    let Some(next) = window_at(ways.accesses, leg.to) else {
         return None;
     };
-    match first_entry(rates, cells, leg, next, stop.time, value) {
+    match first_entry(ways.rates, cells, leg, next, stop.time, value) {
         None => None,
         Some(time) => Some(Stop { node: leg.to, time }),
     }
 }
 
 // The first stop to go on to from one that isn't at the last node, of those that keep the cost.
-fn next_stop(
-    flight: &Flight,
-    accesses: &[Access],
-    rates: &RateTable,
-    cells: &[Cost],
-    stop: Stop,
-) -> Stop
-    requires accesses { length accesses.now ≡ most_nodes }
-    requires ready { IsReady flight.now (row_of accesses.now) rates.now.span
-        (rates_of rates.now) }
+fn next_stop(ways: Ways<'_>, cells: &[Cost], stop: Stop) -> Stop
     requires length { length cells.now ≡ most_nodes * most_periods }
-    requires cells { AreCells flight.now (row_of accesses.now) (rates_of rates.now) 0 cells.now }
-    requires node { stop.node + 1 < length flight.now.nodes }
-    requires window { IsInWindow (row_of accesses.now stop.node).window stop.time }
+    requires cells { AreCellsIn ways 0 cells.now }
+    requires node { stop.node + 1 < length ways.flight.now.nodes }
+    requires window { IsInWindow (row_in ways stop.node).window stop.time }
     requires reaches { IsSome (cell_at cells.now stop.node stop.time) }
-    ensures { IsFirstAt (IsNext flight.now (row_of accesses.now) (rates_of rates.now) cells.now stop
-        (cell_at cells.now stop.node stop.time)) result }
+    ensures { IsFirstAt (IsNext ways.entry.flight.now (row_in ways.entry) (rates_in ways.entry)
+        cells.now stop (cell_at cells.now stop.node stop.time)) result }
 {
-    let legs = flight.legs.items();
-    let nodes = flight.nodes.items().len() as u16;
-    let limit = limit_of(accesses, nodes, stop.node);
+    let legs = ways.flight.legs.items();
+    let nodes = ways.flight.nodes.items().len() as u16;
+    let limit = limit_of(ways.accesses, nodes, stop.node);
     let value = cell_at(cells, stop.node, stop.time);
     let mut first = None;
     for at in 0..legs.len() {
-        first = earlier(
-            first,
-            first_by(rates, accesses, cells, nodes, stop, limit, legs[at], value),
-        );
+        first = earlier(first, first_by(ways, cells, stop, limit, legs[at], value));
     }
     match first {
         None => unreachable!(),
@@ -172,26 +154,16 @@ fn next_stop(
 }
 
 // The first period of the window of the first node in which a start has the least cost.
-fn first_start(
-    flight: &Flight,
-    accesses: &[Access],
-    rates: &RateTable,
-    cells: &[Cost],
-    window: Window,
-    least: Cost,
-) -> Option<u16>
-    requires accesses { length accesses.now ≡ most_nodes }
-    requires ready { IsReady flight.now (row_of accesses.now) rates.now.span
-        (rates_of rates.now) }
-    requires window { (row_of accesses.now 0).window ≡ Some window }
+fn first_start(ways: Ways<'_>, cells: &[Cost], window: Window, least: Cost) -> Option<u16>
+    requires window { (row_in ways 0).window ≡ Some window }
     requires length { length cells.now ≡ most_nodes * most_periods }
-    requires cells { AreCells flight.now (row_of accesses.now) (rates_of rates.now) 0 cells.now }
+    requires cells { AreCellsIn ways 0 cells.now }
     requires least { IsSome least }
-    ensures { IsFirstTime (IsKeptStart (row_of accesses.now) (rates_of rates.now) cells.now least)
+    ensures { IsFirstTime (IsKeptStart (row_in ways.entry) (rates_in ways.entry) cells.now least)
         result }
 {
     for time in window.lo..window.hi + 1 {
-        if start_of(rates, cells, time).is_same(least) {
+        if start_of(ways.rates, cells, time).is_same(least) {
             return Some(time);
         }
     }
@@ -199,29 +171,19 @@ fn first_start(
 }
 
 // The first stop of the first of the least ways.
-fn start_stop(
-    flight: &Flight,
-    accesses: &[Access],
-    rates: &RateTable,
-    cells: &[Cost],
-    least: Cost,
-) -> Stop
-    requires accesses { length accesses.now ≡ most_nodes }
-    requires ready { IsReady flight.now (row_of accesses.now) rates.now.span
-        (rates_of rates.now) }
+fn start_stop(ways: Ways<'_>, cells: &[Cost], least: Cost) -> Stop
     requires length { length cells.now ≡ most_nodes * most_periods }
-    requires cells { AreCells flight.now (row_of accesses.now) (rates_of rates.now) 0 cells.now }
-    requires least { IsLeast (IsWay flight.now (row_of accesses.now) (rates_of rates.now))
-        (whole_cost (rates_of rates.now)) least }
+    requires cells { AreCellsIn ways 0 cells.now }
+    requires least { IsLeast (IsWayIn ways) (cost_in ways) least }
     requires some { IsSome least }
     ensures node { result.node ≡ 0 }
-    ensures first { IsFirstTimeAt (IsKeptStart (row_of accesses.now) (rates_of rates.now) cells.now
+    ensures first { IsFirstTimeAt (IsKeptStart (row_in ways.entry) (rates_in ways.entry) cells.now
         least) result.time }
 {
-    let Some(window) = window_at(accesses, 0) else {
+    let Some(window) = window_at(ways.accesses, 0) else {
         unreachable!()
     };
-    match first_start(flight, accesses, rates, cells, window, least) {
+    match first_start(ways, cells, window, least) {
         None => unreachable!(),
         Some(time) => Stop { node: 0, time },
     }
@@ -229,33 +191,22 @@ fn start_stop(
 
 /// Puts the stops of the first of the least ways, by the cells of a table, into a vector that has
 /// room for them.
-pub fn trace(
-    flight: &Flight,
-    accesses: &[Access],
-    rates: &RateTable,
-    cells: &[Cost],
-    least: Cost,
-    stops: &mut Vec<Stop>,
-)
-    requires accesses { length accesses.now ≡ most_nodes }
-    requires ready { IsReady flight.now (row_of accesses.now) rates.now.span
-        (rates_of rates.now) }
+pub fn trace(ways: Ways<'_>, cells: &[Cost], least: Cost, stops: &mut Vec<Stop>)
     requires length { length cells.now ≡ most_nodes * most_periods }
-    requires cells { AreCells flight.now (row_of accesses.now) (rates_of rates.now) 0 cells.now }
-    requires least { IsLeast (IsWay flight.now (row_of accesses.now) (rates_of rates.now))
-        (whole_cost (rates_of rates.now)) least }
+    requires cells { AreCellsIn ways 0 cells.now }
+    requires least { IsLeast (IsWayIn ways) (cost_in ways) least }
     requires some { IsSome least }
     requires room { most_nodes ≤ vec_capacity stops.old }
-    ensures first { IsFirstLeast (IsWay flight.now (row_of accesses.now) (rates_of rates.now))
-        (whole_cost (rates_of rates.now)) IsNoLater stops.new.items }
+    ensures first { IsFirstLeast (IsWayIn ways.entry) (cost_in ways.entry) IsNoLater
+        stops.new.items }
     ensures room { most_nodes ≤ vec_capacity stops.new }
 {
-    let nodes = flight.nodes.items().len();
-    let mut stop = start_stop(flight, accesses, rates, cells, least);
+    let nodes = ways.flight.nodes.items().len();
+    let mut stop = start_stop(ways, cells, least);
     stops.clear();
     stops.push_reserved(stop);
     while usize::from(stop.node) + 1 < nodes {
-        stop = next_stop(flight, accesses, rates, cells, stop);
+        stop = next_stop(ways, cells, stop);
         stops.push_reserved(stop);
     }
 }

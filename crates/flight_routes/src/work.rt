@@ -2,30 +2,32 @@
 ghost use Rattle.std.specs.Prelude.{◌≡◌, ◌≤◌, ◌<◌, ℕ, IfOk, MatchOption, [], length, vec_capacity, vec_len};
 ghost use Rattle.exact_sums.specs.Leasts.{IsFirstLeast, IsLeast};
 ghost use Rattle.flow_types.specs.Limits.{most_nodes, most_periods};
-ghost use Rattle.flow_types.specs.Scenario.{parts_of};
 ghost use Rattle.time_windows.specs.Boxes.{IsProper};
-ghost use Rattle.time_windows.specs.Held.{IsMadeFor, box_of};
-ghost use Rattle.flight_routes.specs.RateLists.{rates_of};
-ghost use Rattle.flight_routes.specs.Rates.{IsWay, whole_cost};
-ghost use Rattle.flight_routes.specs.Ready.{AreRising, AreWindows, IsReady, row_of};
+ghost use Rattle.time_windows.specs.Held.{box_of};
+ghost use Rattle.time_windows.specs.Subproblems.{box_in, parts_in};
+ghost use Rattle.flight_routes.specs.Ready.{AreWindows, row_of};
 ghost use Rattle.flight_routes.specs.TripOrder.{IsNoLater};
+ghost use Rattle.flight_routes.specs.WayParts.{AreRisingIn, IsWayIn, cost_in};
 
 use crate::accesses::span_of;
 use crate::cost::Cost;
 use crate::distances::distances_of;
 use crate::early::{about_first_end, early_way, last_end};
 use crate::fit_rates::set_fit_rates;
+use crate::loaded_flight::LoadedFlight;
 use crate::price_rates::set_price_rates;
 use crate::priced_fit_rates::close_end_in;
+use crate::priced_flight::PricedFlight;
 use crate::prices::Prices;
 use crate::rates::RateTable;
 use crate::table::Table;
 use crate::time_costs::last_of;
-use flow_types::{Flight, MOST_NODES, OutOfMemory, Scenario, Stop};
+use crate::ways::Ways;
+use flow_types::{MOST_NODES, OutOfMemory, Scenario, Stop};
 use plan_rules::Loads;
 use std::alloc::Global;
 use std::marker::Model;
-use time_windows::{Access, Boxes, End, Window};
+use time_windows::{Access, Boxes, End, Subproblem, Window};
 
 /// The room in which least trips are found, made once for a scenario: 0.9 MB. Contracts see it as
 /// the stops of the last least trip and the periods of the scenario.
@@ -84,7 +86,7 @@ impl Work {
     ghost use Rattle.flow_types.specs.Scenario.{flight_at, parts_of};
     ghost use Rattle.plan_rules.specs.Loads.{AreLoads, IsMadeFor as AreLoadsFor};
     ghost use Rattle.time_windows.specs.Boxes.{IsProper};
-    ghost use Rattle.time_windows.specs.Held.{IsMadeFor, box_of};
+    ghost use Rattle.time_windows.specs.Subproblems.{box_in, parts_in};
     ghost use Rattle.flight_routes.specs.Fits.{IsTripThatFits};
     ghost use Rattle.flight_routes.specs.Inside.{IsTripIn};
     ghost use Rattle.flight_routes.specs.Prices.{ArePricesOf, priced_cost};
@@ -118,46 +120,41 @@ impl Work {
     /// later entries kept along each leg (the least path in a network of nodes and times).
     pub fn least_trip(
         &mut self,
-        s: &Scenario,
-        boxes: &Boxes,
+        problem: Subproblem<'_>,
         flight: u32,
         weight: u64,
         prices: &Prices,
     ) -> Option<i128>
-        requires made { IsWorkFor (parts_of s.now) self.old }
-        requires boxes { IsMadeFor (parts_of s.now) boxes.now }
-        requires flight { flight < length (parts_of s.now).flights }
+        requires made { IsWorkFor (parts_in problem) self.old }
+        requires flight { flight < length (parts_in problem).flights }
         requires weight { weight < 2 ^ 62 }
-        requires prices { ArePricesOf (parts_of s.now) prices.now }
-        ensures least { IsLeast (IsTripIn (parts_of s.now) (box_of boxes.now) flight)
-            (priced_cost weight prices.now (parts_of s.now) flight) result }
+        requires prices { ArePricesOf (parts_in problem) prices.now }
+        ensures least { IsLeast (IsTripIn (parts_in problem.entry) (box_in problem.entry) flight)
+            (priced_cost weight prices.now (parts_in problem.entry) flight) result }
         ensures first { MatchOption result (self.new.trip ≡ []) (λ least.
-            IsFirstLeast (IsTripIn (parts_of s.now) (box_of boxes.now) flight)
-            (priced_cost weight prices.now (parts_of s.now) flight) IsNoLater self.new.trip) }
-        ensures made { IsWorkFor (parts_of s.now) self.new }
+            IsFirstLeast (IsTripIn (parts_in problem.entry) (box_in problem.entry) flight)
+            (priced_cost weight prices.now (parts_in problem.entry) flight) IsNoLater
+            self.new.trip) }
+        ensures made { IsWorkFor (parts_in problem.entry) self.new }
     {
-        let span = take_row(&mut self.accesses, s, boxes, flight);
+        let Subproblem { s, boxes } = problem;
+        let span = take_row(&mut self.accesses, problem, flight);
         let row: &[Access] = &self.accesses;
         self.priced.begin(span);
-        set_price_rates(
-            &mut self.priced,
-            &mut self.sums,
+        let priced = PricedFlight {
             s,
-            row,
             flight,
-            weight,
+            turns: boxes.turns(),
             prices,
-            boxes.turns(),
-        );
-        least_way(
-            &mut self.table,
-            &s.flights()[flight as usize],
-            row,
-            &mut self.cut,
-            &self.priced,
-            &mut self.stops,
-        )
-        .get()
+            weight,
+        };
+        set_price_rates(&mut self.priced, &mut self.sums, priced, row);
+        let ways = Ways {
+            flight: &s.flights()[flight as usize],
+            accesses: row,
+            rates: &self.priced,
+        };
+        least_way(&mut self.table, ways, &mut self.cut, &mut self.stops).get()
     }
 
     /// The least cost of the trips of the flight in the box that fit beside the trips that the
@@ -165,40 +162,40 @@ impl Work {
     /// there is no such trip. A trip of its own that the loads count takes room like any other. The
     /// flight, the box and the loads are of the scenario that the work was made for. It takes no
     /// memory, and time as `least_trip`.
-    pub fn least_fit(
-        &mut self,
-        s: &Scenario,
-        boxes: &Boxes,
-        flight: u32,
-        loads: &Loads,
-    ) -> Option<i128>
-        requires made { IsWorkFor (parts_of s.now) self.old }
-        requires boxes { IsMadeFor (parts_of s.now) boxes.now }
-        requires flight { flight < length (parts_of s.now).flights }
-        requires loads { AreLoadsFor (parts_of s.now) loads.now }
-        ensures least { (trips : List (List Stop)) → AreLoads (parts_of s.now) trips loads.now
-            → IsLeast (IsTripThatFits (parts_of s.now) (box_of boxes.now) trips flight)
-            (trip_cost_at (parts_of s.now).tables (flight_at s.now flight)) result }
-        ensures first { (trips : List (List Stop)) → AreLoads (parts_of s.now) trips loads.now
-            → MatchOption result (self.new.trip ≡ []) (λ least.
-            IsFirstLeast (IsTripThatFits (parts_of s.now) (box_of boxes.now) trips flight)
-            (trip_cost_at (parts_of s.now).tables (flight_at s.now flight)) IsNoLater
-            self.new.trip) }
-        ensures made { IsWorkFor (parts_of s.now) self.new }
+    pub fn least_fit(&mut self, problem: Subproblem<'_>, flight: u32, loads: &Loads) -> Option<i128>
+        requires made { IsWorkFor (parts_in problem) self.old }
+        requires flight { flight < length (parts_in problem).flights }
+        requires loads { AreLoadsFor (parts_in problem) loads.now }
+        ensures least { (trips : List (List Stop))
+            → AreLoads (parts_in problem.entry) trips loads.now
+            → IsLeast (IsTripThatFits (parts_in problem.entry) (box_in problem.entry) trips flight)
+            (trip_cost_at (parts_in problem.entry).tables (flight_at problem.entry.s.now flight))
+            result }
+        ensures first { (trips : List (List Stop))
+            → AreLoads (parts_in problem.entry) trips loads.now
+            → MatchOption result (self.new.trip ≡ []) (λ least. IsFirstLeast
+            (IsTripThatFits (parts_in problem.entry) (box_in problem.entry) trips flight)
+            (trip_cost_at (parts_in problem.entry).tables (flight_at problem.entry.s.now flight))
+            IsNoLater self.new.trip) }
+        ensures made { IsWorkFor (parts_in problem.entry) self.new }
     {
-        let span = take_row(&mut self.accesses, s, boxes, flight);
+        let Subproblem { s, boxes } = problem;
+        let span = take_row(&mut self.accesses, problem, flight);
         let row: &[Access] = &self.accesses;
         self.fitting.begin(span);
-        set_fit_rates(&mut self.fitting, s, row, flight, loads, boxes.turns());
-        least_way(
-            &mut self.table,
-            &s.flights()[flight as usize],
-            row,
-            &mut self.cut,
-            &self.fitting,
-            &mut self.stops,
-        )
-        .get()
+        let loaded = LoadedFlight {
+            s,
+            flight,
+            turns: boxes.turns(),
+            loads,
+        };
+        set_fit_rates(&mut self.fitting, loaded, row);
+        let ways = Ways {
+            flight: &s.flights()[flight as usize],
+            accesses: row,
+            rates: &self.fitting,
+        };
+        least_way(&mut self.table, ways, &mut self.cut, &mut self.stops).get()
     }
 
     /// The least of weight times cost plus prices over the trips of the flight in the box that fit
@@ -208,62 +205,62 @@ impl Work {
     /// calls set their rates and one of them finds its least.
     pub fn least_priced_fit(
         &mut self,
-        s: &Scenario,
-        boxes: &Boxes,
+        problem: Subproblem<'_>,
         flight: u32,
         weight: u64,
         prices: &Prices,
         loads: &Loads,
     ) -> Option<i128>
-        requires made { IsWorkFor (parts_of s.now) self.old }
-        requires boxes { IsMadeFor (parts_of s.now) boxes.now }
-        requires flight { flight < length (parts_of s.now).flights }
+        requires made { IsWorkFor (parts_in problem) self.old }
+        requires flight { flight < length (parts_in problem).flights }
         requires weight { weight < 2 ^ 62 }
-        requires prices { ArePricesOf (parts_of s.now) prices.now }
-        requires loads { AreLoadsFor (parts_of s.now) loads.now }
-        ensures least { (trips : List (List Stop)) → AreLoads (parts_of s.now) trips loads.now
-            → IsLeast (IsTripThatFits (parts_of s.now) (box_of boxes.now) trips flight)
-            (priced_cost weight prices.now (parts_of s.now) flight) result }
-        ensures first { (trips : List (List Stop)) → AreLoads (parts_of s.now) trips loads.now
-            → MatchOption result (self.new.trip ≡ []) (λ least.
-            IsFirstLeast (IsTripThatFits (parts_of s.now) (box_of boxes.now) trips flight)
-            (priced_cost weight prices.now (parts_of s.now) flight) IsNoLater self.new.trip) }
-        ensures made { IsWorkFor (parts_of s.now) self.new }
+        requires prices { ArePricesOf (parts_in problem) prices.now }
+        requires loads { AreLoadsFor (parts_in problem) loads.now }
+        ensures least { (trips : List (List Stop))
+            → AreLoads (parts_in problem.entry) trips loads.now
+            → IsLeast (IsTripThatFits (parts_in problem.entry) (box_in problem.entry) trips flight)
+            (priced_cost weight prices.now (parts_in problem.entry) flight) result }
+        ensures first { (trips : List (List Stop))
+            → AreLoads (parts_in problem.entry) trips loads.now
+            → MatchOption result (self.new.trip ≡ []) (λ least. IsFirstLeast
+            (IsTripThatFits (parts_in problem.entry) (box_in problem.entry) trips flight)
+            (priced_cost weight prices.now (parts_in problem.entry) flight) IsNoLater
+            self.new.trip) }
+        ensures made { IsWorkFor (parts_in problem.entry) self.new }
     {
-        let span = take_row(&mut self.accesses, s, boxes, flight);
+        let Subproblem { s, boxes } = problem;
+        let span = take_row(&mut self.accesses, problem, flight);
         let row: &[Access] = &self.accesses;
         self.priced.begin(span);
         self.fitting.begin(span);
-        set_price_rates(
-            &mut self.priced,
-            &mut self.sums,
+        let turns = boxes.turns();
+        let priced = PricedFlight {
             s,
-            row,
             flight,
-            weight,
+            turns,
             prices,
-            boxes.turns(),
-        );
-        set_fit_rates(&mut self.fitting, s, row, flight, loads, boxes.turns());
+            weight,
+        };
+        set_price_rates(&mut self.priced, &mut self.sums, priced, row);
+        let loaded = LoadedFlight {
+            s,
+            flight,
+            turns,
+            loads,
+        };
+        set_fit_rates(&mut self.fitting, loaded, row);
         let details = &s.flights()[flight as usize];
+        let last = last_of(details);
         close_end_in(&mut self.priced, &self.fitting, End::Departure, row, 0);
-        close_end_in(
-            &mut self.priced,
-            &self.fitting,
-            End::Arrival,
-            row,
-            last_of(details),
-        );
+        close_end_in(&mut self.priced, &self.fitting, End::Arrival, row, last);
         // A stay is as long as it fits while the least is looked for.
         self.priced.exchange_clear(&mut self.fitting);
-        let least = least_way(
-            &mut self.table,
-            details,
-            row,
-            &mut self.cut,
-            &self.priced,
-            &mut self.stops,
-        );
+        let ways = Ways {
+            flight: details,
+            accesses: row,
+            rates: &self.priced,
+        };
+        let least = least_way(&mut self.table, ways, &mut self.cut, &mut self.stops);
         self.priced.exchange_clear(&mut self.fitting);
         least.get()
     }
@@ -309,42 +306,30 @@ fn copy_row(accesses: &mut [Access], boxes: &Boxes, flight: u32)
 
 // Puts what the box says of each node of the flight into a row, and tells the periods from the
 // first to the last in which one is open.
-fn take_row(accesses: &mut [Access], s: &Scenario, boxes: &Boxes, flight: u32) -> Window
+fn take_row(accesses: &mut [Access], problem: Subproblem<'_>, flight: u32) -> Window
     requires accesses { length accesses.old ≡ most_nodes }
-    requires boxes { IsMadeFor (parts_of s.now) boxes.now }
-    requires flight { flight < length (parts_of s.now).flights }
+    requires flight { flight < length (parts_in problem).flights }
     ensures length { length accesses.new ≡ most_nodes }
-    ensures row { (n : ℕ) → row_of accesses.new n ≡ box_of boxes.now flight n }
+    ensures row { (n : ℕ) → row_of accesses.new n ≡ box_in problem.entry flight n }
     ensures windows { AreWindows result (row_of accesses.new) }
-    ensures day { result.hi < (parts_of s.now).day.periods }
+    ensures day { result.hi < (parts_in problem.entry).day.periods }
 {
-    copy_row(accesses, boxes, flight);
-    span_of(accesses, s.day().periods)
+    copy_row(accesses, problem.boxes, flight);
+    span_of(accesses, problem.s.day().periods)
 }
 
 // The least of all ways of the flight, and the first of those that reach it: no stops where there
 // is none.
-fn whole_way(
-    table: &mut Table,
-    flight: &Flight,
-    accesses: &[Access],
-    rates: &RateTable,
-    stops: &mut Vec<Stop>,
-) -> Cost
-    requires accesses { length accesses.now ≡ most_nodes }
-    requires ready { IsReady flight.now (row_of accesses.now) rates.now.span
-        (rates_of rates.now) }
+fn whole_way(table: &mut Table, ways: Ways<'_>, stops: &mut Vec<Stop>) -> Cost
     requires room { most_nodes ≤ vec_capacity stops.old }
-    ensures least { IsLeast (IsWay flight.now (row_of accesses.now) (rates_of rates.now))
-        (whole_cost (rates_of rates.now)) result }
+    ensures least { IsLeast (IsWayIn ways.entry) (cost_in ways.entry) result }
     ensures first { MatchOption result (stops.new.items ≡ []) (λ least.
-        IsFirstLeast (IsWay flight.now (row_of accesses.now) (rates_of rates.now))
-        (whole_cost (rates_of rates.now)) IsNoLater stops.new.items) }
+        IsFirstLeast (IsWayIn ways.entry) (cost_in ways.entry) IsNoLater stops.new.items) }
     ensures room { most_nodes ≤ vec_capacity stops.new }
 {
-    let least = table.least_way(flight, accesses, rates);
+    let least = table.least_way(ways);
     if least.is_some() {
-        table.trace(flight, accesses, rates, least, stops);
+        table.trace(ways, least, stops);
     } else {
         stops.clear();
     }
@@ -353,42 +338,27 @@ fn whole_way(
 
 // The least way, and its stops. Where ways may end late, it looks among those that end early first:
 // while a later one may cost as little, among those that have twice as many periods.
-fn least_way(
-    table: &mut Table,
-    flight: &Flight,
-    accesses: &[Access],
-    cut: &mut [Access],
-    rates: &RateTable,
-    stops: &mut Vec<Stop>,
-) -> Cost
-    requires accesses { length accesses.now ≡ most_nodes }
+fn least_way(table: &mut Table, ways: Ways<'_>, cut: &mut [Access], stops: &mut Vec<Stop>) -> Cost
     requires cut { length cut.old ≡ most_nodes }
-    requires ready { IsReady flight.now (row_of accesses.now) rates.now.span
-        (rates_of rates.now) }
-    requires rising { AreRising flight.now rates.now.span (rates_of rates.now) }
+    requires rising { AreRisingIn ways }
     requires room { most_nodes ≤ vec_capacity stops.old }
-    ensures least { IsLeast (IsWay flight.now (row_of accesses.now) (rates_of rates.now))
-        (whole_cost (rates_of rates.now)) result }
+    ensures least { IsLeast (IsWayIn ways.entry) (cost_in ways.entry) result }
     ensures first { MatchOption result (stops.new.items ≡ []) (λ least.
-        IsFirstLeast (IsWay flight.now (row_of accesses.now) (rates_of rates.now))
-        (whole_cost (rates_of rates.now)) IsNoLater stops.new.items) }
+        IsFirstLeast (IsWayIn ways.entry) (cost_in ways.entry) IsNoLater stops.new.items) }
     ensures room { most_nodes ≤ vec_capacity stops.new }
     ensures length { length cut.new ≡ most_nodes }
 {
-    let last = (flight.nodes.items().len() - 1) as u16;
-    let distances = distances_of(flight);
-    let first = about_first_end(accesses, rates, last);
-    let end = last_end(accesses, rates, last);
+    let distances = distances_of(ways.flight);
+    let first = about_first_end(ways);
+    let end = last_end(ways);
     let mut width = 32u32;
     while first + width < end {
         let cap = (first + width) as u16;
-        let early = early_way(
-            table, flight, accesses, cut, rates, &distances, last, cap, stops,
-        );
+        let early = early_way(table, ways, cut, &distances, cap, stops);
         if early.is_some() {
             return early;
         }
         width *= 2;
     }
-    whole_way(table, flight, accesses, rates, stops)
+    whole_way(table, ways, stops)
 }

@@ -7,6 +7,7 @@ ghost use Rattle.flight_routes.specs.Prices.{AreFree, ArePricesOf};
 ghost use Rattle.flight_routes.specs.Work.{IsWorkFor};
 ghost use Rattle.time_windows.specs.Boxes.{Box};
 ghost use Rattle.time_windows.specs.Held.{IsMadeFor, box_of};
+ghost use Rattle.time_windows.specs.Subproblems.{box_in, parts_in};
 ghost use Rattle.flow_types.specs.Bounds.{IsLowerBound};
 ghost use Rattle.time_windows.specs.Plans.{AreTripsIn};
 ghost use Rattle.greedy_plan.specs.FirstBound.{IsFirstBound};
@@ -15,7 +16,7 @@ use exact_sums::plus;
 use flight_routes::{Prices, Work};
 use flow_types::{Bound, OutOfMemory, Scenario};
 use std::alloc::Global;
-use time_windows::Boxes;
+use time_windows::{Boxes, Subproblem};
 
 /// A bound on the cost of the plans in the box: the sum over the flights of the least cost of a
 /// trip in it, as if each flight were alone; that no plan exists, where a flight has no trip there.
@@ -28,20 +29,19 @@ pub fn first_bound(alloc: Global, s: &Scenario, boxes: &Boxes) -> Result<Bound, 
 {
     let prices = Prices::new(alloc, s)?;
     let mut work = Work::new(alloc, s)?;
-    Ok(bound_of(s, boxes, &mut work, &prices))
+    Ok(bound_of(Subproblem { s, boxes }, &mut work, &prices))
 }
 
 // The bound, by least trips at no price.
-fn bound_of(s: &Scenario, boxes: &Boxes, work: &mut Work, prices: &Prices) -> Bound
-    requires boxes { IsMadeFor (parts_of s.now) boxes.now }
-    requires work { IsWorkFor (parts_of s.now) work.old }
-    requires prices { ArePricesOf (parts_of s.now) prices.now }
+fn bound_of(problem: Subproblem<'_>, work: &mut Work, prices: &Prices) -> Bound
+    requires work { IsWorkFor (parts_in problem) work.old }
+    requires prices { ArePricesOf (parts_in problem) prices.now }
     requires free { AreFree prices.now }
-    ensures { IsFirstBound (parts_of s.now) (box_of boxes.now) result }
+    ensures { IsFirstBound (parts_in problem.entry) (box_in problem.entry) result }
 {
     let mut sum = Some(0);
-    for number in 0..s.flights().len() {
-        sum = plus(sum, work.least_trip(s, boxes, number as u32, 1, prices));
+    for number in 0..problem.s.flights().len() {
+        sum = plus(sum, work.least_trip(problem, number as u32, 1, prices));
     }
     Bound::of(sum)
 }

@@ -7,6 +7,7 @@ ghost use Rattle.flow_types.specs.Scenario.{parts_of};
 ghost use Rattle.flight_routes.specs.Work.{IsWorkFor};
 ghost use Rattle.plan_rules.specs.Loads.{AreLoads, IsMadeFor as AreLoadsFor, no_trips};
 ghost use Rattle.time_windows.specs.Held.{IsMadeFor, box_of};
+ghost use Rattle.time_windows.specs.Subproblems.{box_in, parts_in};
 ghost use Rattle.greedy_plan.specs.Greedy.{IfPlanned, IsGreedyAnswer, IsOneMore, with_rest};
 
 use flight_routes::Work;
@@ -14,7 +15,7 @@ use flow_types::{OutOfMemory, Plan, Scenario, Trip};
 use plan_rules::Loads;
 use std::alloc::Global;
 use std::marker::Model;
-use time_windows::Boxes;
+use time_windows::{Boxes, Subproblem};
 
 /// How far the greedy plan comes.
 #[derive(Debug, Drop)]
@@ -90,7 +91,8 @@ impl PlanWork {
         ensures made { IsPlanRoomFor (parts_of s.now) self.new }
     {
         self.loads.clear();
-        choose_trips(alloc, s, boxes, &mut self.work, &mut self.loads)
+        let problem = Subproblem { s, boxes };
+        choose_trips(alloc, problem, &mut self.work, &mut self.loads)
     }
 }
 
@@ -110,23 +112,22 @@ pub fn first_plan(alloc: Global, s: &Scenario, boxes: &Boxes) -> Result<Greedy, 
 // Chooses a trip for each flight, as far as there is one that fits.
 fn choose_trips(
     alloc: Global,
-    s: &Scenario,
-    boxes: &Boxes,
+    problem: Subproblem<'_>,
     work: &mut Work,
     loads: &mut Loads,
 ) -> Result<Greedy, OutOfMemory>
-    requires boxes { IsMadeFor (parts_of s.now) boxes.now }
-    requires work { IsWorkFor (parts_of s.now) work.old }
-    requires loads { AreLoads (parts_of s.now) (no_trips (parts_of s.now)) loads.old }
-    ensures greedy { IfOk result (IsGreedyAnswer (parts_of s.now) (box_of boxes.now)) }
-    ensures feasible { IfOk result (λ greedy. IfPlanned greedy (IsFeasible (parts_of s.now))) }
-    ensures work { IsWorkFor (parts_of s.now) work.new }
-    ensures made { AreLoadsFor (parts_of s.now) loads.new }
+    requires work { IsWorkFor (parts_in problem) work.old }
+    requires loads { AreLoads (parts_in problem) (no_trips (parts_in problem)) loads.old }
+    ensures greedy { IfOk result (IsGreedyAnswer (parts_in problem.entry) (box_in problem.entry)) }
+    ensures feasible { IfOk result
+        (λ greedy. IfPlanned greedy (IsFeasible (parts_in problem.entry))) }
+    ensures work { IsWorkFor (parts_in problem.entry) work.new }
+    ensures made { AreLoadsFor (parts_in problem.entry) loads.new }
 {
     let mut plan = Plan::empty(alloc);
-    for number in 0..s.flights().len() {
+    for number in 0..problem.s.flights().len() {
         let flight = number as u32;
-        if !choose_trip(alloc, s, boxes, flight, work, loads, &mut plan)? {
+        if !choose_trip(alloc, problem, flight, work, loads, &mut plan)? {
             return Ok(Greedy::Stuck { kept: plan, flight });
         }
     }
@@ -136,31 +137,30 @@ fn choose_trips(
 // Chooses a trip for the next flight, and tells whether one fits.
 fn choose_trip(
     alloc: Global,
-    s: &Scenario,
-    boxes: &Boxes,
+    problem: Subproblem<'_>,
     flight: u32,
     work: &mut Work,
     loads: &mut Loads,
     plan: &mut Plan,
 ) -> Result<bool, OutOfMemory>
-    requires boxes { IsMadeFor (parts_of s.now) boxes.now }
-    requires work { IsWorkFor (parts_of s.now) work.old }
-    requires loads { AreLoads (parts_of s.now) (with_rest (parts_of s.now).flights plan.old)
+    requires work { IsWorkFor (parts_in problem) work.old }
+    requires loads { AreLoads (parts_in problem) (with_rest (parts_in problem).flights plan.old)
         loads.old }
-    requires flight { flight < length (parts_of s.now).flights }
+    requires flight { flight < length (parts_in problem).flights }
     requires next { length plan.old ≡ flight }
     ensures added { result ≡ Ok true
-        → IsOneMore (parts_of s.now) (box_of boxes.now) plan.old plan.new loads.new }
+        → IsOneMore (parts_in problem.entry) (box_in problem.entry) plan.old plan.new loads.new }
     ensures stuck { result ≡ Ok false → plan.new ≡ plan.old }
-    ensures none { result ≡ Ok false → (stops : List Stop) → IsTripThatFits (parts_of s.now)
-        (box_of boxes.now) (with_rest (parts_of s.now).flights plan.old) flight stops → ⊥ }
-    ensures work { IsWorkFor (parts_of s.now) work.new }
-    ensures made { AreLoadsFor (parts_of s.now) loads.new }
+    ensures none { result ≡ Ok false → (stops : List Stop)
+        → IsTripThatFits (parts_in problem.entry) (box_in problem.entry)
+        (with_rest (parts_in problem.entry).flights plan.old) flight stops → ⊥ }
+    ensures work { IsWorkFor (parts_in problem.entry) work.new }
+    ensures made { AreLoadsFor (parts_in problem.entry) loads.new }
 {
-    if work.least_fit(s, boxes, flight, loads).is_none() {
+    if work.least_fit(problem, flight, loads).is_none() {
         return Ok(false);
     }
-    loads.add(s, flight, work.trip());
+    loads.add(problem.s, flight, work.trip());
     plan.add(Trip::from_stops(alloc, work.trip())?)?;
     Ok(true)
 }

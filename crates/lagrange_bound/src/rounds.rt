@@ -5,7 +5,7 @@ ghost use Rattle.flight_routes.specs.Prices.{AreFree, ArePricesOf};
 ghost use Rattle.flight_routes.specs.Work.{IsWorkFor};
 ghost use Rattle.plan_rules.specs.Loads.{IsMadeFor as AreLoadsFor};
 ghost use Rattle.time_windows.specs.Boxes.{Box};
-ghost use Rattle.time_windows.specs.Held.{IsMadeFor, box_of};
+ghost use Rattle.time_windows.specs.Subproblems.{box_in, parts_in};
 ghost use Rattle.flow_types.specs.Bounds.{IsNearBound};
 ghost use Rattle.lagrange_bound.specs.Best.{HasPlanAt};
 ghost use Rattle.lagrange_bound.specs.Rounds.{IsRoundStep, IsTableBound};
@@ -22,7 +22,7 @@ use plan_rules::Loads;
 use priced_plans::{priced_bounds_are_bounds, told_by};
 use std::alloc::Global;
 use std::marker::Model;
-use time_windows::Boxes;
+use time_windows::{Boxes, Subproblem};
 
 // From the next round on prices stay as they are: the step is 0.
 const LAST_ROUND: u32 = 1024;
@@ -31,18 +31,23 @@ const LAST_ROUND: u32 = 1024;
 /// a `RoundRoom`.
 #[derive(Debug)]
 pub struct Rounds {
-    prices: Prices,
-    best: Prices,
+    tables: PriceTables,
     work: Work,
     loads: Loads,
+}
+
+// The prices of the last round, and the best ones.
+#[derive(Debug, Drop)]
+struct PriceTables {
+    present: Prices,
+    best: Prices,
 }
 
 // Written out, so that proofs see one call where a room is let go of.
 impl Drop for Rounds {
     fn drop(self) {
         let Rounds {
-            prices: _,
-            best: _,
+            tables: _,
             work: _,
             loads: _,
         } = self;
@@ -55,8 +60,8 @@ impl Model for Rounds {
     ghost Value = { RoundRoom };
 
     ghost view = { λ a. record {
-      prices = a.prices;
-      best = a.best;
+      prices = a.tables.present;
+      best = a.tables.best;
       work = a.work;
       loads = a.loads;
     } };
@@ -80,8 +85,10 @@ impl Rounds {
         ensures free { IfOk result (λ rounds. AreFree rounds.best) }
     {
         Ok(Rounds {
-            prices: Prices::new(alloc, s)?,
-            best: Prices::new(alloc, s)?,
+            tables: PriceTables {
+                present: Prices::new(alloc, s)?,
+                best: Prices::new(alloc, s)?,
+            },
             work: Work::new(alloc, s)?,
             loads: Loads::new(alloc, s)?,
         })
@@ -112,14 +119,12 @@ impl Rounds {
         ensures made { IsRoomFor (parts_of s.now) self.new }
     {
         priced_bounds_are_bounds();
-        self.prices.clear();
+        self.tables.present.clear();
         play_rounds(
-            s,
-            boxes,
+            Subproblem { s, boxes },
             rounds,
             enough,
-            &mut self.prices,
-            &mut self.best,
+            &mut self.tables,
             &mut self.work,
             &mut self.loads,
         )
@@ -129,37 +134,35 @@ impl Rounds {
     pub fn prices(&self) -> &Prices
         ensures { result.now ≡ self.now.best }
     {
-        &self.best
+        &self.tables.best
     }
 }
 
 // Plays the rounds, from prices of 0, as far as they may tell more.
 fn play_rounds(
-    s: &Scenario,
-    boxes: &Boxes,
+    problem: Subproblem<'_>,
     rounds: u32,
     enough: Option<i64>,
-    prices: &mut Prices,
-    best: &mut Prices,
+    tables: &mut PriceTables,
     work: &mut Work,
     loads: &mut Loads,
 ) -> Bound
-    requires boxes { IsMadeFor (parts_of s.now) boxes.now }
-    requires enough { IfSome enough (HasPlanAt (parts_of s.now) (box_of boxes.now)) }
-    requires prices { ArePricesOf (parts_of s.now) prices.old }
-    requires free { AreFree prices.old }
-    requires best { ArePricesOf (parts_of s.now) best.old }
-    requires work { IsWorkFor (parts_of s.now) work.old }
-    requires loads { AreLoadsFor (parts_of s.now) loads.old }
-    ensures kept { IsBest (parts_of s.now) (box_of boxes.now) rounds best.new result }
+    requires enough { IfSome enough (HasPlanAt (parts_in problem) (box_in problem)) }
+    requires prices { ArePricesOf (parts_in problem) tables.old.present }
+    requires free { AreFree tables.old.present }
+    requires best { ArePricesOf (parts_in problem) tables.old.best }
+    requires work { IsWorkFor (parts_in problem) work.old }
+    requires loads { AreLoadsFor (parts_in problem) loads.old }
+    ensures kept { IsBest (parts_in problem.entry) (box_in problem.entry) rounds tables.new.best
+        result }
     ensures near { IsNearBound result }
-    ensures prices { ArePricesOf (parts_of s.now) prices.new }
-    ensures work { IsWorkFor (parts_of s.now) work.new }
-    ensures loads { AreLoadsFor (parts_of s.now) loads.new }
+    ensures prices { ArePricesOf (parts_in problem.entry) tables.new.present }
+    ensures work { IsWorkFor (parts_in problem.entry) work.new }
+    ensures loads { AreLoadsFor (parts_in problem.entry) loads.new }
 {
-    let mut bound = tell(s, boxes, prices, work, loads);
-    best.copy_from(prices);
-    if are_within(s, loads) {
+    let mut bound = tell(problem, &tables.present, work, loads);
+    tables.best.copy_from(&tables.present);
+    if are_within(problem.s, loads) {
         return bound;
     }
     for played in 0..rounds.min(LAST_ROUND) {
@@ -169,41 +172,38 @@ fn play_rounds(
         if bound.is_reached(enough) {
             return bound;
         }
-        bound = play_round(s, boxes, played, bound, prices, best, work, loads);
+        bound = play_round(problem, played, bound, tables, work, loads);
     }
     bound
 }
 
 // One round more, after so many. Keeps its prices if they tell more than those that are kept.
 fn play_round(
-    s: &Scenario,
-    boxes: &Boxes,
+    problem: Subproblem<'_>,
     played: u32,
     bound: Bound,
-    prices: &mut Prices,
-    best: &mut Prices,
+    tables: &mut PriceTables,
     work: &mut Work,
     loads: &mut Loads,
 ) -> Bound
-    requires boxes { IsMadeFor (parts_of s.now) boxes.now }
     requires few { played < most_rounds }
-    requires played { ArePlayed (parts_of s.now) (box_of boxes.now) played prices.old best.old
-        loads.old bound }
-    requires taken { HaveTaken (parts_of s.now) (box_of boxes.now) prices.old
-        (length (parts_of s.now).flights) loads.old }
+    requires played { ArePlayed (parts_in problem) (box_in problem) played tables.old.present
+        tables.old.best loads.old bound }
+    requires taken { HaveTaken (parts_in problem) (box_in problem) tables.old.present
+        (length (parts_in problem).flights) loads.old }
     requires near { IsNearBound bound }
-    requires work { IsWorkFor (parts_of s.now) work.old }
-    requires loads { AreLoadsFor (parts_of s.now) loads.old }
+    requires work { IsWorkFor (parts_in problem) work.old }
+    requires loads { AreLoadsFor (parts_in problem) loads.old }
     ensures near { IsNearBound result }
-    ensures played { ArePlayed (parts_of s.now) (box_of boxes.now) (played + 1) prices.new best.new
-        loads.new result }
-    ensures work { IsWorkFor (parts_of s.now) work.new }
-    ensures loads { AreLoadsFor (parts_of s.now) loads.new }
+    ensures played { ArePlayed (parts_in problem.entry) (box_in problem.entry) (played + 1)
+        tables.new.present tables.new.best loads.new result }
+    ensures work { IsWorkFor (parts_in problem.entry) work.new }
+    ensures loads { AreLoadsFor (parts_in problem.entry) loads.new }
 {
-    move_on(s, loads, played, prices);
-    let told = tell(s, boxes, prices, work, loads);
+    move_on(problem.s, loads, played, &mut tables.present);
+    let told = tell(problem, &tables.present, work, loads);
     if told.is_above(bound) {
-        best.copy_from(prices);
+        tables.best.copy_from(&tables.present);
         told
     } else {
         bound
@@ -226,19 +226,19 @@ fn move_on(s: &Scenario, loads: &Loads, played: u32, prices: &mut Prices)
 }
 
 // What the prices tell. The loads then count the least trips under them.
-fn tell(s: &Scenario, boxes: &Boxes, prices: &Prices, work: &mut Work, loads: &mut Loads) -> Bound
-    requires boxes { IsMadeFor (parts_of s.now) boxes.now }
-    requires prices { ArePricesOf (parts_of s.now) prices.now }
-    requires low { AreLow (parts_of s.now) most_rounds prices.now }
-    requires work { IsWorkFor (parts_of s.now) work.old }
-    requires loads { AreLoadsFor (parts_of s.now) loads.old }
-    ensures told { IsTableBound (parts_of s.now) (box_of boxes.now) prices.now result }
+fn tell(problem: Subproblem<'_>, prices: &Prices, work: &mut Work, loads: &mut Loads) -> Bound
+    requires prices { ArePricesOf (parts_in problem) prices.now }
+    requires low { AreLow (parts_in problem) most_rounds prices.now }
+    requires work { IsWorkFor (parts_in problem) work.old }
+    requires loads { AreLoadsFor (parts_in problem) loads.old }
+    ensures told { IsTableBound (parts_in problem.entry) (box_in problem.entry) prices.now result }
     ensures near { IsNearBound result }
-    ensures taken { AreTakenFor (parts_of s.now) (box_of boxes.now) prices.now loads.new result }
-    ensures work { IsWorkFor (parts_of s.now) work.new }
-    ensures loads { AreLoadsFor (parts_of s.now) loads.new }
+    ensures taken { AreTakenFor (parts_in problem.entry) (box_in problem.entry) prices.now loads.new
+        result }
+    ensures work { IsWorkFor (parts_in problem.entry) work.new }
+    ensures loads { AreLoadsFor (parts_in problem.entry) loads.new }
 {
     loads.clear();
-    let sum = take_trips(s, boxes, prices, work, loads);
-    told_by(value_of(s, prices, sum), COST_WEIGHT)
+    let sum = take_trips(problem, prices, work, loads);
+    told_by(value_of(problem.s, prices, sum), COST_WEIGHT)
 }

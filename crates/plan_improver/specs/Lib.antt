@@ -1,2 +1,3 @@
 pub mod Cheaper
+pub mod Guides
 pub mod Work

@@ -2,6 +2,7 @@
 ghost use Rattle.std.specs.Prelude.{◌≡◌, ◌<◌, ◌^◌, length};
 ghost use Rattle.flow_types.specs.Scenario.{parts_of};
 ghost use Rattle.plan_rules.specs.Loads.{IsMadeFor};
+ghost use Rattle.time_windows.specs.Subproblems.{parts_in};
 
 use crate::draft::Choice;
 use crate::generator::Generator;
@@ -9,7 +10,7 @@ use crate::hotspots::{Hotspot, Times, add_hotspots, meets, span_of, times_of, wi
 use flow_types::{Flight, OutOfMemory, Scenario, Stop};
 use plan_rules::Loads;
 use std::alloc::Global;
-use time_windows::{Boxes, End, Turn};
+use time_windows::{Boxes, End, Subproblem, Turn};
 
 // How many full capacities a choice looks at.
 const MOST_HOTSPOTS: usize = 4;
@@ -163,13 +164,12 @@ impl Chosen {
     /// seven of eight choices it is one that is left out, if there is such a flight.
     pub fn choose(
         &mut self,
-        s: &Scenario,
-        boxes: &Boxes,
+        problem: Subproblem<'_>,
         loads: &Loads,
         choices: &[Choice],
     ) -> Result<bool, OutOfMemory>
-        requires loads { IsMadeFor (parts_of s.now) loads.now }
-        requires count { length choices.now ≡ length (parts_of s.now).flights }
+        requires loads { IsMadeFor (parts_in problem) loads.now }
+        requires count { length choices.now ≡ length (parts_in problem).flights }
     {
         list_left_out(&mut self.delayed, choices)?;
         self.is_some_left_out = !self.delayed.is_empty();
@@ -180,12 +180,12 @@ impl Chosen {
             return Ok(false);
         }
         let flight = self.delayed[self.generator.below(self.delayed.len())];
-        self.list_hotspots(s, loads, choices, flight)?;
-        let most = self.draw_most(s)?;
-        self.list_others(s, boxes, loads, choices, flight, most)?;
+        self.list_hotspots(problem.s, loads, choices, flight)?;
+        let most = self.draw_most(problem.s)?;
+        self.list_others(problem, loads, choices, flight, most)?;
         self.choose_one(flight)?;
-        add_with_partners(&mut self.flights, boxes, &self.others)?;
-        self.put_in_order(s, choices)?;
+        add_with_partners(&mut self.flights, problem.boxes, &self.others)?;
+        self.put_in_order(problem.s, choices)?;
         Ok(true)
     }
 
@@ -243,26 +243,32 @@ impl Chosen {
     // Lists some of its partners and of the flights that fill these capacities.
     fn list_others(
         &mut self,
-        s: &Scenario,
-        boxes: &Boxes,
+        problem: Subproblem<'_>,
         loads: &Loads,
         choices: &[Choice],
         flight: u32,
         most: usize,
     ) -> Result<(), OutOfMemory>
-        requires loads { IsMadeFor (parts_of s.now) loads.now }
-        requires count { length choices.now ≡ length (parts_of s.now).flights }
+        requires loads { IsMadeFor (parts_in problem) loads.now }
+        requires count { length choices.now ≡ length (parts_in problem).flights }
     {
         self.others.clear();
         add_partners(
             &mut self.others,
-            boxes.turns().of_flight(flight, End::Arrival),
+            problem.boxes.turns().of_flight(flight, End::Arrival),
         )?;
         add_partners(
             &mut self.others,
-            boxes.turns().of_flight(flight, End::Departure),
+            problem.boxes.turns().of_flight(flight, End::Departure),
         )?;
-        add_meeting(&mut self.others, s, loads, choices, &self.hotspots, flight)?;
+        add_meeting(
+            &mut self.others,
+            problem.s,
+            loads,
+            choices,
+            &self.hotspots,
+            flight,
+        )?;
         self.generator.mix(&mut self.others);
         self.others.truncate(most);
         Ok(())

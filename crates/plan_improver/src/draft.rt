@@ -3,13 +3,13 @@ ghost use Rattle.std.specs.Prelude.{◌≡◌, ◌<◌, IfOk, IfSome, length};
 ghost use Rattle.flow_types.specs.Scenario.{parts_of};
 ghost use Rattle.flight_routes.specs.Work.{IsWorkFor};
 ghost use Rattle.plan_rules.specs.Loads.{IsMadeFor as AreLoadsFor};
-ghost use Rattle.time_windows.specs.Held.{IsMadeFor};
+ghost use Rattle.time_windows.specs.Subproblems.{parts_in};
 
 use flight_routes::Work;
 use flow_types::{OutOfMemory, Plan, Scenario, Stop, Trip};
 use plan_rules::{Loads, trip_cost};
 use std::alloc::Global;
-use time_windows::Boxes;
+use time_windows::Subproblem;
 
 // How many times its worst delay a flight costs that is left out.
 const TIMES_LEFT_OUT: i64 = 3;
@@ -63,25 +63,23 @@ pub fn extra_of(s: &Scenario, flight: u32, stops: &[Stop], least: i64, left_out:
 /// if it is alone. The loads hold no trips.
 pub fn choices_of(
     alloc: Global,
-    s: &Scenario,
-    boxes: &Boxes,
+    problem: Subproblem<'_>,
     work: &mut Work,
     loads: &Loads,
 ) -> Result<Option<Vec<Choice>>, OutOfMemory>
-    requires boxes { IsMadeFor (parts_of s.now) boxes.now }
-    requires work { IsWorkFor (parts_of s.now) work.old }
-    requires loads { AreLoadsFor (parts_of s.now) loads.now }
+    requires work { IsWorkFor (parts_in problem) work.old }
+    requires loads { AreLoadsFor (parts_in problem) loads.now }
     ensures count { IfOk result (λ found. IfSome found
-        (λ choices. length choices.items ≡ length (parts_of s.now).flights)) }
-    ensures work { IsWorkFor (parts_of s.now) work.new }
+        (λ choices. length choices.items ≡ length (parts_in problem.entry).flights)) }
+    ensures work { IsWorkFor (parts_in problem.entry) work.new }
 {
     let mut choices = Vec::new(alloc);
-    for number in 0..s.flights().len() {
+    for number in 0..problem.s.flights().len() {
         let flight = number as u32;
-        if work.least_fit(s, boxes, flight, loads).is_none() {
+        if work.least_fit(problem, flight, loads).is_none() {
             return Ok(None);
         }
-        choices.push(left_out(alloc, s, flight, work.trip())?)?;
+        choices.push(left_out(alloc, problem.s, flight, work.trip())?)?;
     }
     raise_penalties(&mut choices);
     Ok(Some(choices))

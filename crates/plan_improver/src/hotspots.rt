@@ -1,9 +1,12 @@
 //! Capacities that are full.
+ghost use Rattle.std.specs.Prelude.{◌<◌, IsTrue, slice_get};
+ghost use Rattle.flow_types.specs.Capacities.{has_kind};
 ghost use Rattle.flow_types.specs.Scenario.{parts_of};
 ghost use Rattle.plan_rules.specs.Loads.{IsMadeFor};
 
 use flow_types::{CapKind, Flight, OutOfMemory, Scenario, Stop, has_kind, place_at};
 use plan_rules::Loads;
+use time_windows::Window;
 
 /// A capacity that is full in one period.
 #[derive(Clone, Copy, Debug, PartialEq, Eq)]
@@ -39,55 +42,51 @@ pub fn add_hotspots(
 ) -> Result<(), OutOfMemory>
     requires { IsMadeFor (parts_of s.now) loads.now }
 {
-    add_full(
-        hotspots,
-        s,
-        loads,
-        CapKind::Dep,
-        flight.from,
-        early.leaves,
-        late.leaves,
-    )?;
-    add_full(
-        hotspots,
-        s,
-        loads,
-        CapKind::Arr,
-        flight.to,
-        early.arrives,
-        late.arrives,
-    )?;
+    let leaves = Window {
+        lo: early.leaves,
+        hi: late.leaves,
+    };
+    add_full(hotspots, s, loads, CapKind::Dep, flight.from, leaves)?;
+    let arrives = Window {
+        lo: early.arrives,
+        hi: late.arrives,
+    };
+    add_full(hotspots, s, loads, CapKind::Arr, flight.to, arrives)?;
+    let way = Window {
+        lo: early.leaves,
+        hi: late.arrives,
+    };
     for place in flight.nodes.items() {
-        add_full(
-            hotspots,
-            s,
-            loads,
-            CapKind::Sector,
-            *place,
-            early.leaves,
-            late.arrives,
-        )?;
+        add_full(hotspots, s, loads, CapKind::Sector, *place, way)?;
     }
     Ok(())
 }
 
-// Adds those of one place in the periods from `first` to `last`, if it has capacities of the kind.
+// Whether there is no room for one more flight.
+fn is_full(s: &Scenario, loads: &Loads, kind: CapKind, place: u32, period: u16) -> bool
+    requires loads { IsMadeFor (parts_of s.now) loads.now }
+    requires place { IsTrue (has_kind kind (slice_get (parts_of s.now).places place)) }
+    requires period { period < (parts_of s.now).day.periods }
+{
+    loads.load(kind, place, period) >= s.capacity(kind, place, period)
+}
+
+// Adds those of one place in these periods, if it has capacities of the kind.
 fn add_full(
     hotspots: &mut Vec<Hotspot>,
     s: &Scenario,
     loads: &Loads,
     kind: CapKind,
     place: u32,
-    first: u16,
-    last: u16,
+    periods: Window,
 ) -> Result<(), OutOfMemory>
     requires { IsMadeFor (parts_of s.now) loads.now }
 {
     if !has_kind(kind, s.places(), place) {
         return Ok(());
     }
-    for period in first..s.day().periods {
-        if period <= last && loads.load(kind, place, period) >= s.capacity(kind, place, period) {
+    for period in periods.lo..s.day().periods {
+        if period <= periods.hi && is_full(s, loads, kind, place, period) {
             hotspots.push(Hotspot {
                 kind,
                 place,

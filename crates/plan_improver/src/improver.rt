@@ -1,24 +1,28 @@
 //! The search for a plan that costs less.
-ghost use Rattle.std.specs.Prelude.{◌≡◌, ◌<◌, ◌^◌, ◌↔◌, IfSome, IsSome, IsTrue, length};
+ghost use Rattle.std.specs.Prelude.{◌≡◌, ◌<◌, ◌^◌, ◌↔◌, ⊤, IfSome, IsSome, IsTrue, length};
 ghost use Rattle.flow_types.specs.Scenario.{parts_of};
-ghost use Rattle.flight_routes.specs.Prices.{ArePricesOf};
+ghost use Rattle.flow_types.specs.Costs.{plan_cost};
+ghost use Rattle.flow_types.specs.Feasible.{IsFeasible};
 ghost use Rattle.flight_routes.specs.Work.{IsWorkFor};
+ghost use Rattle.plan_rules.specs.Judge.{MatchVerdict};
 ghost use Rattle.plan_rules.specs.Loads.{IsMadeFor as AreLoadsFor};
-ghost use Rattle.time_windows.specs.Held.{IsMadeFor, box_of};
+ghost use Rattle.time_windows.specs.Held.{box_of};
+ghost use Rattle.time_windows.specs.Subproblems.{box_in, parts_in};
 ghost use Rattle.plan_improver.specs.Cheaper.{IsCheaper, IsLess};
 ghost use Rattle.time_windows.specs.Plans.{IsPlanIn};
 
+use crate::aim::{Aim, Guide};
 use crate::best::{Best, are_enough};
 use crate::choosing::{Chosen, StartOrder};
 use crate::draft::{Choice, choices_of, extra_of, is_complete};
 use crate::effort::{Effort, Search, starts_of};
 use crate::inside::is_in_box;
-use flight_routes::{Prices, Work};
-use flow_types::{Bound, Flight, OutOfMemory, Plan, Scenario, Trip};
+use flight_routes::Work;
+use flow_types::{Flight, OutOfMemory, Plan, Scenario, Trip};
 use plan_rules::{Loads, Verdict, judge};
 use std::alloc::Global;
 use std::marker::Model;
-use time_windows::Boxes;
+use time_windows::{Boxes, Subproblem};
 
 // In which orders a long search begins.
 const START_ORDERS: [StartOrder; 4] = [
@@ -88,8 +92,8 @@ impl Model for Improver {
 impl Improver {
     ghost use Rattle.std.specs.Prelude.{◌≡◌, ◌<◌, ◌^◌, IfOk, IfSome, IsSome, IsTrue, length};
     ghost use Rattle.flow_types.specs.Scenario.{parts_of};
-    ghost use Rattle.flight_routes.specs.Prices.{ArePricesOf};
-    ghost use Rattle.time_windows.specs.Held.{IsMadeFor, box_of};
+    ghost use Rattle.time_windows.specs.Held.{box_of};
+    ghost use Rattle.time_windows.specs.Subproblems.{box_in, parts_in};
     ghost use Rattle.plan_improver.specs.Cheaper.{IsCheaper};
     ghost use Rattle.time_windows.specs.Plans.{IsPlanIn};
     ghost use Rattle.plan_improver.specs.Work.{IsFilledFor, IsSearchRoomFor};
@@ -129,39 +133,33 @@ impl Improver {
     pub fn cheaper_plan(
         &mut self,
         alloc: Global,
-        s: &Scenario,
-        boxes: &Boxes,
+        aim: Aim<'_>,
         start: &Plan,
-        prices: &Prices,
-        weight: u64,
-        enough: Bound,
         search: Search,
     ) -> Result<Option<Plan>, OutOfMemory>
-        requires made { IsSearchRoomFor (parts_of s.now) self.old }
-        requires boxes { IsMadeFor (parts_of s.now) boxes.now }
-        requires prices { ArePricesOf (parts_of s.now) prices.now }
-        requires weight { weight < 2 ^ 61 }
+        requires made { IsSearchRoomFor (parts_in aim.problem) self.old }
         ensures cheaper { IfOk result (λ found. IfSome found
-            (IsCheaper (parts_of s.now) (box_of boxes.now) start.now)) }
-        ensures made { IsSearchRoomFor (parts_of s.now) self.new }
+            (IsCheaper (parts_in aim.entry.problem) (box_in aim.entry.problem) start.now)) }
+        ensures made { IsSearchRoomFor (parts_in aim.entry.problem) self.new }
     {
+        let problem = aim.problem;
         self.chosen.restart(search.lots());
-        let known = judge(&mut self.loads, s, start);
-        if !self.fill(alloc, s, boxes)? {
+        let before = judge(&mut self.loads, problem.s, start);
+        if !self.fill(alloc, problem)? {
             return Ok(None);
         }
         let mut best = Best::none();
-        self.begin_first(alloc, s, boxes, prices, weight, search)?;
-        if search.takes_start() && costs_no_more(known, cost_of(&self.choices)) {
-            self.take_over(alloc, s, start)?;
+        self.begin_first(alloc, aim, search)?;
+        if search.takes_start() && costs_no_more(before, cost_of(&self.choices)) {
+            self.take_over(alloc, problem.s, start)?;
         }
-        let effort = Effort::first(s, search);
-        self.search(alloc, s, boxes, prices, weight, enough, &mut best, effort)?;
+        let effort = Effort::first(problem.s, search);
+        self.search(alloc, aim, &mut best, effort)?;
         if let Search::Long = search {
-            self.begin_anew(alloc, s, boxes, prices, weight, enough, &mut best)?;
+            self.begin_anew(alloc, aim, &mut best)?;
         }
         let plan = best.plan(alloc)?;
-        Ok(if_cheaper(&mut self.loads, s, boxes, start, plan))
+        Ok(if_cheaper(&mut self.loads, problem, start, before, plan))
     }
 
     /// The plan, if it keeps every rule and is in the box, which is of the scenario that the room
@@ -177,15 +175,14 @@ impl Improver {
     }
 
     // Leaves all flights out, and tells whether each has a trip at all.
-    fn fill(&mut self, alloc: Global, s: &Scenario, boxes: &Boxes) -> Result<bool, OutOfMemory>
-        requires made { IsSearchRoomFor (parts_of s.now) self.old }
-        requires boxes { IsMadeFor (parts_of s.now) boxes.now }
+    fn fill(&mut self, alloc: Global, problem: Subproblem<'_>) -> Result<bool, OutOfMemory>
+        requires made { IsSearchRoomFor (parts_in problem) self.old }
         ensures filled { IfOk result
-            (λ filled. IsTrue filled → IsFilledFor (parts_of s.now) self.new) }
-        ensures made { IsSearchRoomFor (parts_of s.now) self.new }
+            (λ filled. IsTrue filled → IsFilledFor (parts_in problem.entry) self.new) }
+        ensures made { IsSearchRoomFor (parts_in problem.entry) self.new }
     {
         self.loads.clear();
-        match choices_of(alloc, s, boxes, &mut self.work, &self.loads)? {
+        match choices_of(alloc, problem, &mut self.work, &self.loads)? {
             None => Ok(false),
             Some(choices) => {
                 self.choices = choices;
@@ -199,55 +196,39 @@ impl Improver {
     fn begin_first(
         &mut self,
         alloc: Global,
-        s: &Scenario,
-        boxes: &Boxes,
-        prices: &Prices,
-        weight: u64,
+        aim: Aim<'_>,
         search: Search,
     ) -> Result<(), OutOfMemory>
-        requires filled { IsFilledFor (parts_of s.now) self.old }
-        requires boxes { IsMadeFor (parts_of s.now) boxes.now }
-        requires prices { ArePricesOf (parts_of s.now) prices.now }
-        requires weight { weight < 2 ^ 61 }
-        ensures filled { IsFilledFor (parts_of s.now) self.new }
+        requires filled { IsFilledFor (parts_in aim.problem) self.old }
+        ensures filled { IsFilledFor (parts_in aim.entry.problem) self.new }
     {
         if let Search::Again(_) = search {
-            return self.begin(alloc, s, boxes, prices, weight, LAST_START);
+            return self.begin(alloc, aim, LAST_START);
         }
-        self.begin(alloc, s, boxes, prices, weight, 0)?;
-        if starts_of(s, search) == 1 && !is_complete(&self.choices) {
-            self.begin(alloc, s, boxes, prices, weight, 1)?;
+        self.begin(alloc, aim, 0)?;
+        if starts_of(aim.problem.s, search) == 1 && !is_complete(&self.choices) {
+            self.begin(alloc, aim, 1)?;
         }
         Ok(())
     }
 
     // Leaves all flights out. Then gives each its least trip by the prices that fits, if there is
     // one, in the order of the start of this number.
-    fn begin(
-        &mut self,
-        alloc: Global,
-        s: &Scenario,
-        boxes: &Boxes,
-        prices: &Prices,
-        weight: u64,
-        number: usize,
-    ) -> Result<(), OutOfMemory>
-        requires filled { IsFilledFor (parts_of s.now) self.old }
-        requires boxes { IsMadeFor (parts_of s.now) boxes.now }
-        requires prices { ArePricesOf (parts_of s.now) prices.now }
-        requires weight { weight < 2 ^ 61 }
-        ensures filled { IsFilledFor (parts_of s.now) self.new }
+    fn begin(&mut self, alloc: Global, aim: Aim<'_>, number: usize) -> Result<(), OutOfMemory>
+        requires filled { IsFilledFor (parts_in aim.problem) self.old }
+        ensures filled { IsFilledFor (parts_in aim.entry.problem) self.new }
     {
         self.loads.clear();
         leave_all_out(alloc, &mut self.choices);
         let order = START_ORDERS[number % 4];
-        let weight = weighted(weight, START_FACTORS[number % 4]);
-        for (_, flight) in self.chosen.all_in_order(alloc, s, order)? {
+        let guide = Guide {
+            problem: aim.problem,
+            prices: Some(aim.prices),
+            weight: weighted(aim.weight, START_FACTORS[number % 4]),
+        };
+        for (_, flight) in self.chosen.all_in_order(alloc, aim.problem.s, order)? {
             self.chosen.choose_one(flight)?;
-            if self
-                .try_others(alloc, s, boxes, Some(prices), weight, 0)?
-                .is_some()
-            {
+            if self.try_others(alloc, guide, 0)?.is_some() {
                 accept(&mut self.choices, &mut self.offers);
             }
         }
@@ -267,51 +248,33 @@ impl Improver {
     fn begin_anew(
         &mut self,
         alloc: Global,
-        s: &Scenario,
-        boxes: &Boxes,
-        prices: &Prices,
-        weight: u64,
-        enough: Bound,
+        aim: Aim<'_>,
         best: &mut Best,
     ) -> Result<(), OutOfMemory>
-        requires filled { IsFilledFor (parts_of s.now) self.old }
-        requires boxes { IsMadeFor (parts_of s.now) boxes.now }
-        requires prices { ArePricesOf (parts_of s.now) prices.now }
-        requires weight { weight < 2 ^ 61 }
-        ensures filled { IsFilledFor (parts_of s.now) self.new }
+        requires filled { IsFilledFor (parts_in aim.problem) self.old }
+        ensures filled { IsFilledFor (parts_in aim.entry.problem) self.new }
     {
+        let s = aim.problem.s;
         for number in 1..starts_of(s, Search::Long) {
-            if !best.is_enough(enough) {
-                self.begin(alloc, s, boxes, prices, weight, number)?;
+            if !best.is_enough(aim.enough) {
+                self.begin(alloc, aim, number)?;
                 let effort = Effort::first(s, Search::Short);
-                self.search(alloc, s, boxes, prices, weight, enough, best, effort)?;
+                self.search(alloc, aim, best, effort)?;
             }
         }
-        self.go_on(alloc, s, boxes, prices, weight, enough, best)
+        self.go_on(alloc, aim, best)
     }
 
     // Goes on from the best plan, if there is one; it ends at once where that is enough.
-    fn go_on(
-        &mut self,
-        alloc: Global,
-        s: &Scenario,
-        boxes: &Boxes,
-        prices: &Prices,
-        weight: u64,
-        enough: Bound,
-        best: &mut Best,
-    ) -> Result<(), OutOfMemory>
-        requires filled { IsFilledFor (parts_of s.now) self.old }
-        requires boxes { IsMadeFor (parts_of s.now) boxes.now }
-        requires prices { ArePricesOf (parts_of s.now) prices.now }
-        requires weight { weight < 2 ^ 61 }
-        ensures filled { IsFilledFor (parts_of s.now) self.new }
+    fn go_on(&mut self, alloc: Global, aim: Aim<'_>, best: &mut Best) -> Result<(), OutOfMemory>
+        requires filled { IsFilledFor (parts_in aim.problem) self.old }
+        ensures filled { IsFilledFor (parts_in aim.entry.problem) self.new }
     {
+        let s = aim.problem.s;
         if let Some(plan) = best.copy(alloc)? {
             self.take_over(alloc, s, &plan)?;
         }
-        let effort = Effort::last(s);
-        self.search(alloc, s, boxes, prices, weight, enough, best, effort)
+        self.search(alloc, aim, best, Effort::last(s))
     }
 
     // Makes trials, while a flight is delayed and the plan costs more than what is enough: seven of
@@ -320,41 +283,52 @@ impl Improver {
     fn search(
         &mut self,
         alloc: Global,
-        s: &Scenario,
-        boxes: &Boxes,
-        prices: &Prices,
-        weight: u64,
-        enough: Bound,
+        aim: Aim<'_>,
         best: &mut Best,
         effort: Effort,
     ) -> Result<(), OutOfMemory>
-        requires filled { IsFilledFor (parts_of s.now) self.old }
-        requires boxes { IsMadeFor (parts_of s.now) boxes.now }
-        requires prices { ArePricesOf (parts_of s.now) prices.now }
-        requires weight { weight < 2 ^ 61 }
-        ensures filled { IsFilledFor (parts_of s.now) self.new }
+        requires filled { IsFilledFor (parts_in aim.problem) self.old }
+        ensures filled { IsFilledFor (parts_in aim.entry.problem) self.new }
     {
+        let problem = aim.problem;
         let mut cost = cost_of(&self.choices);
         for trial in 0..effort.trials {
-            if are_enough(&self.choices, cost, enough)
-                || !self.chosen.choose(s, boxes, &self.loads, &self.choices)?
+            if are_enough(&self.choices, cost, aim.enough)
+                || !self.chosen.choose(problem, &self.loads, &self.choices)?
             {
                 return best.keep(alloc, cost, &self.choices);
             }
             let more = self.chosen.rare(effort.heat(trial));
-            let factor = FACTORS[trial % 8];
-            let guide = if factor == 0 { None } else { Some(prices) };
-            let weight = weighted(weight, factor);
-            if let Some(gain) = self.try_others(alloc, s, boxes, guide, weight, more)? {
+            let guide = guide_of(aim, FACTORS[trial % 8]);
+            cost = self.make_trial(alloc, guide, best, cost, more)?;
+            cost = cost.saturating_add(self.note_failure(problem.s));
+        }
+        best.keep(alloc, cost, &self.choices)
+    }
+
+    // Makes one trial with the chosen flights from a plan of this cost, and tells what the plan
+    // costs then. A plan that is left for one that costs more is kept, if it is the best.
+    fn make_trial(
+        &mut self,
+        alloc: Global,
+        guide: Guide<'_>,
+        best: &mut Best,
+        cost: i64,
+        more: i64,
+    ) -> Result<i64, OutOfMemory>
+        requires filled { IsFilledFor (parts_in guide.problem) self.old }
+        ensures filled { IsFilledFor (parts_in guide.entry.problem) self.new }
+    {
+        match self.try_others(alloc, guide, more)? {
+            None => Ok(cost),
+            Some(gain) => {
                 if gain < 0 || is_one_left_out(&self.offers) {
                     best.keep(alloc, cost, &self.choices)?;
                 }
                 accept(&mut self.choices, &mut self.offers);
-                cost = cost.saturating_sub(gain);
+                Ok(cost.saturating_sub(gain))
             }
-            cost = cost.saturating_add(self.note_failure(s));
         }
-        best.keep(alloc, cost, &self.choices)
     }
 
     // Where the flight that was chosen first is still left out, that costs more from now on: tells
@@ -375,22 +349,17 @@ impl Improver {
     fn try_others(
         &mut self,
         alloc: Global,
-        s: &Scenario,
-        boxes: &Boxes,
-        guide: Option<&Prices>,
-        weight: u64,
+        guide: Guide<'_>,
         more: i64,
     ) -> Result<Option<i64>, OutOfMemory>
-        requires filled { IsFilledFor (parts_of s.now) self.old }
-        requires boxes { IsMadeFor (parts_of s.now) boxes.now }
-        requires guide { IfSome guide (λ prices. ArePricesOf (parts_of s.now) prices.now) }
-        requires weight { weight < 2 ^ 62 }
-        ensures filled { IsFilledFor (parts_of s.now) self.new }
+        requires filled { IsFilledFor (parts_in guide.problem) self.old }
+        ensures filled { IsFilledFor (parts_in guide.entry.problem) self.new }
     {
+        let s = guide.problem.s;
         let extra = take_out(&mut self.loads, s, &self.choices, self.chosen.flights());
         self.offers.clear();
         let most = extra.saturating_add(more);
-        match self.put_back(alloc, s, boxes, guide, weight, most)? {
+        match self.put_back(alloc, guide, most)? {
             Some(left) => Ok(Some(left.saturating_sub(more))),
             None => {
                 refuse(&mut self.loads, s, &self.offers);
@@ -405,22 +374,16 @@ impl Improver {
     fn put_back(
         &mut self,
         alloc: Global,
-        s: &Scenario,
-        boxes: &Boxes,
-        guide: Option<&Prices>,
-        weight: u64,
+        guide: Guide<'_>,
         most: i64,
     ) -> Result<Option<i64>, OutOfMemory>
-        requires filled { IsFilledFor (parts_of s.now) self.old }
-        requires boxes { IsMadeFor (parts_of s.now) boxes.now }
-        requires guide { IfSome guide (λ prices. ArePricesOf (parts_of s.now) prices.now) }
-        requires weight { weight < 2 ^ 62 }
-        ensures filled { IsFilledFor (parts_of s.now) self.new }
+        requires filled { IsFilledFor (parts_in guide.problem) self.old }
+        ensures filled { IsFilledFor (parts_in guide.entry.problem) self.new }
     {
         let mut left = most;
         for at in 0..self.chosen.flights().len() {
             if let Some(flight) = self.chosen.flight_at(at) {
-                left = left.saturating_sub(self.offer(alloc, s, boxes, guide, weight, flight)?);
+                left = left.saturating_sub(self.offer(alloc, guide, flight)?);
             }
             if left < 0 {
                 return Ok(None);
@@ -431,27 +394,17 @@ impl Improver {
 
     // Offers the flight the least trip that fits, by the prices if there are some; and tells how
     // much more than its least it costs.
-    fn offer(
-        &mut self,
-        alloc: Global,
-        s: &Scenario,
-        boxes: &Boxes,
-        guide: Option<&Prices>,
-        weight: u64,
-        flight: u32,
-    ) -> Result<i64, OutOfMemory>
-        requires filled { IsFilledFor (parts_of s.now) self.old }
-        requires boxes { IsMadeFor (parts_of s.now) boxes.now }
-        requires guide { IfSome guide (λ prices. ArePricesOf (parts_of s.now) prices.now) }
-        requires weight { weight < 2 ^ 62 }
-        ensures filled { IsFilledFor (parts_of s.now) self.new }
+    fn offer(&mut self, alloc: Global, guide: Guide<'_>, flight: u32) -> Result<i64, OutOfMemory>
+        requires filled { IsFilledFor (parts_in guide.problem) self.old }
+        ensures filled { IsFilledFor (parts_in guide.entry.problem) self.new }
     {
         let Some(choice) = self.choices.get(flight as usize) else {
             return Ok(0);
         };
         let least = choice.least;
         let left_out = choice.left_out();
-        find_fit(&mut self.work, s, &self.loads, boxes, guide, weight, flight);
+        let s = guide.problem.s;
+        find_fit(&mut self.work, &self.loads, guide, flight);
         let trip = Trip::from_stops(alloc, self.work.trip())?;
         let extra = extra_of(s, flight, trip.items(), least, left_out);
         self.loads.add(s, flight, trip.items());
@@ -490,27 +443,32 @@ fn take_over(
     Ok(())
 }
 
-// Finds the flight's least trip that fits, by the prices if there are some.
-fn find_fit(
-    work: &mut Work,
-    s: &Scenario,
-    loads: &Loads,
-    boxes: &Boxes,
-    guide: Option<&Prices>,
-    weight: u64,
-    flight: u32,
-)
-    requires work { IsWorkFor (parts_of s.now) work.old }
-    requires loads { AreLoadsFor (parts_of s.now) loads.now }
-    requires boxes { IsMadeFor (parts_of s.now) boxes.now }
-    requires guide { IfSome guide (λ prices. ArePricesOf (parts_of s.now) prices.now) }
-    requires weight { weight < 2 ^ 62 }
-    requires flight { flight < length (parts_of s.now).flights }
-    ensures { IsWorkFor (parts_of s.now) work.new }
+// By prices beside which costs weigh more by the factor, or by none where it is 0.
+fn guide_of(aim: Aim<'_>, factor: u64) -> Guide<'_>
+    ensures { result.problem ≡ aim.entry.problem }
 {
-    let _least = match guide {
-        None => work.least_fit(s, boxes, flight, loads),
-        Some(prices) => work.least_priced_fit(s, boxes, flight, weight, prices, loads),
+    Guide {
+        problem: aim.problem,
+        prices: if factor == 0 { None } else { Some(aim.prices) },
+        weight: weighted(aim.weight, factor),
+    }
+}
+
+// Finds the flight's least trip that fits, by the prices if there are some.
+fn find_fit(work: &mut Work, loads: &Loads, guide: Guide<'_>, flight: u32)
+    requires work { IsWorkFor (parts_in guide.problem) work.old }
+    requires loads { AreLoadsFor (parts_in guide.problem) loads.now }
+    requires flight { flight < length (parts_in guide.problem).flights }
+    ensures { IsWorkFor (parts_in guide.entry.problem) work.new }
+{
+    let Guide {
+        problem,
+        prices,
+        weight,
+    } = guide;
+    let _least = match prices {
+        None => work.least_fit(problem, flight, loads),
+        Some(prices) => work.least_priced_fit(problem, flight, weight, prices, loads),
     };
 }
 
@@ -569,21 +527,25 @@ fn costs_no_more(verdict: Verdict, most: i64) -> bool {
 }
 
 // The plan, if it keeps every rule, is in the box, and costs less than the start if that keeps them
-// too.
+// too, of which this is the verdict.
 fn if_cheaper(
     loads: &mut Loads,
-    s: &Scenario,
-    boxes: &Boxes,
-    start: &Plan,
+    problem: Subproblem<'_>,
+    _start: &Plan,
+    before: Verdict,
     plan: Plan,
 ) -> Option<Plan>
-    requires { AreLoadsFor (parts_of s.now) loads.old }
-    ensures cheaper { IfSome result (IsCheaper (parts_of s.now) (box_of boxes.now) start.now) }
-    ensures made { AreLoadsFor (parts_of s.now) loads.new }
+    requires loads { AreLoadsFor (parts_in problem) loads.old }
+    requires keeps { MatchVerdict before (λ cost. IsFeasible (parts_in problem) _start.now)
+        (λ broken. IsFeasible (parts_in problem) _start.now → ⊥) }
+    requires cost { MatchVerdict before (λ cost. cost
+        ≡ plan_cost (parts_in problem).tables (parts_in problem).flights _start.now) (λ broken. ⊤) }
+    ensures cheaper { IfSome result
+        (IsCheaper (parts_in problem.entry) (box_in problem.entry) _start.now) }
+    ensures made { AreLoadsFor (parts_in problem.entry) loads.new }
 {
-    let before = judge(loads, s, start);
-    let after = judge(loads, s, &plan);
-    if is_cheaper(before, after) && is_in_box(boxes, &plan) {
+    let after = judge(loads, problem.s, &plan);
+    if is_cheaper(before, after) && is_in_box(problem.boxes, &plan) {
         Some(plan)
     } else {
         None

@@ -7,8 +7,9 @@
 //!         Greedy::Plan(plan) => plan,
 //!         Greedy::Stuck { kept, .. } => kept,
 //!     };
-//!     let long = Search::Long;
-//!     match improver.cheaper_plan(alloc, &s, &boxes, &start, &prices, weight, bound, long)? {
+//!     let problem = Subproblem { s: &s, boxes: &boxes };
+//!     let aim = Aim { problem, prices: &prices, weight, enough: bound };
+//!     match improver.cheaper_plan(alloc, aim, &start, Search::Long)? {
 //!         Some(plan) => println!("it costs {}", cost(&s, &plan)),
 //!         None => println!("none that costs less was found"),
 //!     }
@@ -50,6 +51,7 @@
 //! enough.
 #![tactic(auto)]
 
+mod aim;
 mod best;
 mod choosing;
 mod draft;
@@ -59,5 +61,6 @@ mod hotspots;
 mod improver;
 mod inside;
 
+pub use aim::Aim;
 pub use effort::{Search, delay_cost};
 pub use improver::Improver;

@@ -1,4 +1,5 @@
 pub mod Counting
+pub mod Frames
 pub mod Gathering
 pub mod Landed
 pub mod Leaf

@@ -5,25 +5,13 @@ use Rattle.flow_types.specs.declared.parts.Parts.{Parts}
 use Rattle.row_arena.specs.declared.entry.Entry.{Entry}
 use Rattle.scaled_simplex.specs.Program.{Constraint, Problem}
 use Rattle.time_windows.specs.Boxes.{Box}
-use Rattle.time_windows.specs.Held.{Held, box_of}
 use Rattle.bytime_model.specs.declared.names.RowName.{RowName}
 use Rattle.cut_rows.specs.declared.names.CutName.{CutName}
-use Rattle.cut_rows.specs.Pools.{IsPoolOf}
-use Rattle.cut_rows.specs.Table.{IsTableFor}
-use Rattle.presolve.specs.declared.frame.Frame.{Frame}
 use Rattle.presolve.specs.declared.rows.ProgramDraft.{ProgramDraft}
 use Rattle.presolve.specs.Counting.{IsCounted, row_entries}
-use Rattle.presolve.specs.Gathering.{IsNumberedFor, size_of}
-use Rattle.presolve.specs.Relaxed.{constant_of, cost_in, flipped_of, kept_row, may_exceed, row_in}
+use Rattle.presolve.specs.Gathering.{size_of}
+use Rattle.presolve.specs.Relaxed.{constant_of, cost_in, kept_row, may_exceed, row_in}
 use Rattle.presolve.specs.Variables.{columns_of}
-
--- What rows are made by: the numbers of the box's columns, the table, the pool of cuts, and which
--- columns are flipped.
-pub record IsFramed (parts : Parts) (held : Held) (frame : Frame) : Type 0 where
-  pub numbers : IsNumberedFor parts held frame.numbers
-  pub table : IsTableFor parts frame.table.now
-  pub cuts : IsPoolOf parts frame.pool.now
-  pub flips : frame.flips.items ≡ flipped_of parts (box_of held)
 
 -- how large the factors of a row are together, and how far its limit may be from 0
 abbrev pub most_size : ℕ

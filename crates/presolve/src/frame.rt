@@ -3,16 +3,15 @@
 use crate::gather::Gathering;
 use crate::numbers::Numbers;
 use bytime_model::RowBuffer;
-use cut_rows::{Pool, Table};
+use cut_rows::Relaxation;
 use flow_types::OutOfMemory;
 use std::alloc::Global;
 
-/// The numbers of the columns, the table, the pool of cuts, and which columns are flipped.
+/// The numbers of the columns, the relaxation, and which columns are flipped.
 #[derive(Drop)]
 pub struct Frame<'a> {
     pub numbers: Numbers<'a>,
-    pub table: &'a Table,
-    pub pool: &'a Pool,
+    pub relaxation: Relaxation<'a>,
     pub flips: Vec<bool>,
 }
 

@@ -2,21 +2,18 @@
 ghost use Rattle.std.specs.Prelude.{◌≡◌, ◌≤◌, ◌+◌, IfErr, OnOk, length, sum_by};
 ghost use Rattle.bytime_model.specs.AllRows.{kind_rows, kinds_rows};
 ghost use Rattle.cut_rows.specs.Pools.{cut_names, rows_with};
-ghost use Rattle.flow_types.specs.Scenario.{parts_of};
 ghost use Rattle.presolve.specs.Counting.{IfWide, IsPast, row_entries};
-ghost use Rattle.presolve.specs.Listing.{AddsNames, IsFramed};
+ghost use Rattle.presolve.specs.Frames.{IsFramed, box_in, parts_in, pool_in};
+ghost use Rattle.presolve.specs.Listing.{AddsNames};
 ghost use Rattle.presolve.specs.Variables.{columns_of};
 ghost use Rattle.scaled_simplex.specs.Program.{columns, most_indices};
-ghost use Rattle.time_windows.specs.Held.{box_of};
 
 use crate::frame::{Frame, Room};
 use crate::rows::{ProgramDraft, add_rows};
 use crate::tally::Refused;
 use bytime_model::{RowKind, part_count, part_rows, row_kinds};
 use cut_rows::cut_names;
-use flow_types::Scenario;
 use std::alloc::Global;
-use time_windows::Boxes;
 
 // Adds the rows of this kind that values of the columns may exceed. The names of one flight, place
 // or connection are there at a time, since most windows are so narrow that few rows are kept.
@@ -26,25 +23,24 @@ fn add_kind(
     alloc: Global,
     room: &mut Room,
     frame: &Frame<'_>,
-    s: &Scenario,
-    boxes: &Boxes,
     kind: RowKind,
 ) -> Result<(), Refused>
-    requires framed { IsFramed (parts_of s.now) boxes.now frame.now }
+    requires framed { IsFramed frame.now }
     requires columns { columns draft.old.program
-        ≡ length (columns_of (parts_of s.now) (box_of boxes.now)) }
+        ≡ length (columns_of (parts_in frame.now) (box_in frame.now)) }
     requires few { columns draft.old.program + length draft.old.program.constraints
-        + length (kind_rows (parts_of s.now) kind) ≤ most_indices }
-    ensures adds { OnOk result (AddsNames (parts_of s.now) frame.now.pool.now (box_of boxes.now)
-        (kind_rows (parts_of s.now) kind) draft.old draft.new) }
+        + length (kind_rows (parts_in frame.now) kind) ≤ most_indices }
+    ensures adds { OnOk result (AddsNames (parts_in frame.now) (pool_in frame.now)
+        (box_in frame.now) (kind_rows (parts_in frame.now) kind) draft.old draft.new) }
     ensures wide { IfErr result (λ refused. IfWide refused (IsPast draft.old.tally.cells
         (draft.old.tally.entries
-        + sum_by (row_entries (parts_of s.now) frame.now.pool.now (box_of boxes.now))
-        (kind_rows (parts_of s.now) kind)))) }
+        + sum_by (row_entries (parts_in frame.now) (pool_in frame.now) (box_in frame.now))
+        (kind_rows (parts_in frame.now) kind)))) }
 {
+    let s = frame.relaxation.problem.s;
     for position in 0..part_count(s, kind) {
         let names = part_rows(alloc, s, kind, position)?;
-        add_rows(draft, alloc, room, frame, s, boxes, names.items())?;
+        add_rows(draft, alloc, room, frame, names.items())?;
     }
     Ok(())
 }
@@ -56,24 +52,22 @@ fn add_kinds(
     alloc: Global,
     room: &mut Room,
     frame: &Frame<'_>,
-    s: &Scenario,
-    boxes: &Boxes,
     kinds: &[RowKind],
 ) -> Result<(), Refused>
-    requires framed { IsFramed (parts_of s.now) boxes.now frame.now }
+    requires framed { IsFramed frame.now }
     requires columns { columns draft.old.program
-        ≡ length (columns_of (parts_of s.now) (box_of boxes.now)) }
+        ≡ length (columns_of (parts_in frame.now) (box_in frame.now)) }
     requires few { columns draft.old.program + length draft.old.program.constraints
-        + length (kinds_rows (parts_of s.now) kinds.now) ≤ most_indices }
-    ensures adds { OnOk result (AddsNames (parts_of s.now) frame.now.pool.now (box_of boxes.now)
-        (kinds_rows (parts_of s.now) kinds.now) draft.old draft.new) }
+        + length (kinds_rows (parts_in frame.now) kinds.now) ≤ most_indices }
+    ensures adds { OnOk result (AddsNames (parts_in frame.now) (pool_in frame.now)
+        (box_in frame.now) (kinds_rows (parts_in frame.now) kinds.now) draft.old draft.new) }
     ensures wide { IfErr result (λ refused. IfWide refused (IsPast draft.old.tally.cells
         (draft.old.tally.entries
-        + sum_by (row_entries (parts_of s.now) frame.now.pool.now (box_of boxes.now))
-        (kinds_rows (parts_of s.now) kinds.now)))) }
+        + sum_by (row_entries (parts_in frame.now) (pool_in frame.now) (box_in frame.now))
+        (kinds_rows (parts_in frame.now) kinds.now)))) }
 {
     for kind in kinds {
-        add_kind(draft, alloc, room, frame, s, boxes, *kind)?;
+        add_kind(draft, alloc, room, frame, *kind)?;
     }
     Ok(())
 }
@@ -85,23 +79,21 @@ fn add_cuts(
     alloc: Global,
     room: &mut Room,
     frame: &Frame<'_>,
-    s: &Scenario,
-    boxes: &Boxes,
 ) -> Result<(), Refused>
-    requires framed { IsFramed (parts_of s.now) boxes.now frame.now }
+    requires framed { IsFramed frame.now }
     requires columns { columns draft.old.program
-        ≡ length (columns_of (parts_of s.now) (box_of boxes.now)) }
+        ≡ length (columns_of (parts_in frame.now) (box_in frame.now)) }
     requires few { columns draft.old.program + length draft.old.program.constraints
-        + length (cut_names frame.now.pool.now) ≤ most_indices }
-    ensures adds { OnOk result (AddsNames (parts_of s.now) frame.now.pool.now (box_of boxes.now)
-        (cut_names frame.now.pool.now) draft.old draft.new) }
+        + length (cut_names (pool_in frame.now)) ≤ most_indices }
+    ensures adds { OnOk result (AddsNames (parts_in frame.now) (pool_in frame.now)
+        (box_in frame.now) (cut_names (pool_in frame.now)) draft.old draft.new) }
     ensures wide { IfErr result (λ refused. IfWide refused (IsPast draft.old.tally.cells
         (draft.old.tally.entries
-        + sum_by (row_entries (parts_of s.now) frame.now.pool.now (box_of boxes.now))
-        (cut_names frame.now.pool.now)))) }
+        + sum_by (row_entries (parts_in frame.now) (pool_in frame.now) (box_in frame.now))
+        (cut_names (pool_in frame.now))))) }
 {
-    let cuts = cut_names(alloc, frame.pool)?;
-    add_rows(draft, alloc, room, frame, s, boxes, cuts.items())
+    let cuts = cut_names(alloc, frame.relaxation.pool)?;
+    add_rows(draft, alloc, room, frame, cuts.items())
 }
 
 /// Adds the rows that values of the columns may exceed: those of the day, and after them those of
@@ -112,24 +104,23 @@ pub fn add_all_names(
     draft: &mut ProgramDraft,
     alloc: Global,
     frame: &Frame<'_>,
-    s: &Scenario,
-    boxes: &Boxes,
 ) -> Result<(), Refused>
-    requires framed { IsFramed (parts_of s.now) boxes.now frame.now }
+    requires framed { IsFramed frame.now }
     requires columns { columns draft.old.program
-        ≡ length (columns_of (parts_of s.now) (box_of boxes.now)) }
+        ≡ length (columns_of (parts_in frame.now) (box_in frame.now)) }
     requires few { columns draft.old.program + length draft.old.program.constraints
-        + length (rows_with (parts_of s.now) frame.now.pool.now) ≤ most_indices }
-    ensures adds { OnOk result (AddsNames (parts_of s.now) frame.now.pool.now (box_of boxes.now)
-        (rows_with (parts_of s.now) frame.now.pool.now) draft.old draft.new) }
+        + length (rows_with (parts_in frame.now) (pool_in frame.now)) ≤ most_indices }
+    ensures adds { OnOk result (AddsNames (parts_in frame.now) (pool_in frame.now)
+        (box_in frame.now) (rows_with (parts_in frame.now) (pool_in frame.now)) draft.old
+        draft.new) }
     ensures wide { IfErr result (λ refused. IfWide refused (IsPast draft.old.tally.cells
         (draft.old.tally.entries
-        + sum_by (row_entries (parts_of s.now) frame.now.pool.now (box_of boxes.now))
-        (rows_with (parts_of s.now) frame.now.pool.now)))) }
+        + sum_by (row_entries (parts_in frame.now) (pool_in frame.now) (box_in frame.now))
+        (rows_with (parts_in frame.now) (pool_in frame.now))))) }
 {
     let mut room = Room::new(alloc)?;
     let kinds = row_kinds();
-    add_kinds(draft, alloc, &mut room, frame, s, boxes, &kinds)?;
-    add_cuts(draft, alloc, &mut room, frame, s, boxes)?;
+    add_kinds(draft, alloc, &mut room, frame, &kinds)?;
+    add_cuts(draft, alloc, &mut room, frame)?;
     Ok(())
 }

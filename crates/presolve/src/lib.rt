@@ -8,7 +8,7 @@
 //!     boxes.tighten(&s);
 //!     let table = table_for(alloc, &s)?;
 //!     let pool = Pool::empty(alloc);
-//!     let made = program(alloc, &s, &pool, &boxes, &table)?;
+//!     let made = program(alloc, Relaxation::of(&s, &boxes, &table, &pool))?;
 //!     for k in 0..made.columns.items().len() {
 //!         println!("{:?} costs {}", made.columns.items()[k], made.program.costs()[k]);
 //!     }
@@ -29,7 +29,7 @@
 //! The definitions stand in `specs/`: `Variables` (the columns), `Landed` (where a sum of terms
 //! lands), `Relaxed` (the program), `Leaf` (the leaf that multipliers give, and what they promise),
 //! `Presolved` (what callers get) and `Points` (the points of the relaxation, and the one that a
-//! point of the program gives). `Counting`, `Gathering` and `Listing` serve the proofs.
+//! point of the program gives). `Counting`, `Frames`, `Gathering` and `Listing` serve the proofs.
 //! `proofs/WorkedProgram.antt` has the program of a narrow box of a day of two flights, and a point
 //! of it.
 //!

@@ -1,14 +1,9 @@
 //! The numbers of the columns: where a variable lands.
 ghost use Rattle.std.specs.Prelude.{◌≡◌, ◌<◌, ◌^◌, IfOk, length, replicate};
-ghost use Rattle.bytime_model.specs.declared.variables.Var.{Var};
-ghost use Rattle.bytime_model.specs.Columns.{AreColumnsOf, IsThere};
-ghost use Rattle.flow_types.specs.Scenario.{parts_of};
-ghost use Rattle.presolve.specs.Gathering.{AreNumbers, AreOwn, IsNumberedFor, IsSpot, IsSpotWithin};
-ghost use Rattle.presolve.specs.Variables.{columns_of};
-ghost use Rattle.time_windows.specs.Held.{IsMadeFor, box_of};
-ghost use Rattle.time_windows.specs.Tight.{IsTight};
+ghost use Rattle.presolve.specs.Gathering.{AreNumbers, AreOwn};
 
 use bytime_model::{Columns, Landing, Var, landing_of};
+use cut_rows::Relaxation;
 use flow_types::{OutOfMemory, Scenario};
 use std::alloc::Global;
 use std::marker::Model;
@@ -43,29 +38,26 @@ impl<'a> Model for Numbers<'a> {
 impl<'a> Numbers<'a> {
     ghost use Rattle.std.specs.Prelude.{◌≡◌, ◌<◌, IfOk, length, slice_index};
     ghost use Rattle.bytime_model.specs.declared.variables.Var.{Var};
-    ghost use Rattle.bytime_model.specs.Columns.{AreColumnsOf, IsThere};
+    ghost use Rattle.bytime_model.specs.Columns.{IsThere};
+    ghost use Rattle.cut_rows.specs.Relaxations.{box_under, parts_under};
     ghost use Rattle.bytime_model.specs.Landing.{IsLandingWithin, landing_of};
     ghost use Rattle.flow_types.specs.Scenario.{parts_of};
     ghost use Rattle.presolve.specs.Gathering.{IsNumberedFor, IsSpot, IsSpotWithin};
     ghost use Rattle.presolve.specs.Variables.{columns_of};
-    ghost use Rattle.time_windows.specs.Held.{IsMadeFor, box_of};
-    ghost use Rattle.time_windows.specs.Tight.{IsTight};
+    ghost use Rattle.time_windows.specs.Held.{box_of};
 
-    /// The numbers of the box's columns, by these positions: 4 bytes for each position.
-    #[tactic(auto, using(crate::proofs::NumberFacts::few_numbers, crate::proofs::NumberFacts::columns_own, crate::proofs::NumberFacts::numbered_for))]
+    /// The numbers of the box's columns, by the positions of the table: 4 bytes for each of these.
+    #[tactic(auto, using(crate::proofs::NumberFacts::few_numbers))]
     pub fn new(
         alloc: Global,
-        s: &Scenario,
-        boxes: &Boxes,
-        positions: &'a Columns,
+        relaxation: Relaxation<'a>,
         columns: &[Var],
     ) -> Result<Numbers<'a>, OutOfMemory>
-        requires positions { AreColumnsOf (parts_of s.now) positions.now }
-        requires made { IsMadeFor (parts_of s.now) boxes.now }
-        requires tight { IsTight (parts_of s.now) (box_of boxes.now) }
-        requires columns { columns.now ≡ columns_of (parts_of s.now) (box_of boxes.now) }
-        ensures { IfOk result (IsNumberedFor (parts_of s.now) boxes.now) }
+        requires { columns.now ≡ columns_of (parts_under relaxation) (box_under relaxation) }
+        ensures { IfOk result (IsNumberedFor (parts_under relaxation.entry)
+            relaxation.entry.problem.boxes.now) }
     {
+        let positions = &relaxation.table.columns;
         let numbers = numbers_of(alloc, positions, columns)?;
         Ok(Numbers { positions, numbers })
     }

@@ -1,16 +1,17 @@
 //! The program of a box.
 ghost use Rattle.std.specs.Prelude.{◌≡◌, ◌<◌, ◌+◌, [], IfErr, IfOk, OnOk, length, map, pos, sum_by, unsigned_abs};
 ghost use Rattle.cut_rows.specs.Pools.{IsPoolOf, rows_with};
-ghost use Rattle.cut_rows.specs.Table.{IsTableFor};
+ghost use Rattle.cut_rows.specs.Relaxations.{box_under, parts_under};
 ghost use Rattle.flow_types.specs.Scenario.{parts_of};
 ghost use Rattle.presolve.specs.Counting.{IfWide, IsPast, row_entries};
-ghost use Rattle.presolve.specs.Listing.{HaveCosts, IsFramed, with_rows};
+ghost use Rattle.presolve.specs.Frames.{IsFramed, box_in, parts_in, pool_in};
+ghost use Rattle.presolve.specs.Gathering.{IsNumberedFor};
+ghost use Rattle.presolve.specs.Listing.{HaveCosts, with_rows};
 ghost use Rattle.presolve.specs.Presolved.{IsPresolved, entries_of};
-ghost use Rattle.presolve.specs.Relaxed.{kept_of, program_of};
+ghost use Rattle.presolve.specs.Relaxed.{flipped_of, kept_of, program_of};
 ghost use Rattle.presolve.specs.Variables.{columns_of};
 ghost use Rattle.scaled_simplex.specs.Program.{columns};
-ghost use Rattle.time_windows.specs.Held.{IsMadeFor, box_of};
-ghost use Rattle.time_windows.specs.Tight.{IsTight};
+ghost use Rattle.time_windows.specs.Held.{box_of};
 
 use crate::columns::columns_of;
 use crate::costs::{Costs, costs_of, negatives_of, sizes_of};
@@ -20,11 +21,11 @@ use crate::numbers::Numbers;
 use crate::rows::{ProgramDraft, add_ones};
 use crate::tally::{Refused, Tally};
 use bytime_model::{RowNames, Var, Vars};
-use cut_rows::{Pool, Table};
+use cut_rows::Relaxation;
 use flow_types::{OutOfMemory, Scenario, Sequence};
 use scaled_simplex::Program;
 use std::alloc::Global;
-use time_windows::Boxes;
+use time_windows::{Boxes, Subproblem};
 
 /// A list of marks.
 pub type Flags = Sequence<bool>;
@@ -43,43 +44,37 @@ pub struct Presolved {
     pub flipped: Flags,
 }
 
-// The frame of the box's rows, and what its columns cost.
+// The numbers of the box's columns, what these cost, and which of them are flipped.
 #[derive(Drop)]
 struct Base<'a> {
-    frame: Frame<'a>,
+    numbers: Numbers<'a>,
     costs: Costs,
+    flips: Vec<bool>,
 }
 
-// The program of these columns.
+// That of these columns.
 fn base_of<'a>(
     alloc: Global,
-    s: &Scenario,
-    pool: &'a Pool,
-    boxes: &Boxes,
-    table: &'a Table,
+    relaxation: Relaxation<'a>,
     columns: &[Var],
 ) -> Result<Base<'a>, OutOfMemory>
-    requires table { IsTableFor (parts_of s.now) table.now }
-    requires pool { IsPoolOf (parts_of s.now) pool.now }
-    requires made { IsMadeFor (parts_of s.now) boxes.now }
-    requires tight { IsTight (parts_of s.now) (box_of boxes.now) }
-    requires columns { columns.now ≡ columns_of (parts_of s.now) (box_of boxes.now) }
-    ensures frame { IfOk result (λ base. IsFramed (parts_of s.now) boxes.now base.frame) }
-    ensures pool { IfOk result (λ base. base.frame.pool.now ≡ pool.now) }
-    ensures costs { IfOk result (λ base. HaveCosts (parts_of s.now) (box_of boxes.now)
-        base.costs.values.items base.costs.constant) }
+    requires { columns.now ≡ columns_of (parts_under relaxation) (box_under relaxation) }
+    ensures numbers { IfOk result (λ base. IsNumberedFor (parts_under relaxation.entry)
+        relaxation.entry.problem.boxes.now base.numbers) }
+    ensures costs { IfOk result (λ base. HaveCosts (parts_under relaxation.entry)
+        (box_under relaxation.entry) base.costs.values.items base.costs.constant) }
+    ensures flips { IfOk result (λ base. base.flips.items
+        ≡ flipped_of (parts_under relaxation.entry) (box_under relaxation.entry)) }
 {
-    let numbers = Numbers::new(alloc, s, boxes, &table.columns, columns)?;
-    let costs = costs_of(alloc, s, boxes, &numbers, &table.cost, columns.len())?;
+    let numbers = Numbers::new(alloc, relaxation, columns)?;
+    let Subproblem { s, boxes } = relaxation.problem;
+    let cost = &relaxation.table.cost;
+    let costs = costs_of(alloc, s, boxes, &numbers, cost, columns.len())?;
     let flips = negatives_of(alloc, &costs.values)?;
     Ok(Base {
-        frame: Frame {
-            numbers,
-            table,
-            pool,
-            flips,
-        },
+        numbers,
         costs,
+        flips,
     })
 }
 
@@ -103,25 +98,25 @@ fn add_all(
     draft: &mut ProgramDraft,
     alloc: Global,
     frame: &Frame<'_>,
-    s: &Scenario,
-    boxes: &Boxes,
     count: usize,
 ) -> Result<(), Refused>
-    requires framed { IsFramed (parts_of s.now) boxes.now frame.now }
+    requires framed { IsFramed frame.now }
     requires none { draft.old.kept ≡ [] }
     requires rows { draft.old.program.constraints ≡ [] }
     requires columns { columns draft.old.program ≡ count }
-    requires count { count ≡ length (columns_of (parts_of s.now) (box_of boxes.now)) }
+    requires count { count ≡ length (columns_of (parts_in frame.now)
+        (box_in frame.now)) }
     ensures program { OnOk result (draft.new.program ≡ with_rows draft.old.program
-        (program_of (parts_of s.now) frame.now.pool.now (box_of boxes.now)).constraints) }
-    ensures kept { OnOk result (draft.new.kept
-        ≡ kept_of (parts_of s.now) frame.now.pool.now (box_of boxes.now)) }
+        (program_of (parts_in frame.now) (pool_in frame.now)
+        (box_in frame.now)).constraints) }
+    ensures kept { OnOk result (draft.new.kept ≡ kept_of (parts_in frame.now)
+        (pool_in frame.now) (box_in frame.now)) }
     ensures wide { IfErr result (λ refused. IfWide refused (IsPast draft.old.tally.cells
-        (draft.old.tally.entries
-        + sum_by (row_entries (parts_of s.now) frame.now.pool.now (box_of boxes.now))
-        (rows_with (parts_of s.now) frame.now.pool.now)))) }
+        (draft.old.tally.entries + sum_by (row_entries (parts_in frame.now)
+        (pool_in frame.now) (box_in frame.now))
+        (rows_with (parts_in frame.now) (pool_in frame.now))))) }
 {
-    add_all_names(draft, alloc, frame, s, boxes)?;
+    add_all_names(draft, alloc, frame)?;
     add_ones(&mut draft.program, alloc, count)?;
     Ok(())
 }
@@ -129,29 +124,35 @@ fn add_all(
 // The program of the box, unless the tally says that its tableau has too many entries.
 fn tallied(
     alloc: Global,
-    s: &Scenario,
-    pool: &Pool,
-    boxes: &Boxes,
-    table: &Table,
+    relaxation: Relaxation<'_>,
     cells: Option<u32>,
 ) -> Result<Presolved, Refused>
-    requires table { IsTableFor (parts_of s.now) table.now }
-    requires pool { IsPoolOf (parts_of s.now) pool.now }
-    requires made { IsMadeFor (parts_of s.now) boxes.now }
-    requires tight { IsTight (parts_of s.now) (box_of boxes.now) }
-    ensures presolved { IfOk result (IsPresolved (parts_of s.now) pool.now (box_of boxes.now)) }
+    requires pool { IsPoolOf (parts_under relaxation) relaxation.pool.now }
+    ensures presolved { IfOk result (IsPresolved (parts_under relaxation.entry)
+        relaxation.entry.pool.now (box_under relaxation.entry)) }
     ensures wide { IfErr result (λ refused. IfWide refused (IsPast cells
-        (entries_of (parts_of s.now) pool.now (box_of boxes.now)))) }
+        (entries_of (parts_under relaxation.entry) relaxation.entry.pool.now
+        (box_under relaxation.entry)))) }
 {
+    let Subproblem { s, boxes } = relaxation.problem;
     let mut tally = Tally::new(cells);
     let columns = columns_of(alloc, s, boxes, &mut tally)?;
-    let Base { frame, costs } = base_of(alloc, s, pool, boxes, table, columns.items())?;
+    let Base {
+        numbers,
+        costs,
+        flips,
+    } = base_of(alloc, relaxation, columns.items())?;
+    let frame = Frame {
+        numbers,
+        relaxation,
+        flips,
+    };
     let mut draft = ProgramDraft {
         program: begun(alloc, s, boxes, &costs)?,
         kept: RowNames::empty(alloc),
         tally,
     };
-    add_all(&mut draft, alloc, &frame, s, boxes, columns.items().len())?;
+    add_all(&mut draft, alloc, &frame, columns.items().len())?;
     let ProgramDraft {
         program,
         kept,
@@ -159,8 +160,7 @@ fn tallied(
     } = draft;
     let Frame {
         numbers: _,
-        table: _,
-        pool: _,
+        relaxation: _,
         flips,
     } = frame;
     Ok(Presolved {
@@ -171,8 +171,8 @@ fn tallied(
     })
 }
 
-/// The program of the box, which is a tight one of the scenario, as the table is. The rows of the
-/// pool's cuts, which are cuts of the scenario, stand after those of the day.
+/// The program of the relaxation's box. The rows of its cuts, which are cuts of the scenario, stand
+/// after those of the day.
 ///
 /// Its multipliers, with any weight, are bounds: where each is 0 or more, and for each column the
 /// weight times its cost plus each multiplier times the row's factor is 0 or more, the weight times
@@ -182,20 +182,12 @@ fn tallied(
 /// While it runs it takes 4 bytes for each variable that the tight root box leaves free, room for
 /// one row, and the names of the rows of one flight and kind, one place or one connection at a
 /// time, and then those of all cuts of the pool: 12 bytes each, or up to twice that.
-pub fn program(
-    alloc: Global,
-    s: &Scenario,
-    pool: &Pool,
-    boxes: &Boxes,
-    table: &Table,
-) -> Result<Presolved, OutOfMemory>
-    requires table { IsTableFor (parts_of s.now) table.now }
-    requires pool { IsPoolOf (parts_of s.now) pool.now }
-    requires made { IsMadeFor (parts_of s.now) boxes.now }
-    requires tight { IsTight (parts_of s.now) (box_of boxes.now) }
-    ensures presolved { IfOk result (IsPresolved (parts_of s.now) pool.now (box_of boxes.now)) }
+pub fn program(alloc: Global, relaxation: Relaxation<'_>) -> Result<Presolved, OutOfMemory>
+    requires pool { IsPoolOf (parts_under relaxation) relaxation.pool.now }
+    ensures presolved { IfOk result (IsPresolved (parts_under relaxation.entry)
+        relaxation.entry.pool.now (box_under relaxation.entry)) }
 {
-    match tallied(alloc, s, pool, boxes, table, None) {
+    match tallied(alloc, relaxation, None) {
         Ok(presolved) => Ok(presolved),
         Err(Refused::OutOfMemory) => Err(OutOfMemory),
         Err(Refused::Wide) => unreachable!(),
@@ -207,19 +199,15 @@ pub fn program(
 /// so the program takes no more than one that has just room.
 pub fn program_within(
     alloc: Global,
-    s: &Scenario,
-    pool: &Pool,
-    boxes: &Boxes,
-    table: &Table,
+    relaxation: Relaxation<'_>,
     cells: u32,
 ) -> Result<Presolved, Refused>
-    requires table { IsTableFor (parts_of s.now) table.now }
-    requires pool { IsPoolOf (parts_of s.now) pool.now }
-    requires made { IsMadeFor (parts_of s.now) boxes.now }
-    requires tight { IsTight (parts_of s.now) (box_of boxes.now) }
-    ensures presolved { IfOk result (IsPresolved (parts_of s.now) pool.now (box_of boxes.now)) }
-    ensures wide { IfErr result (λ refused. IfWide refused
-        (cells < entries_of (parts_of s.now) pool.now (box_of boxes.now))) }
+    requires pool { IsPoolOf (parts_under relaxation) relaxation.pool.now }
+    ensures presolved { IfOk result (IsPresolved (parts_under relaxation.entry)
+        relaxation.entry.pool.now (box_under relaxation.entry)) }
+    ensures wide { IfErr result (λ refused. IfWide refused (cells
+        < entries_of (parts_under relaxation.entry) relaxation.entry.pool.now
+        (box_under relaxation.entry))) }
 {
-    tallied(alloc, s, pool, boxes, table, Some(cells))
+    tallied(alloc, relaxation, Some(cells))
 }

@@ -2,27 +2,26 @@
 ghost use Rattle.std.specs.Prelude.{◌≡◌, ◌<◌, ◌≤◌, ◌+◌, ◌^◌, ◌-ℤ◌, ◌∷◌, [], All, IfErr, IfOk, OnOk, length, map, sum_by, true, unsigned_abs};
 ghost use Rattle.std.specs.List.{range_with_len};
 ghost use Rattle.cut_rows.specs.Pools.{is_row_with};
-ghost use Rattle.flow_types.specs.Scenario.{parts_of};
 ghost use Rattle.presolve.specs.Counting.{IfWide, IsCounted, IsPast, row_entries};
+ghost use Rattle.presolve.specs.Frames.{IsFramed, box_in, parts_in, pool_in};
 ghost use Rattle.presolve.specs.Gathering.{size_of};
-ghost use Rattle.presolve.specs.Listing.{AddsNames, AddsRow, IsFramed, IsLandedRow, most_size, with_rows};
+ghost use Rattle.presolve.specs.Listing.{AddsNames, AddsRow, IsLandedRow, most_size, with_rows};
 ghost use Rattle.presolve.specs.Relaxed.{at_most_one, flipped_row};
 ghost use Rattle.presolve.specs.Variables.{columns_of};
 ghost use Rattle.row_arena.specs.Rows.{IsRow};
 ghost use Rattle.scaled_simplex.specs.Program.{columns, most_indices};
-ghost use Rattle.time_windows.specs.Held.{box_of};
 
 use crate::flips::{flipped_sum, greatest};
 use crate::frame::{Frame, Room};
 use crate::gather::Gathering;
 use crate::tally::{Refused, Tally};
 use bytime_model::{RowName, RowNames};
-use cut_rows::fill_row;
-use flow_types::{OutOfMemory, Scenario};
+use cut_rows::{Relaxation, fill_row};
+use flow_types::OutOfMemory;
 use row_arena::Entry;
 use scaled_simplex::Program;
 use std::alloc::Global;
-use time_windows::Boxes;
+use time_windows::Subproblem;
 
 // A limit, less what is taken from it.
 fn less(limit: i64, taken: i64) -> i64
@@ -34,19 +33,19 @@ fn less(limit: i64, taken: i64) -> i64
 
 // Lands the row of this name, and gives its limit.
 #[tactic(auto, using(crate::proofs::RowFacts::row_there_at, crate::proofs::RowFacts::factors_small, crate::proofs::RowFacts::few_landed, crate::proofs::RowFacts::limit_near, crate::proofs::RowFacts::landed))]
-fn land_row(
-    room: &mut Room,
-    frame: &Frame<'_>,
-    s: &Scenario,
-    boxes: &Boxes,
-    name: RowName,
-) -> Result<i64, OutOfMemory>
-    requires framed { IsFramed (parts_of s.now) boxes.now frame.now }
-    requires row { is_row_with (parts_of s.now) frame.now.pool.now name ≡ true }
-    ensures { IfOk result (IsLandedRow (parts_of s.now) frame.now.pool.now (box_of boxes.now)
+fn land_row(room: &mut Room, frame: &Frame<'_>, name: RowName) -> Result<i64, OutOfMemory>
+    requires framed { IsFramed frame.now }
+    requires row { is_row_with (parts_in frame.now) (pool_in frame.now) name ≡ true }
+    ensures { IfOk result (IsLandedRow (parts_in frame.now) (pool_in frame.now) (box_in frame.now)
         name room.new.gathering.entries) }
 {
-    fill_row(&mut room.buffer, s, frame.table, frame.pool, name);
+    let Relaxation {
+        problem,
+        table,
+        pool,
+    } = frame.relaxation;
+    let Subproblem { s, boxes } = problem;
+    fill_row(&mut room.buffer, s, table, pool, name);
     room.gathering
         .land(&frame.numbers, s, boxes, room.buffer.terms())?;
     Ok(less(room.buffer.limit(), room.gathering.fixed()))
@@ -90,26 +89,24 @@ fn add_row(
     alloc: Global,
     room: &mut Room,
     frame: &Frame<'_>,
-    s: &Scenario,
-    boxes: &Boxes,
     name: RowName,
 ) -> Result<(), Refused>
-    requires framed { IsFramed (parts_of s.now) boxes.now frame.now }
-    requires row { is_row_with (parts_of s.now) frame.now.pool.now name ≡ true }
+    requires framed { IsFramed frame.now }
+    requires row { is_row_with (parts_in frame.now) (pool_in frame.now) name ≡ true }
     requires columns { columns draft.old.program
-        ≡ length (columns_of (parts_of s.now) (box_of boxes.now)) }
+        ≡ length (columns_of (parts_in frame.now) (box_in frame.now)) }
     requires few { columns draft.old.program + length draft.old.program.constraints
         < most_indices }
-    ensures row { OnOk result (AddsRow (parts_of s.now) frame.now.pool.now (box_of boxes.now)
+    ensures row { OnOk result (AddsRow (parts_in frame.now) (pool_in frame.now) (box_in frame.now)
         name draft.old.program draft.new.program draft.old.kept draft.new.kept) }
     ensures counted { OnOk result (IsCounted
-        (row_entries (parts_of s.now) frame.now.pool.now (box_of boxes.now) name)
+        (row_entries (parts_in frame.now) (pool_in frame.now) (box_in frame.now) name)
         draft.old.tally draft.new.tally) }
     ensures wide { IfErr result (λ refused. IfWide refused (IsPast draft.old.tally.cells
         (draft.old.tally.entries
-        + row_entries (parts_of s.now) frame.now.pool.now (box_of boxes.now) name))) }
+        + row_entries (parts_in frame.now) (pool_in frame.now) (box_in frame.now) name))) }
 {
-    let limit = land_row(room, frame, s, boxes, name)?;
+    let limit = land_row(room, frame, name)?;
     if limit < greatest(room.gathering.entries()) {
         draft.tally.add(room.gathering.entries().len() + 1, 1)?;
         add_landed(
@@ -131,26 +128,24 @@ pub fn add_rows(
     alloc: Global,
     room: &mut Room,
     frame: &Frame<'_>,
-    s: &Scenario,
-    boxes: &Boxes,
     names: &[RowName],
 ) -> Result<(), Refused>
-    requires framed { IsFramed (parts_of s.now) boxes.now frame.now }
-    requires rows { All (λ name. is_row_with (parts_of s.now) frame.now.pool.now name ≡ true)
+    requires framed { IsFramed frame.now }
+    requires rows { All (λ name. is_row_with (parts_in frame.now) (pool_in frame.now) name ≡ true)
         names.now }
     requires columns { columns draft.old.program
-        ≡ length (columns_of (parts_of s.now) (box_of boxes.now)) }
+        ≡ length (columns_of (parts_in frame.now) (box_in frame.now)) }
     requires few { columns draft.old.program + length draft.old.program.constraints
         + length names.now ≤ most_indices }
-    ensures adds { OnOk result (AddsNames (parts_of s.now) frame.now.pool.now (box_of boxes.now)
-        names.now draft.old draft.new) }
+    ensures adds { OnOk result (AddsNames (parts_in frame.now) (pool_in frame.now)
+        (box_in frame.now) names.now draft.old draft.new) }
     ensures wide { IfErr result (λ refused. IfWide refused (IsPast draft.old.tally.cells
         (draft.old.tally.entries
-        + sum_by (row_entries (parts_of s.now) frame.now.pool.now (box_of boxes.now))
+        + sum_by (row_entries (parts_in frame.now) (pool_in frame.now) (box_in frame.now))
         names.now))) }
 {
     for name in names {
-        add_row(draft, alloc, room, frame, s, boxes, *name)?;
+        add_row(draft, alloc, room, frame, *name)?;
     }
     Ok(())
 }

@@ -6,6 +6,7 @@ ghost use Rattle.flight_routes.specs.Prices.{AreAlike, AreFree};
 ghost use Rattle.flight_routes.specs.Work.{IsWorkFor};
 ghost use Rattle.plan_rules.specs.Loads.{IsMadeFor as AreLoadsFor};
 ghost use Rattle.time_windows.specs.Held.{IsMadeFor, box_of};
+ghost use Rattle.time_windows.specs.Subproblems.{box_in, parts_in};
 ghost use Rattle.priced_plans.specs.PricedBound.{IsPricedBound};
 ghost use Rattle.flow_types.specs.Bounds.{IsNearBound};
 ghost use Rattle.price_ascent.specs.Slopes.{AreSlopesFor, IsGood};
@@ -13,6 +14,7 @@ ghost use Rattle.price_ascent.specs.Work.{climb_weight, is_positive};
 
 use crate::bids::{Bids, pass};
 use crate::kept::{KeptPrices, put_by, restore};
+use crate::landscape::Landscape;
 use crate::leaning::lean;
 use crate::pace::{Pace, weighted_cost};
 use crate::slopes::{Slope, all_slopes, excess_by_slopes, move_prices, paid_by_limits, take_over};
@@ -23,7 +25,7 @@ use plan_rules::Loads;
 use priced_plans::{priced_bound, priced_bounds_are_bounds, priced_value};
 use std::alloc::Global;
 use std::marker::Model;
-use time_windows::Boxes;
+use time_windows::{Boxes, Subproblem};
 
 /// How much costs weigh beside prices.
 pub const WEIGHT: u64 = 1 << 20;
@@ -165,7 +167,7 @@ impl Ascent {
     {
         self.begin(s);
         self.pace = Pace::new(cost, part);
-        self.go_on(s, boxes, steps);
+        self.go_on(Subproblem { s, boxes }, steps);
         self.tell(s, boxes)
     }
 
@@ -182,7 +184,7 @@ impl Ascent {
         ensures made { IsAscentRoomFor (parts_of s.now) self.new }
     {
         self.pace.aim(cost);
-        self.go_on(s, boxes, steps);
+        self.go_on(Subproblem { s, boxes }, steps);
         self.tell(s, boxes)
     }
 
@@ -203,10 +205,11 @@ impl Ascent {
         ensures placed { ArePlaced (parts_of s.now) self.new.best }
         ensures made { IsAscentRoomFor (parts_of s.now) self.new }
     {
+        let problem = Subproblem { s, boxes };
         let _before = self.weigh(s, boxes);
         let mut bids = Bids::new(s, delay_cost);
         for _ in 0..passes / 2 {
-            if !self.bid_twice(s, boxes, &mut bids) {
+            if !self.bid_twice(problem, &mut bids) {
                 break;
             }
         }
@@ -229,10 +232,11 @@ impl Ascent {
         ensures placed { ArePlaced (parts_of s.now) self.new.best }
         ensures made { IsAscentRoomFor (parts_of s.now) self.new }
     {
+        let problem = Subproblem { s, boxes };
         self.begin(s);
         self.value = None;
         for pass in 0..passes {
-            if !self.lean_once(s, boxes, plan, pass % 2 == 1) {
+            if !self.lean_once(problem, plan, pass % 2 == 1) {
                 break;
             }
         }
@@ -249,7 +253,7 @@ impl Ascent {
         ensures made { IsAscentRoomFor (parts_of s.now) self.new }
     {
         self.tables.present.copy_from(&self.tables.best);
-        self.value = self.present_value(s, boxes);
+        self.value = self.present_value(Subproblem { s, boxes });
         self.value
     }
 
@@ -307,7 +311,8 @@ impl Ascent {
         ensures made { IsAscentRoomFor (parts_of s.now) self.new }
     {
         priced_bounds_are_bounds();
-        bound_of(&mut self.trips.work, s, boxes, &self.tables.best)
+        let problem = Subproblem { s, boxes };
+        bound_of(&mut self.trips.work, problem, &self.tables.best)
     }
 
     /// Whether the kept prices prove that no plan is in the box: a plan that keeps every rule pays
@@ -370,7 +375,8 @@ impl Ascent {
         if !is_below(self.plan_cost, below.map(weighted_cost)) {
             return Ok(None);
         }
-        let plan = least_trips(alloc, &mut self.trips.work, s, boxes, &self.tables.planned)?;
+        let problem = Subproblem { s, boxes };
+        let plan = least_trips(alloc, &mut self.trips.work, problem, &self.tables.planned)?;
         Ok(Some(plan))
     }
 
@@ -385,14 +391,13 @@ impl Ascent {
     }
 
     // Climbs so many steps at the most.
-    fn go_on(&mut self, s: &Scenario, boxes: &Boxes, steps: u32)
-        requires made { IsAscentRoomFor (parts_of s.now) self.old }
-        requires boxes { IsMadeFor (parts_of s.now) boxes.now }
-        ensures made { IsAscentRoomFor (parts_of s.now) self.new }
+    fn go_on(&mut self, problem: Subproblem<'_>, steps: u32)
+        requires made { IsAscentRoomFor (parts_in problem) self.old }
+        ensures made { IsAscentRoomFor (parts_in problem.entry) self.new }
     {
         let mut pace = self.pace;
         for _ in 0..steps {
-            if !self.step(s, boxes, &mut pace) {
+            if !self.step(problem, &mut pace) {
                 break;
             }
         }
@@ -401,12 +406,11 @@ impl Ascent {
     }
 
     // One step, and whether the climb goes on.
-    fn step(&mut self, s: &Scenario, boxes: &Boxes, pace: &mut Pace) -> bool
-        requires made { IsAscentRoomFor (parts_of s.now) self.old }
-        requires boxes { IsMadeFor (parts_of s.now) boxes.now }
-        ensures made { IsAscentRoomFor (parts_of s.now) self.new }
+    fn step(&mut self, problem: Subproblem<'_>, pace: &mut Pace) -> bool
+        requires made { IsAscentRoomFor (parts_in problem) self.old }
+        ensures made { IsAscentRoomFor (parts_in problem.entry) self.new }
     {
-        let Some(value) = self.present_value(s, boxes) else {
+        let Some(value) = self.present_value(problem) else {
             return false;
         };
         let is_best = pace.note(value);
@@ -417,33 +421,39 @@ impl Ascent {
         let fifths = pace.fifths_kept();
         let excess = excess_by_slopes(
             &mut self.slopes,
-            s,
+            problem.s,
             &self.trips.loads,
             &self.tables.present,
             fifths,
         );
-        let cost = excess.plan_cost(value);
+        self.keep_plan(problem.s, excess.plan_cost(value));
+        let stride = pace.stride(value, excess.squares);
+        move_prices(&self.slopes, problem.s, stride, &mut self.tables.present);
+        excess.squares > 0
+    }
+
+    // Keeps the prices whose least trips are a plan, if it costs less than the one before.
+    fn keep_plan(&mut self, _s: &Scenario, cost: Option<i128>)
+        requires made { IsAscentRoomFor (parts_of _s.now) self.old }
+        ensures made { IsAscentRoomFor (parts_of _s.now) self.new }
+    {
         let is_cheaper = is_below(cost, self.plan_cost);
         keep_if(is_cheaper, &mut self.tables.planned, &self.tables.present);
         if is_cheaper {
             self.plan_cost = cost;
         }
-        let stride = pace.stride(value, excess.squares);
-        move_prices(&self.slopes, s, stride, &mut self.tables.present);
-        excess.squares > 0
     }
 
     // Two passes of bids, after which the prices are kept where they are the best; and whether each
     // flight had a trip.
-    fn bid_twice(&mut self, s: &Scenario, boxes: &Boxes, bids: &mut Bids) -> bool
-        requires made { IsAscentRoomFor (parts_of s.now) self.old }
-        requires boxes { IsMadeFor (parts_of s.now) boxes.now }
-        ensures made { IsAscentRoomFor (parts_of s.now) self.new }
+    fn bid_twice(&mut self, problem: Subproblem<'_>, bids: &mut Bids) -> bool
+        requires made { IsAscentRoomFor (parts_in problem) self.old }
+        ensures made { IsAscentRoomFor (parts_in problem.entry) self.new }
     {
-        if !self.bid_once(s, boxes, bids) || !self.bid_once(s, boxes, bids) {
+        if !self.bid_once(problem, bids) || !self.bid_once(problem, bids) {
             return false;
         }
-        let value = self.present_value(s, boxes);
+        let value = self.present_value(problem);
         let is_best = is_below(self.value, value);
         keep_if(is_best, &mut self.tables.best, &self.tables.present);
         if is_best {
@@ -454,13 +464,12 @@ impl Ascent {
 
     // One pass that leans on the plan, after which the prices are kept where they are the best or
     // the first; and whether a price has moved.
-    fn lean_once(&mut self, s: &Scenario, boxes: &Boxes, plan: &Plan, back: bool) -> bool
-        requires made { IsAscentRoomFor (parts_of s.now) self.old }
-        requires boxes { IsMadeFor (parts_of s.now) boxes.now }
-        ensures made { IsAscentRoomFor (parts_of s.now) self.new }
+    fn lean_once(&mut self, problem: Subproblem<'_>, plan: &Plan, back: bool) -> bool
+        requires made { IsAscentRoomFor (parts_in problem) self.old }
+        ensures made { IsAscentRoomFor (parts_in problem.entry) self.new }
     {
-        let moved = self.lean_all(s, boxes, plan, back);
-        let value = self.present_value(s, boxes);
+        let moved = self.lean_all(problem, plan, back);
+        let value = self.present_value(problem);
         let is_best = self.value.is_none() || is_below(self.value, value);
         keep_if(is_best, &mut self.tables.best, &self.tables.present);
         if is_best {
@@ -470,17 +479,18 @@ impl Ascent {
     }
 
     // One pass that leans on the plan, and whether a price has moved.
-    fn lean_all(&mut self, s: &Scenario, boxes: &Boxes, plan: &Plan, back: bool) -> bool
-        requires made { IsAscentRoomFor (parts_of s.now) self.old }
-        requires boxes { IsMadeFor (parts_of s.now) boxes.now }
-        ensures made { IsAscentRoomFor (parts_of s.now) self.new }
+    fn lean_all(&mut self, problem: Subproblem<'_>, plan: &Plan, back: bool) -> bool
+        requires made { IsAscentRoomFor (parts_in problem) self.old }
+        ensures made { IsAscentRoomFor (parts_in problem.entry) self.new }
     {
+        let land = Landscape {
+            problem,
+            slopes: &self.slopes,
+        };
         lean(
             &mut self.trips.work,
             &mut self.trips.loads,
-            &self.slopes,
-            s,
-            boxes,
+            land,
             &mut self.tables.present,
             plan.items(),
             back,
@@ -488,16 +498,14 @@ impl Ascent {
     }
 
     // One pass of bids, and whether each flight had a trip.
-    fn bid_once(&mut self, s: &Scenario, boxes: &Boxes, bids: &mut Bids) -> bool
-        requires made { IsAscentRoomFor (parts_of s.now) self.old }
-        requires boxes { IsMadeFor (parts_of s.now) boxes.now }
-        ensures made { IsAscentRoomFor (parts_of s.now) self.new }
+    fn bid_once(&mut self, problem: Subproblem<'_>, bids: &mut Bids) -> bool
+        requires made { IsAscentRoomFor (parts_in problem) self.old }
+        ensures made { IsAscentRoomFor (parts_in problem.entry) self.new }
     {
         let done = pass(
             &mut self.trips.work,
             &mut self.slopes,
-            s,
-            boxes,
+            problem,
             &mut self.tables.present,
             bids,
         );
@@ -506,18 +514,19 @@ impl Ascent {
     }
 
     // The value of the prices of the last step or pass, nothing where a flight has no trip.
-    fn present_value(&mut self, s: &Scenario, boxes: &Boxes) -> Option<i128>
-        requires made { IsAscentRoomFor (parts_of s.now) self.old }
-        requires boxes { IsMadeFor (parts_of s.now) boxes.now }
-        ensures made { IsAscentRoomFor (parts_of s.now) self.new }
+    fn present_value(&mut self, problem: Subproblem<'_>) -> Option<i128>
+        requires made { IsAscentRoomFor (parts_in problem) self.old }
+        ensures made { IsAscentRoomFor (parts_in problem.entry) self.new }
     {
+        let land = Landscape {
+            problem,
+            slopes: &self.slopes,
+        };
         value_of(
             &mut self.trips.work,
             &mut self.trips.loads,
             &mut self.trips.spreads,
-            &self.slopes,
-            s,
-            boxes,
+            land,
             &self.tables.present,
         )
     }
@@ -623,23 +632,21 @@ fn least_sum(
     work: &mut Work,
     loads: &mut Loads,
     spreads: &mut [Spread],
-    s: &Scenario,
-    boxes: &Boxes,
+    problem: Subproblem<'_>,
     prices: &Prices,
 ) -> Option<i128>
-    requires work { IsWorkFor (parts_of s.now) work.old }
-    requires loads { AreLoadsFor (parts_of s.now) loads.old }
-    requires boxes { IsMadeFor (parts_of s.now) boxes.now }
-    requires prices { IsGood (parts_of s.now) prices.now }
-    ensures work { IsWorkFor (parts_of s.now) work.new }
-    ensures loads { AreLoadsFor (parts_of s.now) loads.new }
+    requires work { IsWorkFor (parts_in problem) work.old }
+    requires loads { AreLoadsFor (parts_in problem) loads.old }
+    requires prices { IsGood (parts_in problem) prices.now }
+    ensures work { IsWorkFor (parts_in problem.entry) work.new }
+    ensures loads { AreLoadsFor (parts_in problem.entry) loads.new }
 {
     loads.clear();
     let mut sum = 0i128;
-    for number in 0..s.flights().len() {
+    for number in 0..problem.s.flights().len() {
         let flight = number as u32;
-        let least = work.least_trip(s, boxes, flight, WEIGHT, prices)?;
-        loads.add(s, flight, work.trip());
+        let least = work.least_trip(problem, flight, WEIGHT, prices)?;
+        loads.add(problem.s, flight, work.trip());
         add_times(spreads, flight, work.trip());
         sum = sum.saturating_add(least);
     }
@@ -652,53 +659,46 @@ fn value_of(
     work: &mut Work,
     loads: &mut Loads,
     spreads: &mut [Spread],
-    slopes: &[Slope],
-    s: &Scenario,
-    boxes: &Boxes,
+    land: Landscape<'_>,
     prices: &Prices,
 ) -> Option<i128>
-    requires work { IsWorkFor (parts_of s.now) work.old }
-    requires loads { AreLoadsFor (parts_of s.now) loads.old }
-    requires slopes { AreSlopesFor (parts_of s.now) slopes.now }
-    requires boxes { IsMadeFor (parts_of s.now) boxes.now }
-    requires prices { IsGood (parts_of s.now) prices.now }
-    ensures work { IsWorkFor (parts_of s.now) work.new }
-    ensures loads { AreLoadsFor (parts_of s.now) loads.new }
+    requires work { IsWorkFor (parts_in land.problem) work.old }
+    requires loads { AreLoadsFor (parts_in land.problem) loads.old }
+    requires prices { IsGood (parts_in land.problem) prices.now }
+    ensures work { IsWorkFor (parts_in land.entry.problem) work.new }
+    ensures loads { AreLoadsFor (parts_in land.entry.problem) loads.new }
 {
-    let least = least_sum(work, loads, spreads, s, boxes, prices)?;
-    Some(least.saturating_sub(paid_by_limits(slopes, s, prices)))
+    let least = least_sum(work, loads, spreads, land.problem, prices)?;
+    Some(least.saturating_sub(paid_by_limits(land.slopes, land.problem.s, prices)))
 }
 
 // The least trips under the prices; no stops where a flight has none.
 fn least_trips(
     alloc: Global,
     work: &mut Work,
-    s: &Scenario,
-    boxes: &Boxes,
+    problem: Subproblem<'_>,
     prices: &Prices,
 ) -> Result<Plan, OutOfMemory>
-    requires work { IsWorkFor (parts_of s.now) work.old }
-    requires boxes { IsMadeFor (parts_of s.now) boxes.now }
-    requires prices { IsGood (parts_of s.now) prices.now }
-    ensures { IsWorkFor (parts_of s.now) work.new }
+    requires work { IsWorkFor (parts_in problem) work.old }
+    requires prices { IsGood (parts_in problem) prices.now }
+    ensures { IsWorkFor (parts_in problem.entry) work.new }
 {
     let mut plan = Plan::empty(alloc);
-    for number in 0..s.flights().len() {
-        let _least = work.least_trip(s, boxes, number as u32, WEIGHT, prices);
+    for number in 0..problem.s.flights().len() {
+        let _least = work.least_trip(problem, number as u32, WEIGHT, prices);
         plan.add(Trip::from_stops(alloc, work.trip())?)?;
     }
     Ok(plan)
 }
 
 // What the prices tell.
-fn bound_of(work: &mut Work, s: &Scenario, boxes: &Boxes, prices: &Prices) -> Bound
-    requires work { IsWorkFor (parts_of s.now) work.old }
-    requires boxes { IsMadeFor (parts_of s.now) boxes.now }
-    requires prices { IsGood (parts_of s.now) prices.now }
-    ensures told { IsPricedBound (parts_of s.now) (box_of boxes.now) climb_weight prices.now
-        result }
+fn bound_of(work: &mut Work, problem: Subproblem<'_>, prices: &Prices) -> Bound
+    requires work { IsWorkFor (parts_in problem) work.old }
+    requires prices { IsGood (parts_in problem) prices.now }
+    ensures told { IsPricedBound (parts_in problem.entry) (box_in problem.entry) climb_weight
+        prices.now result }
     ensures near { IsNearBound result }
-    ensures work { IsWorkFor (parts_of s.now) work.new }
+    ensures work { IsWorkFor (parts_in problem.entry) work.new }
 {
-    priced_bound(work, s, boxes, WEIGHT, prices)
+    priced_bound(work, problem.s, problem.boxes, WEIGHT, prices)
 }

@@ -11,14 +11,15 @@ ghost use Rattle.std.specs.Prelude.{◌≡◌, ◌<◌, ◌≤◌, length, IfSom
 ghost use Rattle.flow_types.specs.declared.parts.Parts.{Parts};
 ghost use Rattle.flow_types.specs.Scenario.{parts_of};
 ghost use Rattle.flight_routes.specs.Work.{IsWorkFor};
-ghost use Rattle.time_windows.specs.Held.{IsMadeFor};
+ghost use Rattle.time_windows.specs.Subproblems.{parts_in};
 ghost use Rattle.price_ascent.specs.Slopes.{AreSlopesFor, IsGood, IsSlopeKey};
 
 use crate::ascent::WEIGHT;
+use crate::landscape::Landscape;
 use crate::slopes::{Slope, Span, set_price, span_of};
 use flight_routes::{Prices, Work};
 use flow_types::{CapKind, Flight, PriceKind, Scenario, Stop, place_at};
-use time_windows::{Boxes, End};
+use time_windows::{End, Subproblem};
 
 // The first bid, in costs of a period of delay.
 const FIRST_BID: u64 = 8;
@@ -70,23 +71,21 @@ impl Bids {
 pub fn pass(
     work: &mut Work,
     slopes: &mut [Slope],
-    s: &Scenario,
-    boxes: &Boxes,
+    problem: Subproblem<'_>,
     prices: &mut Prices,
     bids: &mut Bids,
 ) -> bool
-    requires work { IsWorkFor (parts_of s.now) work.old }
-    requires boxes { IsMadeFor (parts_of s.now) boxes.now }
-    requires slopes { AreSlopesFor (parts_of s.now) slopes.old }
-    requires prices { IsGood (parts_of s.now) prices.old }
-    ensures work { IsWorkFor (parts_of s.now) work.new }
-    ensures slopes { AreSlopesFor (parts_of s.now) slopes.new }
-    ensures prices { IsGood (parts_of s.now) prices.new }
+    requires work { IsWorkFor (parts_in problem) work.old }
+    requires slopes { AreSlopesFor (parts_in problem) slopes.old }
+    requires prices { IsGood (parts_in problem) prices.old }
+    ensures work { IsWorkFor (parts_in problem.entry) work.new }
+    ensures slopes { AreSlopesFor (parts_in problem.entry) slopes.new }
+    ensures prices { IsGood (parts_in problem.entry) prices.new }
 {
-    let count = s.flights().len();
+    let count = problem.s.flights().len();
     for turn in 0..count {
         let number = if bids.back { count - 1 - turn } else { turn };
-        if !bid_for(work, slopes, s, boxes, prices, *bids, number as u32) {
+        if !bid_for(work, slopes, problem, prices, *bids, number as u32) {
             return false;
         }
         bids.now = bids.now.saturating_add(1);
@@ -95,7 +94,7 @@ pub fn pass(
         first: 0,
         end: slopes.len(),
     };
-    settle(slopes, s, prices, *bids, all);
+    settle(slopes, problem.s, prices, *bids, all);
     for at in 0..slopes.len() {
         set_settled(slopes, at, 0);
     }
@@ -107,59 +106,56 @@ pub fn pass(
 fn bid_for(
     work: &mut Work,
     slopes: &mut [Slope],
-    s: &Scenario,
-    boxes: &Boxes,
+    problem: Subproblem<'_>,
     prices: &mut Prices,
     bids: Bids,
     flight: u32,
 ) -> bool
-    requires work { IsWorkFor (parts_of s.now) work.old }
-    requires boxes { IsMadeFor (parts_of s.now) boxes.now }
-    requires slopes { AreSlopesFor (parts_of s.now) slopes.old }
-    requires prices { IsGood (parts_of s.now) prices.old }
-    requires flight { flight < length (parts_of s.now).flights }
-    ensures work { IsWorkFor (parts_of s.now) work.new }
-    ensures slopes { AreSlopesFor (parts_of s.now) slopes.new }
-    ensures prices { IsGood (parts_of s.now) prices.new }
+    requires work { IsWorkFor (parts_in problem) work.old }
+    requires slopes { AreSlopesFor (parts_in problem) slopes.old }
+    requires prices { IsGood (parts_in problem) prices.old }
+    requires flight { flight < length (parts_in problem).flights }
+    ensures work { IsWorkFor (parts_in problem.entry) work.new }
+    ensures slopes { AreSlopesFor (parts_in problem.entry) slopes.new }
+    ensures prices { IsGood (parts_in problem.entry) prices.new }
 {
-    settle_flight(slopes, s, boxes, prices, bids, flight);
-    if work.least_trip(s, boxes, flight, WEIGHT, prices).is_none() {
+    settle_flight(slopes, problem, prices, bids, flight);
+    if work.least_trip(problem, flight, WEIGHT, prices).is_none() {
         return false;
     }
-    raise_trip(slopes, s, boxes, prices, bids, flight, work.trip());
+    let land = Landscape { problem, slopes };
+    raise_trip(land, prices, bids, flight, work.trip());
     true
 }
 
 // Settles all that the flight may use in the box.
 fn settle_flight(
     slopes: &mut [Slope],
-    s: &Scenario,
-    boxes: &Boxes,
+    problem: Subproblem<'_>,
     prices: &mut Prices,
     bids: Bids,
     flight: u32,
 )
-    requires boxes { IsMadeFor (parts_of s.now) boxes.now }
-    requires slopes { AreSlopesFor (parts_of s.now) slopes.old }
-    requires prices { IsGood (parts_of s.now) prices.old }
-    requires flight { flight < length (parts_of s.now).flights }
-    ensures slopes { AreSlopesFor (parts_of s.now) slopes.new }
-    ensures prices { IsGood (parts_of s.now) prices.new }
+    requires slopes { AreSlopesFor (parts_in problem) slopes.old }
+    requires prices { IsGood (parts_in problem) prices.old }
+    requires flight { flight < length (parts_in problem).flights }
+    ensures slopes { AreSlopesFor (parts_in problem.entry) slopes.new }
+    ensures prices { IsGood (parts_in problem.entry) prices.new }
 {
-    let details = &s.flights()[flight as usize];
+    let details = &problem.s.flights()[flight as usize];
     let nodes = details.nodes.items().len();
-    let latest = match boxes.window(flight, (nodes - 1) as u16) {
+    let latest = match problem.boxes.window(flight, (nodes - 1) as u16) {
         None => 0,
         Some(window) => window.hi,
     };
     for at in 0..nodes {
         let node = at as u16;
-        if let Some(window) = boxes.window(flight, node) {
+        if let Some(window) = problem.boxes.window(flight, node) {
             let kind = kind_at(details, node);
             let until = if at == 0 { window.hi } else { latest };
             let row = place_at(details, node);
             let span = span_of(slopes, kind, row, window.lo, until.saturating_add(1));
-            settle(slopes, s, prices, bids, span);
+            settle(slopes, problem.s, prices, bids, span);
         }
     }
 }
@@ -191,61 +187,41 @@ pub fn span_of_stop(slopes: &[Slope], flight: &Flight, stops: &[Stop], at: usize
 }
 
 // Raises what the trip of the flight pays by the bid, and lowers what it is paid.
-fn raise_trip(
-    slopes: &[Slope],
-    s: &Scenario,
-    boxes: &Boxes,
-    prices: &mut Prices,
-    bids: Bids,
-    flight: u32,
-    stops: &[Stop],
-)
-    requires boxes { IsMadeFor (parts_of s.now) boxes.now }
-    requires slopes { AreSlopesFor (parts_of s.now) slopes.now }
-    requires prices { IsGood (parts_of s.now) prices.old }
-    requires flight { flight < length (parts_of s.now).flights }
-    ensures prices { IsGood (parts_of s.now) prices.new }
+fn raise_trip(land: Landscape<'_>, prices: &mut Prices, bids: Bids, flight: u32, stops: &[Stop])
+    requires prices { IsGood (parts_in land.problem) prices.old }
+    requires flight { flight < length (parts_in land.problem).flights }
+    ensures prices { IsGood (parts_in land.entry.problem) prices.new }
 {
-    let details = &s.flights()[flight as usize];
+    let details = &land.problem.s.flights()[flight as usize];
     for at in 0..stops.len() {
-        let span = span_of_stop(slopes, details, stops, at);
-        raise(slopes, s, prices, span, bids.bid);
+        let span = span_of_stop(land.slopes, details, stops, at);
+        raise(land, prices, span, bids.bid);
     }
-    raise_turns(slopes, s, boxes, prices, bids, flight, stops);
+    raise_turns(land, prices, bids, flight, stops);
 }
 
 // Raises what the flight pays for its connections from its departure on, and lowers what it is paid
 // from its arrival on.
-fn raise_turns(
-    slopes: &[Slope],
-    s: &Scenario,
-    boxes: &Boxes,
-    prices: &mut Prices,
-    bids: Bids,
-    flight: u32,
-    stops: &[Stop],
-)
-    requires boxes { IsMadeFor (parts_of s.now) boxes.now }
-    requires slopes { AreSlopesFor (parts_of s.now) slopes.now }
-    requires prices { IsGood (parts_of s.now) prices.old }
-    requires flight { flight < length (parts_of s.now).flights }
-    ensures prices { IsGood (parts_of s.now) prices.new }
+fn raise_turns(land: Landscape<'_>, prices: &mut Prices, bids: Bids, flight: u32, stops: &[Stop])
+    requires prices { IsGood (parts_in land.problem) prices.old }
+    requires flight { flight < length (parts_in land.problem).flights }
+    ensures prices { IsGood (parts_in land.entry.problem) prices.new }
 {
-    let end = s.day().periods;
-    let turns = boxes.turns();
+    let end = land.problem.s.day().periods;
+    let turns = land.problem.boxes.turns();
     if let Some(first) = stops.first() {
         for turn in turns.of_flight(flight, End::Departure) {
             let kind = PriceKind::Connection;
-            let span = span_of(slopes, kind, turn.connection, first.time, end);
-            raise(slopes, s, prices, span, bids.bid);
+            let span = span_of(land.slopes, kind, turn.connection, first.time, end);
+            raise(land, prices, span, bids.bid);
         }
     }
     if let Some(last) = stops.last() {
         for turn in turns.of_flight(flight, End::Arrival) {
             let ready = last.time.saturating_add(turn.turnaround);
             let kind = PriceKind::Connection;
-            let span = span_of(slopes, kind, turn.connection, ready, end);
-            lower(slopes, s, prices, span, bids.bid);
+            let span = span_of(land.slopes, kind, turn.connection, ready, end);
+            lower(land, prices, span, bids.bid);
         }
     }
 }
@@ -290,28 +266,31 @@ fn set_settled(slopes: &mut [Slope], at: usize, now: u32)
 }
 
 // Raises each price of the span.
-fn raise(slopes: &[Slope], s: &Scenario, prices: &mut Prices, span: Span, by: u64)
-    requires slopes { AreSlopesFor (parts_of s.now) slopes.now }
-    requires prices { IsGood (parts_of s.now) prices.old }
-    requires span { span.end ≤ length slopes.now }
-    ensures prices { IsGood (parts_of s.now) prices.new }
+fn raise(land: Landscape<'_>, prices: &mut Prices, span: Span, by: u64)
+    requires prices { IsGood (parts_in land.problem) prices.old }
+    requires span { span.end ≤ length land.slopes.now }
+    ensures prices { IsGood (parts_in land.entry.problem) prices.new }
 {
     for at in span.first..span.end {
-        let key = slopes[at].key;
+        let key = land.slopes[at].key;
         let price = prices.get(key).saturating_add(by).min(1 << 60);
-        set_price(s, key, price as i64, prices);
+        set_price(land.problem.s, key, price as i64, prices);
     }
 }
 
 // Lowers each price of the span.
-fn lower(slopes: &[Slope], s: &Scenario, prices: &mut Prices, span: Span, by: u64)
-    requires slopes { AreSlopesFor (parts_of s.now) slopes.now }
-    requires prices { IsGood (parts_of s.now) prices.old }
-    requires span { span.end ≤ length slopes.now }
-    ensures prices { IsGood (parts_of s.now) prices.new }
+fn lower(land: Landscape<'_>, prices: &mut Prices, span: Span, by: u64)
+    requires prices { IsGood (parts_in land.problem) prices.old }
+    requires span { span.end ≤ length land.slopes.now }
+    ensures prices { IsGood (parts_in land.entry.problem) prices.new }
 {
     for at in span.first..span.end {
-        let key = slopes[at].key;
-        set_price(s, key, prices.get(key).saturating_sub(by) as i64, prices);
+        let key = land.slopes[at].key;
+        set_price(
+            land.problem.s,
+            key,
+            prices.get(key).saturating_sub(by) as i64,
+            prices,
+        );
     }
 }

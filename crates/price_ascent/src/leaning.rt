@@ -12,16 +12,17 @@ ghost use Rattle.std.specs.Prelude.{◌≡◌, ◌<◌, ◌≤◌, length};
 ghost use Rattle.flow_types.specs.Scenario.{parts_of};
 ghost use Rattle.flight_routes.specs.Work.{IsWorkFor};
 ghost use Rattle.plan_rules.specs.Loads.{IsMadeFor as AreLoadsFor};
-ghost use Rattle.time_windows.specs.Held.{IsMadeFor};
+ghost use Rattle.time_windows.specs.Subproblems.{parts_in};
 ghost use Rattle.price_ascent.specs.Slopes.{AreSlopesFor, IsGood, IsSlopeKey};
 
 use crate::ascent::WEIGHT;
 use crate::bids::span_of_stop;
+use crate::landscape::Landscape;
 use crate::slopes::{Slope, Span, excess_of, set_price, span_of};
 use flight_routes::{Prices, Work};
 use flow_types::{PriceKind, Scenario, Stop, Trip};
 use plan_rules::{Loads, trip_cost};
-use time_windows::{Boxes, End};
+use time_windows::End;
 
 // How often prices are raised for a flight in a pass.
 const MOST_RAISES: u32 = 4;
@@ -31,28 +32,24 @@ const MOST_RAISES: u32 = 4;
 pub fn lean(
     work: &mut Work,
     loads: &mut Loads,
-    slopes: &[Slope],
-    s: &Scenario,
-    boxes: &Boxes,
+    land: Landscape<'_>,
     prices: &mut Prices,
     plan: &[Trip],
     back: bool,
 ) -> bool
-    requires work { IsWorkFor (parts_of s.now) work.old }
-    requires loads { AreLoadsFor (parts_of s.now) loads.old }
-    requires slopes { AreSlopesFor (parts_of s.now) slopes.now }
-    requires boxes { IsMadeFor (parts_of s.now) boxes.now }
-    requires prices { IsGood (parts_of s.now) prices.old }
-    ensures work { IsWorkFor (parts_of s.now) work.new }
-    ensures loads { AreLoadsFor (parts_of s.now) loads.new }
-    ensures prices { IsGood (parts_of s.now) prices.new }
+    requires work { IsWorkFor (parts_in land.problem) work.old }
+    requires loads { AreLoadsFor (parts_in land.problem) loads.old }
+    requires prices { IsGood (parts_in land.problem) prices.old }
+    ensures work { IsWorkFor (parts_in land.entry.problem) work.new }
+    ensures loads { AreLoadsFor (parts_in land.entry.problem) loads.new }
+    ensures prices { IsGood (parts_in land.entry.problem) prices.new }
 {
-    count_all(loads, s, plan);
-    let count = s.flights().len();
+    count_all(loads, land.problem.s, plan);
+    let count = land.problem.s.flights().len();
     let mut moved = false;
     for turn in 0..count {
         let number = if back { count - 1 - turn } else { turn };
-        moved = lean_for(work, loads, slopes, s, boxes, prices, plan, number as u32) || moved;
+        moved = lean_for(work, loads, land, prices, plan, number as u32) || moved;
     }
     moved
 }
@@ -84,30 +81,26 @@ fn count_one(loads: &mut Loads, s: &Scenario, plan: &[Trip], flight: u32)
 fn lean_for(
     work: &mut Work,
     loads: &mut Loads,
-    slopes: &[Slope],
-    s: &Scenario,
-    boxes: &Boxes,
+    land: Landscape<'_>,
     prices: &mut Prices,
     plan: &[Trip],
     flight: u32,
 ) -> bool
-    requires work { IsWorkFor (parts_of s.now) work.old }
-    requires loads { AreLoadsFor (parts_of s.now) loads.old }
-    requires slopes { AreSlopesFor (parts_of s.now) slopes.now }
-    requires boxes { IsMadeFor (parts_of s.now) boxes.now }
-    requires prices { IsGood (parts_of s.now) prices.old }
-    requires flight { flight < length (parts_of s.now).flights }
-    ensures work { IsWorkFor (parts_of s.now) work.new }
-    ensures loads { AreLoadsFor (parts_of s.now) loads.new }
-    ensures prices { IsGood (parts_of s.now) prices.new }
+    requires work { IsWorkFor (parts_in land.problem) work.old }
+    requires loads { AreLoadsFor (parts_in land.problem) loads.old }
+    requires prices { IsGood (parts_in land.problem) prices.old }
+    requires flight { flight < length (parts_in land.problem).flights }
+    ensures work { IsWorkFor (parts_in land.entry.problem) work.new }
+    ensures loads { AreLoadsFor (parts_in land.entry.problem) loads.new }
+    ensures prices { IsGood (parts_in land.entry.problem) prices.new }
 {
     match plan.get(flight as usize) {
         None => false,
         Some(trip) => {
             let stops = trip.items();
-            loads.remove(s, flight, stops);
-            let moved = raise_others(work, loads, slopes, s, boxes, prices, flight, stops);
-            loads.add(s, flight, stops);
+            loads.remove(land.problem.s, flight, stops);
+            let moved = raise_others(work, loads, land, prices, flight, stops);
+            loads.add(land.problem.s, flight, stops);
             moved
         }
     }
@@ -118,25 +111,21 @@ fn lean_for(
 fn raise_others(
     work: &mut Work,
     loads: &Loads,
-    slopes: &[Slope],
-    s: &Scenario,
-    boxes: &Boxes,
+    land: Landscape<'_>,
     prices: &mut Prices,
     flight: u32,
     stops: &[Stop],
 ) -> bool
-    requires work { IsWorkFor (parts_of s.now) work.old }
-    requires loads { AreLoadsFor (parts_of s.now) loads.now }
-    requires slopes { AreSlopesFor (parts_of s.now) slopes.now }
-    requires boxes { IsMadeFor (parts_of s.now) boxes.now }
-    requires prices { IsGood (parts_of s.now) prices.old }
-    requires flight { flight < length (parts_of s.now).flights }
-    ensures work { IsWorkFor (parts_of s.now) work.new }
-    ensures prices { IsGood (parts_of s.now) prices.new }
+    requires work { IsWorkFor (parts_in land.problem) work.old }
+    requires loads { AreLoadsFor (parts_in land.problem) loads.now }
+    requires prices { IsGood (parts_in land.problem) prices.old }
+    requires flight { flight < length (parts_in land.problem).flights }
+    ensures work { IsWorkFor (parts_in land.entry.problem) work.new }
+    ensures prices { IsGood (parts_in land.entry.problem) prices.new }
 {
     let mut moved = false;
     for _ in 0..MOST_RAISES {
-        if !raise_least(work, loads, slopes, s, boxes, prices, flight, stops) {
+        if !raise_least(work, loads, land, prices, flight, stops) {
             return moved;
         }
         moved = true;
@@ -149,27 +138,23 @@ fn raise_others(
 fn raise_least(
     work: &mut Work,
     loads: &Loads,
-    slopes: &[Slope],
-    s: &Scenario,
-    boxes: &Boxes,
+    land: Landscape<'_>,
     prices: &mut Prices,
     flight: u32,
     stops: &[Stop],
 ) -> bool
-    requires work { IsWorkFor (parts_of s.now) work.old }
-    requires loads { AreLoadsFor (parts_of s.now) loads.now }
-    requires slopes { AreSlopesFor (parts_of s.now) slopes.now }
-    requires boxes { IsMadeFor (parts_of s.now) boxes.now }
-    requires prices { IsGood (parts_of s.now) prices.old }
-    requires flight { flight < length (parts_of s.now).flights }
-    ensures work { IsWorkFor (parts_of s.now) work.new }
-    ensures prices { IsGood (parts_of s.now) prices.new }
+    requires work { IsWorkFor (parts_in land.problem) work.old }
+    requires loads { AreLoadsFor (parts_in land.problem) loads.now }
+    requires prices { IsGood (parts_in land.problem) prices.old }
+    requires flight { flight < length (parts_in land.problem).flights }
+    ensures work { IsWorkFor (parts_in land.entry.problem) work.new }
+    ensures prices { IsGood (parts_in land.entry.problem) prices.new }
 {
-    let Some(least) = work.least_trip(s, boxes, flight, WEIGHT, prices) else {
+    let Some(least) = work.least_trip(land.problem, flight, WEIGHT, prices) else {
         return false;
     };
-    let more = priced(slopes, s, boxes, prices, flight, stops).saturating_sub(least);
-    let full = full_on(slopes, s, loads, flight, work.trip());
+    let more = priced(land, prices, flight, stops).saturating_sub(least);
+    let full = full_on(land, loads, flight, work.trip());
     if more <= 0 || full == 0 {
         return false;
     }
@@ -178,106 +163,86 @@ fn raise_least(
         .unwrap_or(0)
         .saturating_add(1);
     let by = by.clamp(0, 1 << 60) as u64;
-    raise_full(slopes, s, loads, prices, flight, work.trip(), by);
+    raise_full(land, loads, prices, flight, work.trip(), by);
     true
 }
 
 // What the stops cost the flight, weighted, and pay.
-fn priced(
-    slopes: &[Slope],
-    s: &Scenario,
-    boxes: &Boxes,
-    prices: &Prices,
-    flight: u32,
-    stops: &[Stop],
-) -> i128
-    requires slopes { AreSlopesFor (parts_of s.now) slopes.now }
-    requires boxes { IsMadeFor (parts_of s.now) boxes.now }
-    requires prices { IsGood (parts_of s.now) prices.now }
-    requires flight { flight < length (parts_of s.now).flights }
+fn priced(land: Landscape<'_>, prices: &Prices, flight: u32, stops: &[Stop]) -> i128
+    requires prices { IsGood (parts_in land.problem) prices.now }
+    requires flight { flight < length (parts_in land.problem).flights }
 {
-    let details = &s.flights()[flight as usize];
-    let cost = i128::from(trip_cost(s, flight, stops)).saturating_mul(i128::from(WEIGHT));
-    let mut sum = cost.saturating_add(paid_for_turns(slopes, s, boxes, prices, flight, stops));
+    let details = &land.problem.s.flights()[flight as usize];
+    let cost = i128::from(trip_cost(land.problem.s, flight, stops));
+    let cost = cost.saturating_mul(i128::from(WEIGHT));
+    let mut sum = cost.saturating_add(paid_for_turns(land, prices, flight, stops));
     for at in 0..stops.len() {
-        let span = span_of_stop(slopes, details, stops, at);
-        sum = sum.saturating_add(paid_in(slopes, s, prices, span));
+        let span = span_of_stop(land.slopes, details, stops, at);
+        sum = sum.saturating_add(paid_in(land, prices, span));
     }
     sum
 }
 
 // What they pay for connections from their departure on, less what they are paid from their arrival
 // on.
-fn paid_for_turns(
-    slopes: &[Slope],
-    s: &Scenario,
-    boxes: &Boxes,
-    prices: &Prices,
-    flight: u32,
-    stops: &[Stop],
-) -> i128
-    requires slopes { AreSlopesFor (parts_of s.now) slopes.now }
-    requires boxes { IsMadeFor (parts_of s.now) boxes.now }
-    requires prices { IsGood (parts_of s.now) prices.now }
-    requires flight { flight < length (parts_of s.now).flights }
+fn paid_for_turns(land: Landscape<'_>, prices: &Prices, flight: u32, stops: &[Stop]) -> i128
+    requires prices { IsGood (parts_in land.problem) prices.now }
+    requires flight { flight < length (parts_in land.problem).flights }
 {
-    let end = s.day().periods;
+    let end = land.problem.s.day().periods;
     let kind = PriceKind::Connection;
-    let turns = boxes.turns();
+    let turns = land.problem.boxes.turns();
     let mut sum = 0i128;
     if let Some(first) = stops.first() {
         for turn in turns.of_flight(flight, End::Departure) {
-            let span = span_of(slopes, kind, turn.connection, first.time, end);
-            sum = sum.saturating_add(paid_in(slopes, s, prices, span));
+            let span = span_of(land.slopes, kind, turn.connection, first.time, end);
+            sum = sum.saturating_add(paid_in(land, prices, span));
         }
     }
     if let Some(last) = stops.last() {
         for turn in turns.of_flight(flight, End::Arrival) {
             let ready = last.time.saturating_add(turn.turnaround);
-            let span = span_of(slopes, kind, turn.connection, ready, end);
-            sum = sum.saturating_sub(paid_in(slopes, s, prices, span));
+            let span = span_of(land.slopes, kind, turn.connection, ready, end);
+            sum = sum.saturating_sub(paid_in(land, prices, span));
         }
     }
     sum
 }
 
 // The prices of the span together.
-fn paid_in(slopes: &[Slope], s: &Scenario, prices: &Prices, span: Span) -> i128
-    requires slopes { AreSlopesFor (parts_of s.now) slopes.now }
-    requires prices { IsGood (parts_of s.now) prices.now }
-    requires span { span.end ≤ length slopes.now }
+fn paid_in(land: Landscape<'_>, prices: &Prices, span: Span) -> i128
+    requires prices { IsGood (parts_in land.problem) prices.now }
+    requires span { span.end ≤ length land.slopes.now }
 {
     let mut sum = 0i128;
     for at in span.first..span.end {
-        sum = sum.saturating_add(i128::from(prices.get(slopes[at].key)));
+        sum = sum.saturating_add(i128::from(prices.get(land.slopes[at].key)));
     }
     sum
 }
 
 // How many prices the stops pay for what is full.
-fn full_on(slopes: &[Slope], s: &Scenario, loads: &Loads, flight: u32, stops: &[Stop]) -> u32
-    requires slopes { AreSlopesFor (parts_of s.now) slopes.now }
-    requires loads { AreLoadsFor (parts_of s.now) loads.now }
-    requires flight { flight < length (parts_of s.now).flights }
+fn full_on(land: Landscape<'_>, loads: &Loads, flight: u32, stops: &[Stop]) -> u32
+    requires loads { AreLoadsFor (parts_in land.problem) loads.now }
+    requires flight { flight < length (parts_in land.problem).flights }
 {
-    let details = &s.flights()[flight as usize];
+    let details = &land.problem.s.flights()[flight as usize];
     let mut count = 0u32;
     for at in 0..stops.len() {
-        let span = span_of_stop(slopes, details, stops, at);
-        count = count.saturating_add(full_in(slopes, s, loads, span));
+        let span = span_of_stop(land.slopes, details, stops, at);
+        count = count.saturating_add(full_in(land, loads, span));
     }
     count
 }
 
 // How many of the span are.
-fn full_in(slopes: &[Slope], s: &Scenario, loads: &Loads, span: Span) -> u32
-    requires slopes { AreSlopesFor (parts_of s.now) slopes.now }
-    requires loads { AreLoadsFor (parts_of s.now) loads.now }
-    requires span { span.end ≤ length slopes.now }
+fn full_in(land: Landscape<'_>, loads: &Loads, span: Span) -> u32
+    requires loads { AreLoadsFor (parts_in land.problem) loads.now }
+    requires span { span.end ≤ length land.slopes.now }
 {
     let mut count = 0u32;
     for at in span.first..span.end {
-        if is_full(s, loads, slopes[at]) {
+        if is_full(land.problem.s, loads, land.slopes[at]) {
             count = count.saturating_add(1);
         }
     }
@@ -294,44 +259,34 @@ fn is_full(s: &Scenario, loads: &Loads, slope: Slope) -> bool
 
 // Raises the prices that the stops pay for what is full.
 fn raise_full(
-    slopes: &[Slope],
-    s: &Scenario,
+    land: Landscape<'_>,
     loads: &Loads,
     prices: &mut Prices,
     flight: u32,
     stops: &[Stop],
     by: u64,
 )
-    requires slopes { AreSlopesFor (parts_of s.now) slopes.now }
-    requires loads { AreLoadsFor (parts_of s.now) loads.now }
-    requires prices { IsGood (parts_of s.now) prices.old }
-    requires flight { flight < length (parts_of s.now).flights }
-    ensures prices { IsGood (parts_of s.now) prices.new }
+    requires loads { AreLoadsFor (parts_in land.problem) loads.now }
+    requires prices { IsGood (parts_in land.problem) prices.old }
+    requires flight { flight < length (parts_in land.problem).flights }
+    ensures prices { IsGood (parts_in land.entry.problem) prices.new }
 {
-    let details = &s.flights()[flight as usize];
+    let details = &land.problem.s.flights()[flight as usize];
     for at in 0..stops.len() {
-        let span = span_of_stop(slopes, details, stops, at);
-        raise_full_in(slopes, s, loads, prices, span, by);
+        let span = span_of_stop(land.slopes, details, stops, at);
+        raise_full_in(land, loads, prices, span, by);
     }
 }
 
 // Raises those of the span that are full.
-fn raise_full_in(
-    slopes: &[Slope],
-    s: &Scenario,
-    loads: &Loads,
-    prices: &mut Prices,
-    span: Span,
-    by: u64,
-)
-    requires slopes { AreSlopesFor (parts_of s.now) slopes.now }
-    requires loads { AreLoadsFor (parts_of s.now) loads.now }
-    requires prices { IsGood (parts_of s.now) prices.old }
-    requires span { span.end ≤ length slopes.now }
-    ensures prices { IsGood (parts_of s.now) prices.new }
+fn raise_full_in(land: Landscape<'_>, loads: &Loads, prices: &mut Prices, span: Span, by: u64)
+    requires loads { AreLoadsFor (parts_in land.problem) loads.now }
+    requires prices { IsGood (parts_in land.problem) prices.old }
+    requires span { span.end ≤ length land.slopes.now }
+    ensures prices { IsGood (parts_in land.entry.problem) prices.new }
 {
     for at in span.first..span.end {
-        raise_if_full(s, loads, slopes[at], prices, by);
+        raise_if_full(land.problem.s, loads, land.slopes[at], prices, by);
     }
 }
 

@@ -38,6 +38,7 @@
 mod ascent;
 mod bids;
 mod kept;
+mod landscape;
 mod leaning;
 mod pace;
 mod slopes;

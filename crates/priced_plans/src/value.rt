@@ -7,13 +7,14 @@ ghost use Rattle.flight_routes.specs.Prices.{ArePricesOf, block_of};
 ghost use Rattle.exact_sums.specs.Near.{IsNear};
 ghost use Rattle.flight_routes.specs.Work.{IsWorkFor};
 ghost use Rattle.time_windows.specs.Held.{IsMadeFor, box_of};
+ghost use Rattle.time_windows.specs.Subproblems.{box_in, parts_in};
 ghost use Rattle.priced_plans.specs.Values.{IsPricedSum, IsPricedValue, capacity_price, limit_price};
 ghost use Rattle.priced_plans.specs.Valuing.{AreSmall, LacksTrip, row_price};
 
 use exact_sums::plus;
 use flight_routes::{Prices, Work};
 use flow_types::{CapKind, PriceKind, Scenario, capacity_at};
-use time_windows::Boxes;
+use time_windows::{Boxes, Subproblem};
 
 /// The value of the prices in the box, at this weight of the costs: the least of weight times cost
 /// plus prices over the trips of each flight, added up, less what all capacities would pay. None
@@ -40,7 +41,7 @@ pub fn priced_value(
     ensures work { IsWorkFor (parts_of s.now) work.new }
 {
     let limit = limit_price(s, prices);
-    match least_sum(work, s, boxes, weight, prices) {
+    match least_sum(work, Subproblem { s, boxes }, weight, prices) {
         None => None,
         Some(sum) => Some(sum - limit as i128),
     }
@@ -48,30 +49,20 @@ pub fn priced_value(
 
 // The least of the trips of each flight, added up.
 #[tactic(auto, using(crate::proofs::NearFacts::least_small, crate::proofs::NearFacts::part_more))]
-fn least_sum(
-    work: &mut Work,
-    s: &Scenario,
-    boxes: &Boxes,
-    weight: u64,
-    prices: &Prices,
-) -> Option<i128>
-    requires work { IsWorkFor (parts_of s.now) work.old }
-    requires boxes { IsMadeFor (parts_of s.now) boxes.now }
+fn least_sum(work: &mut Work, problem: Subproblem<'_>, weight: u64, prices: &Prices) -> Option<i128>
+    requires work { IsWorkFor (parts_in problem) work.old }
     requires weight { weight < 2 ^ 62 }
-    requires prices { ArePricesOf (parts_of s.now) prices.now }
+    requires prices { ArePricesOf (parts_in problem) prices.now }
     requires small { AreSmall prices.now }
-    ensures sum { MatchOption result (LacksTrip (parts_of s.now) (box_of boxes.now))
-        (IsPricedSum (parts_of s.now) (box_of boxes.now) weight prices.now
-        (length (parts_of s.now).flights)) }
+    ensures sum { MatchOption result (LacksTrip (parts_in problem.entry) (box_in problem.entry))
+        (IsPricedSum (parts_in problem.entry) (box_in problem.entry) weight prices.now
+        (length (parts_in problem.entry).flights)) }
     ensures within { IfSome result (IsNear (2 ^ 120)) }
-    ensures work { IsWorkFor (parts_of s.now) work.new }
+    ensures work { IsWorkFor (parts_in problem.entry) work.new }
 {
     let mut sum = Some(0);
-    for number in 0..s.flights().len() {
-        sum = plus(
-            sum,
-            work.least_trip(s, boxes, number as u32, weight, prices),
-        );
+    for number in 0..problem.s.flights().len() {
+        sum = plus(sum, work.least_trip(problem, number as u32, weight, prices));
     }
     sum
 }

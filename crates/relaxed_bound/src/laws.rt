@@ -38,5 +38,6 @@ pub fn run_leaves_tell_no_less()
         → IsBoxOf parts box
         → IsTight parts box → Dual weight rows ≡ relaxed_leaf parts pool box limits cutoff
         → IsDualValue parts pool box weight rows value
-        → TellsNoLess (program_of parts pool box) (run_of parts pool box limits cutoff) weight value }
+        → TellsNoLess (program_of parts pool box) (run_of parts pool box limits cutoff) weight
+        value }
 {}

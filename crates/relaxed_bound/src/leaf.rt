@@ -3,25 +3,21 @@ ghost use Rattle.std.specs.Prelude.{◌≡◌, [], IfOk, IfSome};
 ghost use Rattle.branch_tree.specs.declared.leaf.Leaf.TheVariants.{Dual};
 ghost use Rattle.branch_tree.specs.Leaves.{IsInRange};
 ghost use Rattle.cut_rows.specs.Pools.{IsPoolOf};
-ghost use Rattle.cut_rows.specs.Table.{IsTableFor};
-ghost use Rattle.flow_types.specs.Scenario.{parts_of};
+ghost use Rattle.cut_rows.specs.Relaxations.{box_under, parts_under};
 ghost use Rattle.relaxed_bound.specs.Licence.{IsLicensed, IsUnreached, end_of};
 ghost use Rattle.relaxed_bound.specs.Relaxed.{HasBound, relaxed_leaf, told_leaf};
 ghost use Rattle.relaxed_bound.specs.Telling.{AreWeights, IsRunLeaf};
 ghost use Rattle.relaxed_bound.specs.Point.{AreToldFractions, IsPointIn, IsToldPoint, point_of};
 ghost use Rattle.scaled_simplex.specs.Run.{simplex_run};
-ghost use Rattle.time_windows.specs.Held.{IsMadeFor, box_of};
-ghost use Rattle.time_windows.specs.Tight.{IsTight};
 
 use crate::limits::Limits;
 use branch_tree::Leaf;
 use bytime_model::{Multipliers, RowNames, Vars};
-use cut_rows::{Pool, Table};
-use flow_types::{OutOfMemory, Scenario};
+use cut_rows::Relaxation;
+use flow_types::OutOfMemory;
 use presolve::{Flags, Presolved, Refused, leaf_of, program_within};
 use scaled_simplex::{End, Fractions, Numerators, Program, Run, Solver, Weights};
 use std::alloc::Global;
-use time_windows::Boxes;
 
 /// What the relaxation of a box tells.
 #[derive(Debug, Drop)]
@@ -191,43 +187,40 @@ fn bare_leaf(alloc: Global) -> Leaf
 
 /// What the relaxation of the box tells, by a run of the box's program within the limits and up to
 /// the cutoff: a Dual leaf, whose value by its weight, rounded up, reaches the cutoff, or the box
-/// may be split; and the point of a run that ended Optimal. The box is a tight one of the scenario,
-/// as the table is. The program isn't made whole where there is no room for its first tableau; the
-/// leaf is then that of one unit of the cost and no rows.
+/// may be split; and the point of a run that ended Optimal. The program isn't made whole where
+/// there is no room for its first tableau; the leaf is then that of one unit of the cost and no
+/// rows.
 ///
-/// It takes what `program_within` and `Solver::new` take. Time: for each pivot the rows that have an
-/// entry in its column.
-#[tactic(auto, using(crate::proofs::BareFacts::bare_is, crate::proofs::BareFacts::bare_range, crate::proofs::BareFacts::bare_has, crate::proofs::BareFacts::bare_end, crate::proofs::BareFacts::bare_licensed, crate::proofs::ToldFacts::run_is, crate::proofs::ToldFacts::run_end, crate::proofs::ToldFacts::run_licensed, crate::proofs::PointFacts::bare_point, crate::proofs::PointFacts::point_told, crate::proofs::PointFacts::point_is))]
+/// It takes what `program_within` and `Solver::new` take. Time: for each pivot the rows that have
+/// an entry in its column.
+#[tactic(auto, using(crate::proofs::BareFacts::bare_is, crate::proofs::BareFacts::bare_range, crate::proofs::BareFacts::bare_has, crate::proofs::BareFacts::bare_end, crate::proofs::BareFacts::bare_licensed, crate::proofs::ToldFacts::run_is, crate::proofs::ToldFacts::run_end, crate::proofs::PointFacts::bare_point, crate::proofs::PointFacts::point_told))]
 pub fn relax(
     alloc: Global,
-    s: &Scenario,
-    pool: &Pool,
-    boxes: &Boxes,
-    table: &Table,
+    relaxation: Relaxation<'_>,
     limits: Limits,
     cutoff: Option<i64>,
 ) -> Result<Relaxed, OutOfMemory>
-    requires table { IsTableFor (parts_of s.now) table.now }
-    requires pool { IsPoolOf (parts_of s.now) pool.now }
-    requires made { IsMadeFor (parts_of s.now) boxes.now }
-    requires tight { IsTight (parts_of s.now) (box_of boxes.now) }
+    requires pool { IsPoolOf (parts_under relaxation) relaxation.pool.now }
     ensures leaf { IfOk result (λ relaxed. relaxed.leaf
-        ≡ relaxed_leaf (parts_of s.now) pool.now (box_of boxes.now) limits cutoff) }
+        ≡ relaxed_leaf (parts_under relaxation.entry) relaxation.entry.pool.now
+        (box_under relaxation.entry) limits cutoff) }
     ensures end { IfOk result (λ relaxed. relaxed.end
-        ≡ end_of (parts_of s.now) pool.now (box_of boxes.now) limits cutoff) }
+        ≡ end_of (parts_under relaxation.entry) relaxation.entry.pool.now
+        (box_under relaxation.entry) limits cutoff) }
     ensures range { IfOk result (λ relaxed. IsInRange relaxed.leaf) }
-    ensures some { IfOk result (λ relaxed. HasBound (parts_of s.now) pool.now (box_of boxes.now)
-        relaxed.leaf) }
+    ensures some { IfOk result (λ relaxed. HasBound (parts_under relaxation.entry)
+        relaxation.entry.pool.now (box_under relaxation.entry) relaxed.leaf) }
     ensures point { IfOk result (λ relaxed. IfSome relaxed.point
-        (IsPointIn (parts_of s.now) pool.now (box_of boxes.now))) }
-    ensures told { IfOk result (λ relaxed. IsToldPoint (parts_of s.now) pool.now
-        (box_of boxes.now) limits
-        cutoff relaxed.point) }
-    ensures licensed { IfOk result (λ relaxed.
-        IsUnreached (parts_of s.now) pool.now (box_of boxes.now) relaxed.leaf cutoff
-        → IsLicensed (parts_of s.now) pool.now (box_of boxes.now) limits cutoff) }
+        (IsPointIn (parts_under relaxation.entry) relaxation.entry.pool.now
+        (box_under relaxation.entry))) }
+    ensures told { IfOk result (λ relaxed. IsToldPoint (parts_under relaxation.entry)
+        relaxation.entry.pool.now (box_under relaxation.entry) limits cutoff relaxed.point) }
+    ensures licensed { IfOk result (λ relaxed. IsUnreached (parts_under relaxation.entry)
+        relaxation.entry.pool.now (box_under relaxation.entry) relaxed.leaf cutoff
+        → IsLicensed (parts_under relaxation.entry) relaxation.entry.pool.now
+        (box_under relaxation.entry) limits cutoff) }
 {
-    match program_within(alloc, s, pool, boxes, table, limits.cells) {
+    match program_within(alloc, relaxation, limits.cells) {
         Ok(presolved) => {
             let Ran {
                 leaf,

@@ -8,7 +8,8 @@
 //!     let limits = Limits { pivots: 100_000, cells: 50_000_000 };
 //!     let pool = Pool::empty(alloc);
 //!     let mut work = LeafWork::new(alloc, &s)?;
-//!     let relaxed = relax(alloc, &s, &pool, &boxes, work.table(), limits, Some(cutoff))?;
+//!     let relaxation = Relaxation::of(&s, &boxes, work.table(), &pool);
+//!     let relaxed = relax(alloc, relaxation, limits, Some(cutoff))?;
 //!     match work.leaf_bound(&s, &pool, &boxes, &relaxed.leaf) {
 //!         Ok(bound) if bound.is_reached(Some(cutoff)) => println!("no plan in it costs less"),
 //!         _ => println!("it may be split, as by {:?}", relaxed.point),
@@ -34,8 +35,8 @@
 //! it has the weight 0 and comes to more than 0 (`run_leaves_tell_no_less`).
 //!
 //! Memory: the program, 16 bytes for each entry, and what a solver takes (`scaled_simplex`): 118
-//! bytes for each of the cells, of which the run touches what its tableau needs. Time: for each pivot
-//! the rows that have an entry in its column.
+//! bytes for each of the cells, of which the run touches what its tableau needs. Time: for each
+//! pivot the rows that have an entry in its column.
 #![tactic(auto)]
 
 mod laws;

@@ -3,10 +3,12 @@ pub mod Ends
 pub mod Groups
 pub mod Held
 pub mod Narrowing
+pub mod OneProof
 pub mod Path
 pub mod Plans
 pub mod Splits
 pub mod Steps
+pub mod Subproblems
 pub mod Tight
 pub mod Trail
 pub mod Turns

@@ -7,6 +7,7 @@ use crate::connections::{settle_flight, tighten_all};
 use crate::groups::Groups;
 use crate::leg_groups::{leg_groups_of, legs_from};
 use crate::marks::{first_closed, has_closed_must, have_one_option, options_of};
+use crate::network::Network;
 use crate::root::root_access;
 use crate::rows::settle;
 use crate::tightening::Tight;
@@ -253,14 +254,11 @@ impl Boxes {
         ensures rest { self.old ≡ with_accesses self.new self.old.accesses }
         ensures count { length self.new.accesses ≡ length self.old.accesses }
     {
-        settle_flight(
-            &mut self.accesses,
-            waiting,
-            &self.leg_groups,
-            &self.turns,
+        let network = Network {
             s,
-            flight,
-        );
+            leg_groups: &self.leg_groups,
+        };
+        settle_flight(&mut self.accesses, waiting, network, &self.turns, flight);
     }
 
     /// What the box says of each of 32 nodes a flight.

@@ -15,6 +15,7 @@ use crate::access::{Access, Window};
 use crate::accesses::{set_window, window_at};
 use crate::ends::End;
 use crate::groups::Groups;
+use crate::network::Network;
 use crate::rows::{settle, settle_flights};
 use crate::turns::{Turn, Turns};
 use crate::windows::{below_limit, entry_of, from_entry, limit_of, width_of};
@@ -32,27 +33,21 @@ pub fn tighten_all(accesses: &mut [Access], leg_groups: &Groups<Leg>, turns: &Tu
         (access_at accesses.new) }
 {
     settle_flights(accesses, leg_groups, s);
-    settle_connections(accesses, leg_groups, turns, s);
+    settle_connections(accesses, Network { s, leg_groups }, turns);
 }
 
 // Looks at the connections of each flight, and again at those of each one whose windows a
 // connection has moved.
-fn settle_connections(
-    accesses: &mut [Access],
-    leg_groups: &Groups<Leg>,
-    turns: &Turns,
-    s: &Scenario,
-)
-    requires leg_groups { AreLegGroupsOf (parts_of s.now) leg_groups.now }
-    requires turns { AreTurnsOf (parts_of s.now) turns.now }
+fn settle_connections(accesses: &mut [Access], network: Network<'_>, turns: &Turns)
+    requires turns { AreTurnsOf (parts_of network.s.now) turns.now }
     requires sound { AreSound accesses.old }
-    requires rows { AreTightRows (parts_of s.now) accesses.old }
-    ensures narrows { Narrows (IsTight (parts_of s.now)) accesses.old accesses.new }
-    ensures tight { IsTight (parts_of s.now) (access_at accesses.new) }
+    requires rows { AreTightRows (parts_of network.s.now) accesses.old }
+    ensures narrows { Narrows (IsTight (parts_of network.entry.s.now)) accesses.old accesses.new }
+    ensures tight { IsTight (parts_of network.entry.s.now) (access_at accesses.new) }
 {
-    let mut waiting = FewNumbers::below(s.flights().len() as u32);
+    let mut waiting = FewNumbers::below(network.s.flights().len() as u32);
     while let Some(flight) = waiting.pop_first() {
-        settle_flight(accesses, &mut waiting, leg_groups, turns, s, flight);
+        settle_flight(accesses, &mut waiting, network, turns, flight);
     }
 }
 
@@ -61,71 +56,57 @@ fn settle_connections(
 pub fn settle_flight(
     accesses: &mut [Access],
     waiting: &mut FewNumbers,
-    leg_groups: &Groups<Leg>,
+    network: Network<'_>,
     turns: &Turns,
-    s: &Scenario,
     flight: u32,
 )
-    requires flight { flight < length (parts_of s.now).flights }
-    requires leg_groups { AreLegGroupsOf (parts_of s.now) leg_groups.now }
-    requires turns { AreTurnsOf (parts_of s.now) turns.now }
+    requires flight { flight < length (parts_of network.s.now).flights }
+    requires turns { AreTurnsOf (parts_of network.s.now) turns.now }
     requires sound { AreSound accesses.old }
-    ensures step { IsStep (parts_of s.now) accesses.old accesses.new waiting.old
+    ensures step { IsStep (parts_of network.entry.s.now) accesses.old accesses.new waiting.old
         waiting.new }
     ensures departures { All (λ connection. connection.second ≡ flight
-        → IsDone (parts_of s.now) accesses.new waiting.new connection)
-        (parts_of s.now).connections }
+        → IsDone (parts_of network.entry.s.now) accesses.new waiting.new connection)
+        (parts_of network.entry.s.now).connections }
     ensures arrivals { All (λ connection. connection.first ≡ flight
-        → IsDone (parts_of s.now) accesses.new waiting.new connection)
-        (parts_of s.now).connections }
+        → IsDone (parts_of network.entry.s.now) accesses.new waiting.new connection)
+        (parts_of network.entry.s.now).connections }
 {
     let departures = turns.of_flight(flight, End::Departure);
     settle_turns(
         accesses,
         waiting,
-        leg_groups,
-        s,
+        network,
         departures,
         flight,
         End::Departure,
     );
     let arrivals = turns.of_flight(flight, End::Arrival);
-    settle_turns(
-        accesses,
-        waiting,
-        leg_groups,
-        s,
-        arrivals,
-        flight,
-        End::Arrival,
-    );
+    settle_turns(accesses, waiting, network, arrivals, flight, End::Arrival);
 }
 
 // Narrows the windows at the connections that the flight has at this end.
 fn settle_turns(
     accesses: &mut [Access],
     waiting: &mut FewNumbers,
-    leg_groups: &Groups<Leg>,
-    s: &Scenario,
+    network: Network<'_>,
     turns: &[Turn],
     flight: u32,
     end: End,
 )
-    requires turns { All (λ turn. Contains (parts_of s.now).connections
+    requires turns { All (λ turn. Contains (parts_of network.s.now).connections
         (connection_at end flight turn)) turns.now }
-    requires leg_groups { AreLegGroupsOf (parts_of s.now) leg_groups.now }
     requires sound { AreSound accesses.old }
-    ensures step { IsStep (parts_of s.now) accesses.old accesses.new waiting.old
+    ensures step { IsStep (parts_of network.entry.s.now) accesses.old accesses.new waiting.old
         waiting.new }
-    ensures done { All (λ turn. IsDone (parts_of s.now) accesses.new waiting.new
+    ensures done { All (λ turn. IsDone (parts_of network.entry.s.now) accesses.new waiting.new
         (connection_at end flight turn)) turns.now }
 {
     for turn in turns {
         settle_turn(
             accesses,
             waiting,
-            leg_groups,
-            s,
+            network,
             connection_at(end, flight, *turn),
         );
     }
@@ -154,19 +135,17 @@ fn connection_at(end: End, flight: u32, turn: Turn) -> Connection
 fn settle_turn(
     accesses: &mut [Access],
     waiting: &mut FewNumbers,
-    leg_groups: &Groups<Leg>,
-    s: &Scenario,
+    network: Network<'_>,
     turn: Connection,
 )
-    requires turn { Contains (parts_of s.now).connections turn }
-    requires leg_groups { AreLegGroupsOf (parts_of s.now) leg_groups.now }
+    requires turn { Contains (parts_of network.s.now).connections turn }
     requires sound { AreSound accesses.old }
-    ensures step { IsStep (parts_of s.now) accesses.old accesses.new waiting.old
+    ensures step { IsStep (parts_of network.entry.s.now) accesses.old accesses.new waiting.old
         waiting.new }
-    ensures done { IsDone (parts_of s.now) accesses.new waiting.new turn }
+    ensures done { IsDone (parts_of network.entry.s.now) accesses.new waiting.new turn }
 {
-    raise_turn(accesses, waiting, leg_groups, s, turn);
-    lower_turn(accesses, waiting, leg_groups, s, turn);
+    raise_turn(accesses, waiting, network, turn);
+    lower_turn(accesses, waiting, network, turn);
 }
 
 // Raises the window in which the second flight leaves.
@@ -174,22 +153,20 @@ fn settle_turn(
 fn raise_turn(
     accesses: &mut [Access],
     waiting: &mut FewNumbers,
-    leg_groups: &Groups<Leg>,
-    s: &Scenario,
+    network: Network<'_>,
     turn: Connection,
 )
-    requires turn { Contains (parts_of s.now).connections turn }
-    requires leg_groups { AreLegGroupsOf (parts_of s.now) leg_groups.now }
+    requires turn { Contains (parts_of network.s.now).connections turn }
     requires sound { AreSound accesses.old }
-    ensures step { IsStep (parts_of s.now) accesses.old accesses.new waiting.old
+    ensures step { IsStep (parts_of network.entry.s.now) accesses.old accesses.new waiting.old
         waiting.new }
-    ensures raised { IsRaised (parts_of s.now) (access_at accesses.new) turn
+    ensures raised { IsRaised (parts_of network.entry.s.now) (access_at accesses.new) turn
         ⊎ IsIn waiting.new turn.second }
 {
-    let arrives = window_at(accesses, turn.first, last_of(s, turn.first));
+    let arrives = window_at(accesses, turn.first, last_of(network.s, turn.first));
     let leaves = window_at(accesses, turn.second, 0);
     let window = from_entry(leaves, entry_of(arrives, turn.turnaround));
-    move_to(accesses, waiting, leg_groups, s, turn.second, 0, window);
+    move_to(accesses, waiting, network, turn.second, 0, window);
 }
 
 // Lowers the window in which the first flight arrives.
@@ -197,23 +174,21 @@ fn raise_turn(
 fn lower_turn(
     accesses: &mut [Access],
     waiting: &mut FewNumbers,
-    leg_groups: &Groups<Leg>,
-    s: &Scenario,
+    network: Network<'_>,
     turn: Connection,
 )
-    requires turn { Contains (parts_of s.now).connections turn }
-    requires leg_groups { AreLegGroupsOf (parts_of s.now) leg_groups.now }
+    requires turn { Contains (parts_of network.s.now).connections turn }
     requires sound { AreSound accesses.old }
-    ensures step { IsStep (parts_of s.now) accesses.old accesses.new waiting.old
+    ensures step { IsStep (parts_of network.entry.s.now) accesses.old accesses.new waiting.old
         waiting.new }
-    ensures lowered { IsLowered (parts_of s.now) (access_at accesses.new) turn
+    ensures lowered { IsLowered (parts_of network.entry.s.now) (access_at accesses.new) turn
         ⊎ IsIn waiting.new turn.first }
 {
-    let last = last_of(s, turn.first);
+    let last = last_of(network.s, turn.first);
     let arrives = window_at(accesses, turn.first, last);
     let leaves = window_at(accesses, turn.second, 0);
     let window = below_limit(arrives, limit_of(leaves, turn.turnaround));
-    move_to(accesses, waiting, leg_groups, s, turn.first, last, window);
+    move_to(accesses, waiting, network, turn.first, last, window);
 }
 
 // The last node of the flight.
@@ -230,20 +205,18 @@ fn last_of(s: &Scenario, flight: u32) -> u16
 fn move_to(
     accesses: &mut [Access],
     waiting: &mut FewNumbers,
-    leg_groups: &Groups<Leg>,
-    s: &Scenario,
+    network: Network<'_>,
     flight: u32,
     node: u16,
     window: Option<Window>,
 )
-    requires flight { flight < length (parts_of s.now).flights }
+    requires flight { flight < length (parts_of network.s.now).flights }
     requires node { node < most_nodes }
-    requires leg_groups { AreLegGroupsOf (parts_of s.now) leg_groups.now }
     requires sound { AreSound accesses.old }
     requires within { IsWindowWithin window (access_at accesses.old flight node).window }
     requires proper { IsSound window }
-    requires kept { KeepsAt (parts_of s.now) flight node window accesses.old }
-    ensures step { IsStep (parts_of s.now) accesses.old accesses.new waiting.old
+    requires kept { KeepsAt (parts_of network.s.now) flight node window accesses.old }
+    ensures step { IsStep (parts_of network.entry.s.now) accesses.old accesses.new waiting.old
         waiting.new }
     ensures still { (accesses.new ≡ accesses.old)
         × (window ≡ (access_at accesses.old flight node).window) ⊎ IsIn waiting.new flight }
@@ -252,6 +225,6 @@ fn move_to(
         return;
     }
     set_window(accesses, flight, node, window);
-    settle(accesses, leg_groups, s, flight);
+    settle(accesses, network.leg_groups, network.s, flight);
     waiting.insert(flight);
 }

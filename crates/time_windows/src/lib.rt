@@ -26,10 +26,10 @@
 //!
 //! The definitions stand in `specs/`: `Boxes` (a box, the root box, and what it is for a trip or a
 //! plan to be in one), `Plans` (the plans in a box that keep every rule, and bounds over them),
-//! `Tight` (what a tight box is), `Splits` (the sides of a split), `Groups`
-//! (lists of items in one block), `Turns` with `Ends` (the connections of each flight), `Held`
-//! (what `Boxes` holds) and `Path` (a path of boxes, and the log that keeps it). `Steps` and
-//! `Narrowing` serve the proof of `tighten`, and `Trail` that of the trail.
+//! `Tight` (what a tight box is), `Splits` (the sides of a split), `Groups` (lists of items in one
+//! block), `Turns` with `Ends` (the connections of each flight), `Held` (what `Boxes` holds),
+//! `Subproblems` (a scenario with a box) and `Path` (a path of boxes, and the log that keeps it).
+//! `Steps` and `Narrowing` serve the proof of `tighten`, and `Trail` that of the trail.
 //!
 //! Proved: `tighten` leaves the widest tight box within (`tight`), loses no plan that keeps the
 //! turnarounds (`kept`), and tells the first node that must be entered and is closed (`told`). The
@@ -60,8 +60,10 @@ mod groups;
 mod laws;
 mod leg_groups;
 mod marks;
+mod network;
 mod root;
 mod rows;
+mod subproblem;
 mod tightening;
 mod trail;
 mod turns;
@@ -72,6 +74,7 @@ pub use boxes::Boxes;
 pub use ends::End;
 pub use groups::Groups;
 pub use laws::{splits_share_out_plans, trips_are_in_the_root_box};
+pub use subproblem::Subproblem;
 pub use tightening::Tight;
 pub use trail::{Side, Trail};
 pub use turns::{Turn, Turns};

@@ -13,6 +13,7 @@ use Rattle.tree_search.specs.declared.draft.RecordDraft.{RecordDraft}
 use Rattle.tree_search.specs.declared.found.Budget.{Budget}
 use Rattle.tree_search.specs.Drafts.{IsOffered, IsTried}
 use Rattle.tree_search.specs.Searching.{IsSearching, IsStepped}
+use Rattle.tree_search.specs.Visits.{IsImproved}
 use Rattle.branch_tree.specs.Paths.{Path, top_box}
 use Rattle.tree_search.proofs.CompleteFacts.{same_complete}
 use Rattle.tree_search.proofs.DraftFacts.{offered_best, offered_draft, offered_still, reached_below}
@@ -29,7 +30,7 @@ tried_still parts box old new plan (inr left) tried =
     subst (IsTried parts box) (sym left.same) tried
 
 -- a plan of the first box
-pub improved_in : (parts : Parts) (pool : List CutName) (budget : Budget) (path : Path)
+improved_in : (parts : Parts) (pool : List CutName) (budget : Budget) (path : Path)
     (old new : RecordDraft)
     (plan : List (List Stop)) → IsSearching parts pool budget path old
     → IsPlanIn parts (top_box path) plan → IsOffered parts plan old new
@@ -61,15 +62,43 @@ improved_in parts pool budget path old new plan searching inside offered =
           tried_still parts (box_of path.present) old new plan offered searching.tried;
     }
 
--- a plan of the present box
-pub improved_on : (parts : Parts) (pool : List CutName) (budget : Budget) (path : Path)
+-- offering a plan writes no node down
+pub improved_nodes : (parts : Parts) (box : Box) (old new : RecordDraft)
+    → IsImproved parts box old new → new.nodes ≡ old.nodes
+improved_nodes parts box old new (inl kept) =
+    (offered_tree parts box old new kept.plan kept.offered).2.nodes
+improved_nodes parts box old new (inr same) = ap (λ (draft : RecordDraft). draft.nodes) same
+
+-- wherever plans of the box are plans of the first box
+improved_at : (parts : Parts) (pool : List CutName) (budget : Budget) (path : Path) (box : Box)
     (old new : RecordDraft)
-    (plan : List (List Stop)) → IsSearching parts pool budget path old
-    → IsPlanIn parts (box_of path.present) plan → IsOffered parts plan old new
+    → ((plan : List (List Stop)) → IsPlanIn parts box plan → IsPlanIn parts (top_box path) plan)
+    → IsImproved parts box old new → IsSearching parts pool budget path old
     → IsSearching parts pool budget path new
-improved_on parts pool budget path old new plan searching found =
-    improved_in parts pool budget path old new plan searching
-    (record { feasible = found.feasible; inside = searching.arrived.part plan found.inside })
+improved_at parts pool budget path box old new part (inl kept) searching =
+    improved_in parts pool budget path old new kept.plan searching (part kept.plan kept.inside)
+    kept.offered
+improved_at parts pool budget path box old new part (inr same) searching =
+    subst (IsSearching parts pool budget path) (sym same) searching
+
+-- in the first box
+pub improved_top : (parts : Parts) (pool : List CutName) (budget : Budget) (path : Path) (box : Box)
+    (old new : RecordDraft) → box ≡ top_box path → IsImproved parts box old new
+    → IsSearching parts pool budget path old → IsSearching parts pool budget path new
+improved_top parts pool budget path box old new top =
+    improved_at parts pool budget path box old new
+    (λ plan. subst (λ b. IsPlanIn parts b plan) top)
+
+-- in the present box
+pub improved_on : (parts : Parts) (pool : List CutName) (budget : Budget) (path : Path)
+    (old new : RecordDraft) → IsImproved parts (box_of path.present) old new
+    → IsSearching parts pool budget path old → IsSearching parts pool budget path new
+improved_on parts pool budget path old new improved searching =
+    improved_at parts pool budget path (box_of path.present) old new
+    (λ plan found. record {
+      feasible = found.feasible;
+      inside = searching.arrived.part plan found.inside;
+    }) improved searching
 
 -- a cheaper plan is one of the box that keeps every rule
 pub found_in_box : (parts : Parts) (box : Box) (start : List (List Stop))

@@ -1,6 +1,6 @@
 -- The pool of a search: the point is turned back column by column, and the cuts that it exceeds are
 -- a pool.
-use Rattle.std.proofs.Common.{◌≡◌, ◌∙◌, ℕ, ◌+◌, ◌<◌, ◌≤◌, Bool, true, false, List, [], ◌∷◌, ◌++◌, length, map, get_or, slice_index_or, All, AllPairs, Option, None, Some, IfSome, ℤ, pos, refl, sym, ap, subst, arith}
+use Rattle.std.proofs.Common.{◌≡◌, ◌∙◌, ℕ, ◌+◌, ◌<◌, ◌≤◌, Bool, true, false, List, [], ◌∷◌, ◌++◌, length, map, slice_index_or, All, AllPairs, Option, None, Some, IfSome, ℤ, pos, refl, sym, ap, subst, arith}
 use Rattle.std.specs.List.{range_with_len}
 use Rattle.std.proofs.lemmas.Int.{ints}
 use Rattle.std.proofs.lemmas.List.FromFn.{map-range_with_len_more}
@@ -18,7 +18,7 @@ use Rattle.cut_rows.specs.Cuts.{is_cut}
 use Rattle.cut_rows.specs.Order.{IsBefore}
 use Rattle.cut_rows.specs.Pools.{IsPoolOf}
 use Rattle.cut_separation.specs.Exceeding.{exceeds, most_cuts}
-use Rattle.cut_separation.specs.Points.{IsFraction, IsFree, IsPointOf}
+use Rattle.cut_separation.specs.Points.{IsFraction, IsPointOf}
 use Rattle.cut_separation.specs.Whole.{whole_cuts}
 use Rattle.cut_separation.proofs.PoolLaws.{exceeded_ascend, exceeded_pool}
 use Rattle.presolve.specs.Points.{IsNumerator, turned}

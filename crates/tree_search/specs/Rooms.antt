@@ -3,6 +3,7 @@ use Rattle.std.specs.Prelude.{◌≡◌, ℕ}
 use Rattle.flow_types.specs.declared.bound.Bound.{Bound}
 use Rattle.flow_types.specs.declared.bound.Bound.TheVariants.{NoPlan}
 use Rattle.flow_types.specs.declared.parts.Parts.{Parts}
+use Rattle.flow_types.specs.Bounds.{IsNearBound}
 use Rattle.flight_routes.specs.Prices.{PriceTable}
 use Rattle.time_windows.specs.Boxes.{Box}
 use Rattle.greedy_plan.specs.Work.{IsPlanRoomFor}
@@ -49,6 +50,12 @@ abbrev pub Tells : Parts → Box → PriceRooms → Source → Bound → Type 0
 Tells parts box rooms Rounds bound = IsPricedBound parts box cost_weight rooms.rounds.best bound
 Tells parts box rooms Ascent bound = IsPricedBound parts box climb_weight rooms.ascent.best bound
 Tells parts box rooms Closing bound = (bound ≡ NoPlan) × HasNone parts box rooms.ascent.best
+
+-- what the kept prices of a climb tell
+pub record IsClimbed (parts : Parts) (box : Box) (prices : PriceTable) (bound : Bound) : Type 0 where
+  pub told : IsPricedBound parts box climb_weight prices bound
+  pub near : IsNearBound bound
+  pub placed : ArePlaced parts prices
 
 pub record IsToldBy (parts : Parts) (box : Box) (rooms : PriceRooms) (priced : Priced)
     : Type 0 where

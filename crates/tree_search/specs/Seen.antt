@@ -1,5 +1,5 @@
 -- What is seen of a box: a leaf, or where it is split. No public clause cites these.
-use Rattle.std.specs.Prelude.{List, ◌≡◌, ℕ, ◌<◌, ◌≤◌, Bool, true, not, ◌&&◌, length, Option, None, Some, ℤ}
+use Rattle.std.specs.Prelude.{List, ◌≡◌, ℕ, ◌<◌, ◌≤◌, Bool, true, not, ◌&&◌, length, Option, None, Some, IfSome, ℤ}
 use Rattle.flow_types.specs.declared.bound.Bound.{Bound}
 use Rattle.flow_types.specs.declared.parts.Parts.{Parts}
 use Rattle.time_windows.specs.Boxes.{Box, options_of}
@@ -14,10 +14,13 @@ use Rattle.relaxed_bound.specs.declared.limits.Limits.{Limits}
 use Rattle.relaxed_bound.specs.Licence.{IsLicensed, IsUnreached}
 use Rattle.relaxed_bound.specs.Relaxed.{HasBound, relaxed_leaf}
 use Rattle.tree_search.specs.declared.found.Budget.{Budget}
+use Rattle.flight_routes.specs.Prices.{PriceTable}
 use Rattle.tree_search.specs.declared.seeing.Seen.{Seen}
 use Rattle.tree_search.specs.declared.seeing.Seen.TheVariants.{Leaf, Split}
+use Rattle.tree_search.specs.declared.seeing.Told.{Told}
 use Rattle.branch_tree.specs.declared.walk.Branch.{Branch}
 use Rattle.tree_search.specs.Nodes.{IsLeafNode, IsSplitNode}
+use Rattle.tree_search.specs.Rooms.{IsClimbed}
 
 -- a branch of the box
 pub record IsBranchOf (parts : Parts) (box : Box) (branch : Branch) : Type 0 where
@@ -37,6 +40,12 @@ pub record IsRelaxedIn (parts : Parts) (pool : List CutName) (box : Box) (limits
   pub some : HasBound parts pool box relaxed.leaf
   pub licensed : IsUnreached parts pool box relaxed.leaf cutoff
       → IsLicensed parts pool box limits cutoff
+
+-- what was told of the box before it is seen, by a run with these cuts and by the kept prices
+pub record AreTold (parts : Parts) (pool : List CutName) (box : Box) (limits : Limits)
+    (cutoff : Option ℤ) (prices : PriceTable) (told : Told) : Type 0 where
+  pub relaxed : IfSome told.relaxed (IsRelaxedIn parts pool box limits cutoff)
+  pub climbed : IfSome told.climbed (IsClimbed parts box prices)
 
 -- there is room to split a box with these bounds, and neither reaches the cutoff
 abbrev pub may_split : Bool → Option ℤ → Bound → Bound → Bool

@@ -2,28 +2,27 @@
 ghost use Rattle.std.specs.Prelude.{◌≡◌, ◌≤◌, ◌<◌, ℕ, All, IfOk, IfSome, IsTrue, MatchOption};
 ghost use Rattle.flow_types.specs.declared.parts.Parts.{Parts};
 ghost use Rattle.flow_types.specs.Limits.{most_nodes};
-ghost use Rattle.flow_types.specs.Scenario.{parts_of};
 ghost use Rattle.time_windows.specs.Boxes.{Box, IsProper, options_of};
-ghost use Rattle.time_windows.specs.Held.{IsMadeFor, box_of};
+ghost use Rattle.time_windows.specs.Held.{box_of};
 ghost use Rattle.time_windows.specs.Splits.{IsBranching};
 ghost use Rattle.tree_search.specs.Seen.{IsBranchOf, IsChoiceIn};
+ghost use Rattle.time_windows.specs.Subproblems.{box_in, parts_in};
 
 use branch_tree::Branch;
 use bytime_model::Var;
-use flow_types::{MOST_NODES, OutOfMemory, Scenario};
+use flow_types::{MOST_NODES, OutOfMemory};
 use price_ascent::{Ascent, Spread};
 use relaxed_bound::Point;
 use std::alloc::Global;
-use time_windows::{Access, Boxes};
+use time_windows::{Access, Boxes, Subproblem};
 
 /// A branch of the box: the middle of the window of the first node that has several options. None
 /// where no node has.
-pub fn first_choice(s: &Scenario, boxes: &Boxes) -> Option<Branch>
-    requires { IsMadeFor (parts_of s.now) boxes.now }
-    ensures { IsChoiceIn (parts_of s.now) (box_of boxes.now) result }
+pub fn first_choice(problem: Subproblem<'_>) -> Option<Branch>
+    ensures { IsChoiceIn (parts_in problem.entry) (box_in problem.entry) result }
 {
-    for flight in 0..s.flights().len() {
-        if let Some(branch) = choice_of(boxes, flight as u32) {
+    for flight in 0..problem.s.flights().len() {
+        if let Some(branch) = choice_of(problem.boxes, flight as u32) {
             return Some(branch);
         }
     }
@@ -33,9 +32,9 @@ pub fn first_choice(s: &Scenario, boxes: &Boxes) -> Option<Branch>
 /// The branch of the box at the variable that is nearest to a half at the point, of several the
 /// first; the known one where the point has none. A node that the point has entered half by a
 /// period splits the flights that wait there for one another.
-pub fn nearest_half(s: &Scenario, boxes: &Boxes, point: &Point, known: Branch) -> Branch
-    requires { IsBranchOf (parts_of s.now) (box_of boxes.now) known }
-    ensures { IsBranchOf (parts_of s.now) (box_of boxes.now) result }
+pub fn nearest_half(problem: Subproblem<'_>, point: &Point, known: Branch) -> Branch
+    requires { IsBranchOf (parts_in problem) (box_in problem) known }
+    ensures { IsBranchOf (parts_in problem.entry) (box_in problem.entry) result }
 {
     let columns = point.columns.items();
     let numerators = point.numerators.items();
@@ -44,7 +43,7 @@ pub fn nearest_half(s: &Scenario, boxes: &Boxes, point: &Point, known: Branch) -
     for at in 0..columns.len().min(numerators.len()) {
         let distance = distance_from_half(numerators[at], point.denominator);
         if distance < least {
-            if let Some(branch) = branch_at(s, boxes, columns[at]) {
+            if let Some(branch) = branch_at(problem, columns[at]) {
                 best = branch;
                 least = distance;
             }
@@ -58,20 +57,19 @@ pub fn nearest_half(s: &Scenario, boxes: &Boxes, point: &Point, known: Branch) -
 /// its steps, where these differ; first that where they differ the most.
 pub fn most_spread(
     alloc: Global,
-    s: &Scenario,
-    boxes: &Boxes,
+    problem: Subproblem<'_>,
     ascent: &Ascent,
     count: usize,
     near: Option<Branch>,
 ) -> Result<Vec<Branch>, OutOfMemory>
-    requires { IfSome near (IsBranchOf (parts_of s.now) (box_of boxes.now)) }
+    requires { IfSome near (IsBranchOf (parts_in problem) (box_in problem)) }
     ensures { IfOk result
-        (λ found. All (IsBranchOf (parts_of s.now) (box_of boxes.now)) found.items) }
+        (λ found. All (IsBranchOf (parts_in problem.entry) (box_in problem.entry)) found.items) }
 {
     let mut found = list_of(alloc, near)?;
     let mut below = Rank::first();
     for _ in 0..count {
-        below = add_next(s, boxes, ascent, below, &mut found)?;
+        below = add_next(problem, ascent, below, &mut found)?;
     }
     Ok(found)
 }
@@ -90,17 +88,16 @@ fn list_of(alloc: Global, branch: Option<Branch>) -> Result<Vec<Branch>, OutOfMe
 
 // Adds the next branch of the box after the one of this rank, if there is one, and tells its rank.
 fn add_next(
-    s: &Scenario,
-    boxes: &Boxes,
+    problem: Subproblem<'_>,
     ascent: &Ascent,
     below: Rank,
     found: &mut Vec<Branch>,
 ) -> Result<Rank, OutOfMemory>
-    requires { All (IsBranchOf (parts_of s.now) (box_of boxes.now)) found.old.items }
+    requires { All (IsBranchOf (parts_in problem) (box_in problem)) found.old.items }
     ensures { IfOk result
-        (λ rank. All (IsBranchOf (parts_of s.now) (box_of boxes.now)) found.new.items) }
+        (λ rank. All (IsBranchOf (parts_in problem.entry) (box_in problem.entry)) found.new.items) }
 {
-    match next_spread(s, boxes, ascent, below) {
+    match next_spread(problem, ascent, below) {
         None => Ok(below),
         Some((branch, rank)) => {
             found.push(branch)?;
@@ -141,12 +138,13 @@ impl Rank {
 }
 
 // The next branch of the box after the one of this rank.
-fn next_spread(s: &Scenario, boxes: &Boxes, ascent: &Ascent, below: Rank) -> Option<(Branch, Rank)>
-    ensures { IfSome result (λ found. IsBranchOf (parts_of s.now) (box_of boxes.now) found.0) }
+fn next_spread(problem: Subproblem<'_>, ascent: &Ascent, below: Rank) -> Option<(Branch, Rank)>
+    ensures { IfSome result
+        (λ found. IsBranchOf (parts_in problem.entry) (box_in problem.entry) found.0) }
 {
     let mut best: Option<(Branch, Rank)> = None;
     let mut widest = 0;
-    for flight in 0..s.flights().len() {
+    for flight in 0..problem.s.flights().len() {
         for node in 0..MOST_NODES {
             let spread = ascent.spread(flight as u32, node as u16);
             let rank = Rank {
@@ -155,7 +153,7 @@ fn next_spread(s: &Scenario, boxes: &Boxes, ascent: &Ascent, below: Rank) -> Opt
                 node,
             };
             if rank.width > widest && rank.is_after(below) {
-                if let Some(branch) = branch_in(s, boxes, flight as u32, node as u16, spread) {
+                if let Some(branch) = branch_in(problem, flight as u32, node as u16, spread) {
                     best = Some((branch, rank));
                     widest = rank.width;
                 }
@@ -166,11 +164,11 @@ fn next_spread(s: &Scenario, boxes: &Boxes, ascent: &Ascent, below: Rank) -> Opt
 }
 
 // The branch at the mean, if it is one.
-fn branch_in(s: &Scenario, boxes: &Boxes, flight: u32, node: u16, spread: Spread) -> Option<Branch>
-    ensures { IfSome result (IsBranchOf (parts_of s.now) (box_of boxes.now)) }
+fn branch_in(problem: Subproblem<'_>, flight: u32, node: u16, spread: Spread) -> Option<Branch>
+    ensures { IfSome result (IsBranchOf (parts_in problem.entry) (box_in problem.entry)) }
 {
     let time = u16::try_from(spread.mean()?).ok()?;
-    branch_at(s, boxes, Var::By { flight, node, time })
+    branch_at(problem, Var::By { flight, node, time })
 }
 
 // How far a fraction is from a half, over twice its denominator. Of numbers that aren't fractions
@@ -183,14 +181,14 @@ fn distance_from_half(numerator: i128, denominator: i128) -> u128 {
 }
 
 // The branch at the variable, if there is one: by its period its flight enters its node.
-fn branch_at(s: &Scenario, boxes: &Boxes, variable: Var) -> Option<Branch>
-    ensures { IfSome result (IsBranchOf (parts_of s.now) (box_of boxes.now)) }
+fn branch_at(problem: Subproblem<'_>, variable: Var) -> Option<Branch>
+    ensures { IfSome result (IsBranchOf (parts_in problem.entry) (box_in problem.entry)) }
 {
     match variable {
         Var::Inside { .. } => None,
         Var::By { flight, node, time } => {
-            let there = (flight as usize) < s.flights().len();
-            if there && is_branching(boxes.access(flight, node), time) {
+            let there = (flight as usize) < problem.s.flights().len();
+            if there && is_branching(problem.boxes.access(flight, node), time) {
                 Some(Branch { flight, node, time })
             } else {
                 None

@@ -5,6 +5,7 @@ ghost use Rattle.flow_types.specs.Scenario.{parts_of};
 ghost use Rattle.tree_search.specs.Drafts.{IsNoted, IsOffered};
 
 use crate::found::{Bounds, Counts, Plans};
+use crate::gap::Gap;
 use branch_tree::{TreeNode, TreeNodes};
 use flow_types::{Bound, OutOfMemory, Plan, Scenario, Sequence};
 use plan_rules::cost;
@@ -19,6 +20,16 @@ pub struct RecordDraft {
     pub bounds: Bounds,
     /// What the last plan costs.
     pub best: Option<i64>,
+}
+
+impl RecordDraft {
+    /// The gap between the best plan and the bound.
+    pub fn gap(&self, bound: Bound) -> Gap {
+        Gap {
+            cutoff: self.best,
+            bound,
+        }
+    }
 }
 
 /// Nothing so far.

@@ -3,29 +3,28 @@ ghost use Rattle.std.specs.Prelude.{◌≡◌, ◌<◌, ◌^◌, [], IfOk, IfSom
 ghost use Rattle.std.specs.List.{range_with_len};
 ghost use Rattle.cut_rows.specs.Pools.{IsPoolOf};
 ghost use Rattle.cut_rows.specs.Table.{IsTableFor};
-ghost use Rattle.dual_leaf.specs.Work.{IsRoomFor};
 ghost use Rattle.flow_types.specs.declared.parts.Parts.{Parts};
-ghost use Rattle.flow_types.specs.Scenario.{parts_of};
 ghost use Rattle.presolve.specs.Points.{IsNumerator};
 ghost use Rattle.relaxed_bound.specs.declared.limits.Limits.{Limits};
 ghost use Rattle.relaxed_bound.specs.Point.{AreFractions, IsPointIn};
 ghost use Rattle.time_windows.specs.Boxes.{Box};
-ghost use Rattle.time_windows.specs.Held.{IsMadeFor, box_of};
 ghost use Rattle.time_windows.specs.Tight.{IsLive, IsTight};
 ghost use Rattle.tree_search.specs.Pools.{IsFirstPool, cuts_by, free_point, turned_at};
+ghost use Rattle.tree_search.specs.Rooms.{AreRoomsFor};
 ghost use Rattle.tree_search.specs.Seen.{IsBranchOf, IsRelaxedIn};
+ghost use Rattle.time_windows.specs.Subproblems.{box_in, parts_in};
 
 use crate::branching::first_choice;
+use crate::rooms::Rooms;
 use crate::seeing::run_of;
 use branch_tree::Branch;
 use cut_rows::{Pool, Table};
 use cut_separation::{FreePoint, separate};
-use dual_leaf::LeafWork;
-use flow_types::{OutOfMemory, Scenario, Sequence};
+use flow_types::{OutOfMemory, Sequence};
 use relaxed_bound::{Limits, Point, Relaxed};
 use scaled_simplex::Numerators;
 use std::alloc::Global;
-use time_windows::Boxes;
+use time_windows::Subproblem;
 
 /// The pool of a search, and what the relaxation of its first box tells with it, where that is
 /// known: so the run needn't be made again where the pool has no cuts.
@@ -39,28 +38,25 @@ pub struct Pooled {
 /// relaxation exceeds. It has none where the box is empty or has no choice, and where the run tells
 /// no point.
 pub fn pool_for(
-    alloc: Global,
-    s: &Scenario,
-    boxes: &Boxes,
-    work: &LeafWork,
+    problem: Subproblem<'_>,
+    rooms: &Rooms,
     limits: Limits,
     cutoff: Option<i64>,
 ) -> Result<Pooled, OutOfMemory>
-    requires made { IsMadeFor (parts_of s.now) boxes.now }
-    requires tight { IsTight (parts_of s.now) (box_of boxes.now) }
-    requires work { IsRoomFor (parts_of s.now) work.now }
-    ensures pool { IfOk result (λ pooled. IsFirstPool (parts_of s.now) limits cutoff
-        (box_of boxes.now) pooled.pool) }
-    ensures cuts { IfOk result (λ pooled. IsPoolOf (parts_of s.now) pooled.pool) }
-    ensures relaxed { IfOk result (λ pooled. IfSome pooled.relaxed
-        (IsRelaxedIn (parts_of s.now) pooled.pool (box_of boxes.now) limits cutoff)) }
+    requires tight { IsTight (parts_in problem) (box_in problem) }
+    requires rooms { AreRoomsFor (parts_in problem) rooms.now }
+    ensures pool { IfOk result (λ pooled. IsFirstPool (parts_in problem.entry) limits cutoff
+        (box_in problem.entry) pooled.pool) }
+    ensures cuts { IfOk result (λ pooled. IsPoolOf (parts_in problem.entry) pooled.pool) }
+    ensures relaxed { IfOk result (λ pooled. IfSome pooled.relaxed (IsRelaxedIn
+        (parts_in problem.entry) pooled.pool (box_in problem.entry) limits cutoff)) }
 {
-    if boxes.is_empty() {
-        return Ok(no_pool(alloc));
+    if problem.boxes.is_empty() {
+        return Ok(no_pool(rooms.alloc));
     }
-    match first_choice(s, boxes) {
-        None => Ok(no_pool(alloc)),
-        Some(branch) => pool_open(alloc, s, boxes, work.table(), limits, cutoff, branch),
+    match first_choice(problem) {
+        None => Ok(no_pool(rooms.alloc)),
+        Some(branch) => pool_open(problem, rooms, limits, cutoff, branch),
     }
 }
 
@@ -78,28 +74,25 @@ fn no_pool(alloc: Global) -> Pooled
 // The pool of a box in which no node that must be entered is closed, and which has this branch,
 // which is for the contract alone.
 fn pool_open(
-    alloc: Global,
-    s: &Scenario,
-    boxes: &Boxes,
-    table: &Table,
+    problem: Subproblem<'_>,
+    rooms: &Rooms,
     limits: Limits,
     cutoff: Option<i64>,
     _branch: Branch,
 ) -> Result<Pooled, OutOfMemory>
-    requires made { IsMadeFor (parts_of s.now) boxes.now }
-    requires tight { IsTight (parts_of s.now) (box_of boxes.now) }
-    requires table { IsTableFor (parts_of s.now) table.now }
-    requires live { IsLive (box_of boxes.now) }
-    requires branch { IsBranchOf (parts_of s.now) (box_of boxes.now) _branch }
-    ensures pool { IfOk result (λ pooled. IsFirstPool (parts_of s.now) limits cutoff
-        (box_of boxes.now) pooled.pool) }
-    ensures cuts { IfOk result (λ pooled. IsPoolOf (parts_of s.now) pooled.pool) }
-    ensures relaxed { IfOk result (λ pooled. IfSome pooled.relaxed
-        (IsRelaxedIn (parts_of s.now) pooled.pool (box_of boxes.now) limits cutoff)) }
+    requires tight { IsTight (parts_in problem) (box_in problem) }
+    requires rooms { AreRoomsFor (parts_in problem) rooms.now }
+    requires live { IsLive (box_in problem) }
+    requires branch { IsBranchOf (parts_in problem) (box_in problem) _branch }
+    ensures pool { IfOk result (λ pooled. IsFirstPool (parts_in problem.entry) limits cutoff
+        (box_in problem.entry) pooled.pool) }
+    ensures cuts { IfOk result (λ pooled. IsPoolOf (parts_in problem.entry) pooled.pool) }
+    ensures relaxed { IfOk result (λ pooled. IfSome pooled.relaxed (IsRelaxedIn
+        (parts_in problem.entry) pooled.pool (box_in problem.entry) limits cutoff)) }
 {
-    let none = Pool::empty(alloc);
-    let relaxed = run_of(alloc, s, boxes, table, &none, limits, cutoff)?;
-    let pool = exceeded(alloc, s, boxes, table, &relaxed.point)?;
+    let none = Pool::empty(rooms.alloc);
+    let relaxed = run_of(problem, rooms, &none, limits, cutoff)?;
+    let pool = exceeded(rooms.alloc, problem, rooms.leaves.table(), &relaxed.point)?;
     let relaxed = if_none(&pool, relaxed);
     Ok(Pooled { pool, relaxed })
 }
@@ -121,22 +114,21 @@ fn if_none(pool: &Pool, relaxed: Relaxed) -> Option<Relaxed>
 // The cuts that the point exceeds, if there is one.
 fn exceeded(
     alloc: Global,
-    s: &Scenario,
-    boxes: &Boxes,
+    problem: Subproblem<'_>,
     table: &Table,
     point: &Option<Point>,
 ) -> Result<Pool, OutOfMemory>
-    requires made { IsMadeFor (parts_of s.now) boxes.now }
-    requires tight { IsTight (parts_of s.now) (box_of boxes.now) }
-    requires table { IsTableFor (parts_of s.now) table.now }
-    requires point { IfSome point.now (IsPointIn (parts_of s.now) [] (box_of boxes.now)) }
+    requires tight { IsTight (parts_in problem) (box_in problem) }
+    requires table { IsTableFor (parts_in problem) table.now }
+    requires point { IfSome point.now (IsPointIn (parts_in problem) [] (box_in problem)) }
     ensures pool { IfOk result (λ pool. pool
-        ≡ cuts_by (parts_of s.now) (box_of boxes.now) point.now) }
-    ensures cuts { IfOk result (IsPoolOf (parts_of s.now)) }
+        ≡ cuts_by (parts_in problem.entry) (box_in problem.entry) point.now) }
+    ensures cuts { IfOk result (IsPoolOf (parts_in problem.entry)) }
 {
     match point {
         None => Ok(Pool::empty(alloc)),
         Some(point) => {
+            let Subproblem { s, boxes } = problem;
             let point = free_point(alloc, point)?;
             separate(alloc, s, table, boxes, &point)
         }

@@ -11,19 +11,20 @@ ghost use Rattle.flow_types.specs.Bounds.{IsNearBound};
 ghost use Rattle.dual_leaf.specs.PriceLeaf.{IsLagOf};
 ghost use Rattle.priced_plans.specs.Keys.{ArePlaced};
 ghost use Rattle.time_windows.specs.Boxes.{Box};
-ghost use Rattle.time_windows.specs.Held.{IsMadeFor, box_of};
-ghost use Rattle.tree_search.specs.Rooms.{ArePriceRoomsFor, IsToldBy, Tells, prices_from, weight_from};
+ghost use Rattle.price_ascent.specs.Work.{IsAscentRoomFor};
+ghost use Rattle.tree_search.specs.Rooms.{ArePriceRoomsFor, IsClimbed, IsToldBy, Tells, prices_from, weight_from};
+ghost use Rattle.time_windows.specs.Subproblems.{box_in, parts_in};
 
-use crate::gap::is_far;
+use crate::gap::Gap;
 use crate::rooms::PriceRooms;
 use branch_tree::Leaf;
 use dual_leaf::{closing_leaf, lag_leaf};
 use flow_types::{Bound, OutOfMemory, Plan, Scenario};
 use lagrange_bound::COST_WEIGHT;
 use plan_improver::delay_cost;
-use price_ascent::WEIGHT;
+use price_ascent::{Ascent, WEIGHT};
 use std::alloc::Global;
-use time_windows::Boxes;
+use time_windows::Subproblem;
 
 // How many steps the first climb may take for each round.
 const FIRST_STEPS: u32 = 16;
@@ -73,19 +74,18 @@ pub struct Priced {
 /// a bound that reaches the cutoff, it stays at these; and where no trips can pass a limit, so that
 /// the greedy plan costs the least, it looks at no prices.
 pub fn begin_climb(
-    s: &Scenario,
-    boxes: &Boxes,
+    problem: Subproblem<'_>,
     rooms: &mut PriceRooms,
     rounds: u32,
     cutoff: Option<i64>,
 ) -> Result<Bound, OutOfMemory>
-    requires made { IsMadeFor (parts_of s.now) boxes.now }
-    requires rooms { ArePriceRoomsFor (parts_of s.now) rooms.old }
-    ensures { ArePriceRoomsFor (parts_of s.now) rooms.new }
+    requires rooms { ArePriceRoomsFor (parts_in problem) rooms.old }
+    ensures { ArePriceRoomsFor (parts_in problem.entry) rooms.new }
 {
     if let (0, Some(cost)) = (rooms.ascent.rising(), cutoff) {
         return Ok(Bound::AtLeast(i128::from(cost)));
     }
+    let Subproblem { s, boxes } = problem;
     let first = rooms.ascent.tell(s, boxes);
     if rounds == 0 || first.is_reached(cutoff) {
         return Ok(first);
@@ -100,23 +100,23 @@ pub fn begin_climb(
 /// reach the cutoff; and answers what the prices tell, with no cutoff also that no plan is in the
 /// box.
 pub fn climb_further(
-    s: &Scenario,
-    boxes: &Boxes,
+    problem: Subproblem<'_>,
     rooms: &mut PriceRooms,
     rounds: u32,
-    cutoff: Option<i64>,
-    bound: Bound,
+    gap: Gap,
 ) -> Bound
-    requires made { IsMadeFor (parts_of s.now) boxes.now }
-    requires rooms { ArePriceRoomsFor (parts_of s.now) rooms.old }
-    ensures { ArePriceRoomsFor (parts_of s.now) rooms.new }
+    requires rooms { ArePriceRoomsFor (parts_in problem) rooms.old }
+    ensures { ArePriceRoomsFor (parts_in problem.entry) rooms.new }
 {
-    if rounds == 0 || bound.is_reached(cutoff) {
-        return bound;
+    if rounds == 0 || gap.is_closed() {
+        return gap.bound;
     }
+    let Subproblem { s, boxes } = problem;
     let steps = first_steps(s, rooms.ascent.rising(), rounds);
-    let climbed = rooms.ascent.climb_on(s, boxes, cutoff, steps - steps / 4);
-    if cutoff.is_none() && rooms.ascent.has_none(s, boxes) {
+    let climbed = rooms
+        .ascent
+        .climb_on(s, boxes, gap.cutoff, steps - steps / 4);
+    if gap.cutoff.is_none() && rooms.ascent.has_none(s, boxes) {
         Bound::NoPlan
     } else {
         climbed
@@ -128,20 +128,18 @@ pub fn climb_further(
 /// prices tell, those or the kept ones. Where there are few rounds, or it doesn't pay, it stays at
 /// the bound.
 pub fn climb_again(
-    s: &Scenario,
-    boxes: &Boxes,
+    problem: Subproblem<'_>,
     rooms: &mut PriceRooms,
     rounds: u32,
-    cutoff: Option<i64>,
-    bound: Bound,
+    gap: Gap,
 ) -> Result<Bound, OutOfMemory>
-    requires made { IsMadeFor (parts_of s.now) boxes.now }
-    requires rooms { ArePriceRoomsFor (parts_of s.now) rooms.old }
-    ensures { ArePriceRoomsFor (parts_of s.now) rooms.new }
+    requires rooms { ArePriceRoomsFor (parts_in problem) rooms.old }
+    ensures { ArePriceRoomsFor (parts_in problem.entry) rooms.new }
 {
+    let Subproblem { s, boxes } = problem;
     let steps = first_steps(s, rooms.ascent.rising(), rounds);
-    if !is_far(s, bound, cutoff) || steps < BID_PASSES {
-        return Ok(bound);
+    if !gap.is_far(s) || steps < BID_PASSES {
+        return Ok(gap.bound);
     }
     let before = rooms.ascent.value().unwrap_or(0);
     rooms.ascent.put_by(s, &mut rooms.kept)?;
@@ -149,12 +147,12 @@ pub fn climb_again(
     let _bid = rooms.ascent.bid(s, boxes, delay_cost(s), BID_PASSES);
     let climbed = rooms
         .ascent
-        .climb(s, boxes, cutoff, PART_AFTER_BIDS, steps - steps / 4);
+        .climb(s, boxes, gap.cutoff, PART_AFTER_BIDS, steps - steps / 4);
     let is_less = rooms.ascent.value().unwrap_or(0) < before;
     restore_if(s, rooms, is_less);
     rooms.kept.forget();
     rooms.early.forget();
-    Ok(if is_less { bound } else { climbed })
+    Ok(if is_less { gap.bound } else { climbed })
 }
 
 /// Where the best plan leaves a gap to the bound: leans on that plan and climbs on from where that
@@ -162,47 +160,46 @@ pub fn climb_again(
 /// what the better prices tell. Where there are few rounds, or it doesn't pay, it stays at the
 /// bound.
 pub fn climb_by_plan(
-    s: &Scenario,
-    boxes: &Boxes,
+    problem: Subproblem<'_>,
     rooms: &mut PriceRooms,
     rounds: u32,
     best: Option<&Plan>,
-    cutoff: Option<i64>,
-    bound: Bound,
+    gap: Gap,
 ) -> Result<Bound, OutOfMemory>
-    requires made { IsMadeFor (parts_of s.now) boxes.now }
-    requires rooms { ArePriceRoomsFor (parts_of s.now) rooms.old }
-    ensures { ArePriceRoomsFor (parts_of s.now) rooms.new }
+    requires rooms { ArePriceRoomsFor (parts_in problem) rooms.old }
+    ensures { ArePriceRoomsFor (parts_in problem.entry) rooms.new }
 {
     let Some(plan) = best else {
-        return Ok(bound);
+        return Ok(gap.bound);
     };
-    let steps = first_steps(s, rooms.ascent.rising(), rounds);
-    if steps < BID_PASSES || !is_far(s, bound, cutoff) {
-        return Ok(bound);
+    let steps = first_steps(problem.s, rooms.ascent.rising(), rounds);
+    if steps < BID_PASSES || !gap.is_far(problem.s) {
+        return Ok(gap.bound);
     }
-    lean_often(s, boxes, rooms, steps / 2, plan, cutoff, bound)
+    lean_often(problem, rooms, steps / 2, plan, gap)
 }
 
 // Leans and climbs on so, with so many steps for each climb.
 fn lean_often(
-    s: &Scenario,
-    boxes: &Boxes,
+    problem: Subproblem<'_>,
     rooms: &mut PriceRooms,
     steps: u32,
     plan: &Plan,
-    cutoff: Option<i64>,
-    bound: Bound,
+    gap: Gap,
 ) -> Result<Bound, OutOfMemory>
-    requires made { IsMadeFor (parts_of s.now) boxes.now }
-    requires rooms { ArePriceRoomsFor (parts_of s.now) rooms.old }
-    ensures { ArePriceRoomsFor (parts_of s.now) rooms.new }
+    requires rooms { ArePriceRoomsFor (parts_in problem) rooms.old }
+    ensures { ArePriceRoomsFor (parts_in problem.entry) rooms.new }
 {
-    let mut told = lean_once(s, boxes, rooms, steps, plan, cutoff, bound, false)?;
+    let Gap { cutoff, bound } = gap;
+    let mut told = lean_once(problem, rooms, steps, plan, gap, false)?;
     let mut before = bound;
     let mut number = 1;
     while number < MOST_LEANS && !told.is_reached(cutoff) {
-        told = lean_once(s, boxes, rooms, steps, plan, cutoff, told, number == 1)?;
+        let gap = Gap {
+            cutoff,
+            bound: told,
+        };
+        told = lean_once(problem, rooms, steps, plan, gap, number == 1)?;
         if !told.is_above(before) {
             return Ok(told);
         }
@@ -215,28 +212,28 @@ fn lean_often(
 // Leans on the plan once, from the kept prices or from prices of 0, and climbs on. Takes the prices
 // before again where they told more.
 fn lean_once(
-    s: &Scenario,
-    boxes: &Boxes,
+    problem: Subproblem<'_>,
     rooms: &mut PriceRooms,
     steps: u32,
     plan: &Plan,
-    cutoff: Option<i64>,
-    bound: Bound,
+    gap: Gap,
     from_none: bool,
 ) -> Result<Bound, OutOfMemory>
-    requires made { IsMadeFor (parts_of s.now) boxes.now }
-    requires rooms { ArePriceRoomsFor (parts_of s.now) rooms.old }
-    ensures { ArePriceRoomsFor (parts_of s.now) rooms.new }
+    requires rooms { ArePriceRoomsFor (parts_in problem) rooms.old }
+    ensures { ArePriceRoomsFor (parts_in problem.entry) rooms.new }
 {
+    let Subproblem { s, boxes } = problem;
     let before = rooms.ascent.weigh(s, boxes).unwrap_or(0);
     rooms.ascent.put_by(s, &mut rooms.kept)?;
     clear_if(s, rooms, from_none);
     let _leaned = rooms.ascent.lean_on(s, boxes, plan, LEAN_PASSES);
-    let climbed = rooms.ascent.climb(s, boxes, cutoff, PART_AFTER_BIDS, steps);
+    let climbed = rooms
+        .ascent
+        .climb(s, boxes, gap.cutoff, PART_AFTER_BIDS, steps);
     let is_less = rooms.ascent.value().unwrap_or(0) < before;
     restore_if(s, rooms, is_less);
     rooms.kept.forget();
-    Ok(if is_less { bound } else { climbed })
+    Ok(if is_less { gap.bound } else { climbed })
 }
 
 // Takes prices of 0 for the kept ones, where they are wanted: none are put by from the first climb
@@ -303,37 +300,40 @@ fn looks_of(s: &Scenario) -> u64 {
     looks
 }
 
-/// The greatest bound that rounds of prices tell; or, where neither that nor the bound of the run
-/// reaches the cutoff, what the prices tell that the climb before has kept, if that is more; with
-/// no cutoff, also that no plan is in the box. Where rounds tell more, climbs go on from their
-/// prices. Where a plan in the box is known to cost so much, no more rounds are played than it
-/// takes to reach that.
+/// The greatest bound that rounds of prices tell; or, where the gap to the bound of the run is open
+/// and stays so, what the prices tell that the climb before has kept, if that is more; with no
+/// cutoff, also that no plan is in the box. What these prices tell may be known. Where rounds tell
+/// more, climbs go on from their prices. Where a plan in the box is known to cost so much, no more
+/// rounds are played than it takes to reach that.
 pub fn price(
-    s: &Scenario,
-    boxes: &Boxes,
+    problem: Subproblem<'_>,
     rooms: &mut PriceRooms,
     rounds: u32,
-    cutoff: Option<i64>,
-    run: Bound,
+    gap: Gap,
+    climbed: Option<Bound>,
     enough: Option<i64>,
 ) -> Priced
-    requires made { IsMadeFor (parts_of s.now) boxes.now }
-    requires rooms { ArePriceRoomsFor (parts_of s.now) rooms.old }
-    requires enough { IfSome enough (HasPlanAt (parts_of s.now) (box_of boxes.now)) }
-    ensures told { IsToldBy (parts_of s.now) (box_of boxes.now) rooms.new result }
-    ensures most { IsMostOfRounds (parts_of s.now) (box_of boxes.now) rounds result.bound }
+    requires rooms { ArePriceRoomsFor (parts_in problem) rooms.old }
+    requires climbed { IfSome climbed
+        (IsClimbed (parts_in problem) (box_in problem) rooms.old.ascent.best) }
+    requires enough { IfSome enough (HasPlanAt (parts_in problem) (box_in problem)) }
+    ensures told { IsToldBy (parts_in problem.entry) (box_in problem.entry) rooms.new result }
+    ensures most { IsMostOfRounds (parts_in problem.entry) (box_in problem.entry) rounds
+        result.bound }
     ensures near { IsNearBound result.bound }
-    ensures rooms { ArePriceRoomsFor (parts_of s.now) rooms.new }
+    ensures rooms { ArePriceRoomsFor (parts_in problem.entry) rooms.new }
 {
+    let Subproblem { s, boxes } = problem;
+    let cutoff = gap.cutoff;
     let played = rooms.rounds.play(s, boxes, rounds, enough);
-    if rounds > 0 && !run.is_reached(cutoff) && !played.is_reached(cutoff) {
+    if rounds > 0 && !gap.is_closed() && !played.is_reached(cutoff) {
         if cutoff.is_none() && rooms.ascent.has_none(s, boxes) {
             return Priced {
                 bound: Bound::NoPlan,
                 source: Source::Closing,
             };
         }
-        let climbed = rooms.ascent.tell(s, boxes);
+        let climbed = told_or_tell(problem, &mut rooms.ascent, climbed);
         if climbed.is_above(played) {
             return Priced {
                 bound: climbed,
@@ -345,6 +345,21 @@ pub fn price(
     Priced {
         bound: played,
         source: Source::Rounds,
+    }
+}
+
+// What the kept prices of the climb tell, which may be known.
+fn told_or_tell(problem: Subproblem<'_>, ascent: &mut Ascent, known: Option<Bound>) -> Bound
+    requires ascent { IsAscentRoomFor (parts_in problem) ascent.old }
+    requires known { IfSome known
+        (IsClimbed (parts_in problem) (box_in problem) ascent.old.best) }
+    ensures told { IsClimbed (parts_in problem.entry) (box_in problem.entry) ascent.new.best
+        result }
+    ensures ascent { IsAscentRoomFor (parts_in problem.entry) ascent.new }
+{
+    match known {
+        Some(bound) => bound,
+        None => ascent.tell(problem.s, problem.boxes),
     }
 }
 

@@ -2,20 +2,19 @@
 //! and Cook, "Finding cuts in the TSP", 1995).
 ghost use Rattle.std.specs.Prelude.{IfOk, IfSome};
 ghost use Rattle.flow_types.specs.declared.parts.Parts.{Parts};
-ghost use Rattle.flow_types.specs.Scenario.{parts_of};
 ghost use Rattle.time_windows.specs.Held.{IsMadeFor, box_of};
 ghost use Rattle.time_windows.specs.Splits.{IsBranching};
-ghost use Rattle.tree_search.specs.Rooms.{ArePriceRoomsFor};
+ghost use Rattle.tree_search.specs.Rooms.{AreRoomsFor};
 ghost use Rattle.tree_search.specs.Seen.{IsBranchOf};
+ghost use Rattle.time_windows.specs.Subproblems.{box_in, parts_in};
 
 use crate::branching::most_spread;
 use crate::pricing::LEAD_PART;
-use crate::rooms::PriceRooms;
+use crate::rooms::Rooms;
 use branch_tree::Branch;
-use flow_types::{OutOfMemory, Scenario};
+use flow_types::OutOfMemory;
 use price_ascent::WEIGHT;
-use std::alloc::Global;
-use time_windows::{Boxes, Side, Tight};
+use time_windows::{Boxes, Side, Subproblem, Tight};
 
 // How many branches are tried.
 const CANDIDATES: usize = 4;
@@ -48,57 +47,54 @@ struct Tried {
 /// climb left most open. The known one where there is none of these. The kept prices stay; what
 /// else is told of the last climb goes.
 pub fn strongest(
-    alloc: Global,
-    s: &Scenario,
-    boxes: &Boxes,
-    rooms: &mut PriceRooms,
+    problem: Subproblem<'_>,
+    rooms: &mut Rooms,
     cutoff: Option<i64>,
     known: Branch,
     near: Option<Branch>,
 ) -> Result<Branch, OutOfMemory>
-    requires made { IsMadeFor (parts_of s.now) boxes.now }
-    requires known { IsBranchOf (parts_of s.now) (box_of boxes.now) known }
-    requires near { IfSome near (IsBranchOf (parts_of s.now) (box_of boxes.now)) }
-    requires rooms { ArePriceRoomsFor (parts_of s.now) rooms.old }
-    ensures branch { IfOk result (IsBranchOf (parts_of s.now) (box_of boxes.now)) }
-    ensures rooms { ArePriceRoomsFor (parts_of s.now) rooms.new }
+    requires known { IsBranchOf (parts_in problem) (box_in problem) known }
+    requires near { IfSome near (IsBranchOf (parts_in problem) (box_in problem)) }
+    requires rooms { AreRoomsFor (parts_in problem) rooms.old }
+    ensures branch { IfOk result (IsBranchOf (parts_in problem.entry) (box_in problem.entry)) }
+    ensures rooms { AreRoomsFor (parts_in problem.entry) rooms.new }
 {
-    let candidates = most_spread(alloc, s, boxes, &rooms.ascent, CANDIDATES, near)?;
-    let before = rooms.ascent.value().unwrap_or(0);
-    rooms.ascent.put_by(s, &mut rooms.kept)?;
+    let candidates = most_spread(rooms.alloc, problem, &rooms.prices.ascent, CANDIDATES, near)?;
+    let before = rooms.prices.ascent.value().unwrap_or(0);
+    rooms
+        .prices
+        .ascent
+        .put_by(problem.s, &mut rooms.prices.kept)?;
     let mut best = Tried {
         branch: known,
         gain: -1,
     };
     for at in 0..candidates.len() {
         let measure = Measure { before, cutoff };
-        best = better(alloc, s, boxes, rooms, measure, best, candidates[at])?;
+        best = better(problem, rooms, measure, best, candidates[at])?;
     }
-    rooms.ascent.restore(s, &rooms.kept);
-    rooms.kept.forget();
+    rooms.prices.ascent.restore(problem.s, &rooms.prices.kept);
+    rooms.prices.kept.forget();
     Ok(best.branch)
 }
 
 // The branch, if its sides gain more than those of the best so far, and else that one.
 fn better(
-    alloc: Global,
-    s: &Scenario,
-    boxes: &Boxes,
-    rooms: &mut PriceRooms,
+    problem: Subproblem<'_>,
+    rooms: &mut Rooms,
     measure: Measure,
     best: Tried,
     branch: Branch,
 ) -> Result<Tried, OutOfMemory>
-    requires made { IsMadeFor (parts_of s.now) boxes.now }
-    requires best { IsBranchOf (parts_of s.now) (box_of boxes.now) best.branch }
-    requires branch { IsBranchOf (parts_of s.now) (box_of boxes.now) branch }
-    requires rooms { ArePriceRoomsFor (parts_of s.now) rooms.old }
+    requires best { IsBranchOf (parts_in problem) (box_in problem) best.branch }
+    requires branch { IsBranchOf (parts_in problem) (box_in problem) branch }
+    requires rooms { AreRoomsFor (parts_in problem) rooms.old }
     ensures branch { IfOk result
-        (λ tried. IsBranchOf (parts_of s.now) (box_of boxes.now) tried.branch) }
-    ensures rooms { ArePriceRoomsFor (parts_of s.now) rooms.new }
+        (λ tried. IsBranchOf (parts_in problem.entry) (box_in problem.entry) tried.branch) }
+    ensures rooms { AreRoomsFor (parts_in problem.entry) rooms.new }
 {
-    let early = side_gain(alloc, s, boxes, rooms, measure, branch, Side::Early)?;
-    let late = side_gain(alloc, s, boxes, rooms, measure, branch, Side::Late)?;
+    let early = side_gain(problem, rooms, measure, branch, Side::Early)?;
+    let late = side_gain(problem, rooms, measure, branch, Side::Late)?;
     let lesser = early.min(late).saturating_mul(LESSER_SIDE);
     let gain = lesser.saturating_add(early.max(late));
     if gain > best.gain {
@@ -110,34 +106,32 @@ fn better(
 
 // How much more than before the prices tell after some steps on this side of the branch.
 fn side_gain(
-    alloc: Global,
-    s: &Scenario,
-    boxes: &Boxes,
-    rooms: &mut PriceRooms,
+    problem: Subproblem<'_>,
+    rooms: &mut Rooms,
     measure: Measure,
     branch: Branch,
     side: Side,
 ) -> Result<i128, OutOfMemory>
-    requires made { IsMadeFor (parts_of s.now) boxes.now }
-    requires branch { IsBranchOf (parts_of s.now) (box_of boxes.now) branch }
-    requires rooms { ArePriceRoomsFor (parts_of s.now) rooms.old }
-    ensures rooms { ArePriceRoomsFor (parts_of s.now) rooms.new }
+    requires branch { IsBranchOf (parts_in problem) (box_in problem) branch }
+    requires rooms { AreRoomsFor (parts_in problem) rooms.old }
+    ensures rooms { AreRoomsFor (parts_in problem.entry) rooms.new }
 {
     let Measure { before, cutoff } = measure;
-    let mut part = boxes.copy(alloc)?;
+    let Subproblem { s, boxes } = problem;
+    let mut part = boxes.copy(rooms.alloc)?;
     narrow(&mut part, branch, side);
     if let Tight::Empty(_, _) = part.tighten(s) {
         return Ok(CLOSED);
     }
-    rooms.ascent.restore(s, &rooms.kept);
-    if rooms
+    rooms.prices.ascent.restore(s, &rooms.prices.kept);
+    let climbed = rooms
+        .prices
         .ascent
-        .climb(s, &part, cutoff, LEAD_PART, STEPS)
-        .is_reached(cutoff)
-    {
+        .climb(s, &part, cutoff, LEAD_PART, STEPS);
+    if climbed.is_reached(cutoff) {
         return Ok(CLOSED);
     }
-    match rooms.ascent.value() {
+    match rooms.prices.ascent.value() {
         None => Ok(CLOSED),
         Some(value) => Ok(value.saturating_sub(before).clamp(0, CLOSED)),
     }

@@ -11,8 +11,9 @@ use plan_improver::Improver;
 use price_ascent::{Ascent, KeptPrices};
 use std::alloc::Global;
 
-/// Rooms for the boxes of a scenario, made once.
+/// Rooms for the boxes of a scenario, made once, and where memory comes from.
 pub struct Rooms {
+    pub alloc: Global,
     pub plans: PlanRooms,
     pub leaves: LeafWork,
     pub prices: PriceRooms,
@@ -22,6 +23,7 @@ pub struct Rooms {
 impl Drop for Rooms {
     fn drop(self) {
         let Rooms {
+            alloc: _,
             plans: _,
             leaves: _,
             prices: _,
@@ -71,6 +73,7 @@ pub fn rooms_for(alloc: Global, s: &Scenario) -> Result<Rooms, OutOfMemory>
     ensures { IfOk result (AreRoomsFor (parts_of s.now)) }
 {
     Ok(Rooms {
+        alloc,
         plans: plan_rooms(alloc, s)?,
         leaves: LeafWork::new(alloc, s)?,
         prices: price_rooms(alloc, s)?,

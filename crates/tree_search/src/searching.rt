@@ -16,47 +16,68 @@ ghost use Rattle.cut_rows.specs.Pools.{IsPoolOf};
 ghost use Rattle.tree_search.specs.Drafts.{IsBlank, IsNoted};
 ghost use Rattle.tree_search.specs.Pools.{IsFirstPool};
 ghost use Rattle.tree_search.specs.Records.{IsSearchRecord};
-ghost use Rattle.tree_search.specs.Rooms.{AreRoomsFor};
+ghost use Rattle.tree_search.specs.Rooms.{AreRoomsFor, IsClimbed};
 ghost use Rattle.tree_search.specs.Searching.{IsLeft, IsSearched, IsSearching, IsStepped, planned_in};
-ghost use Rattle.tree_search.specs.Seen.{IsRelaxedIn};
-ghost use Rattle.tree_search.specs.Visits.{IsVisited};
-ghost use Rattle.branch_tree.specs.Paths.{AreSteps, IsFork, IsNextOr, top_box};
+ghost use Rattle.tree_search.specs.Seen.{AreTold};
+ghost use Rattle.time_windows.specs.Subproblems.{box_in, parts_in};
+ghost use Rattle.tree_search.specs.Visits.{IsImproved, IsVisited};
+ghost use Rattle.branch_tree.specs.Paths.{AreSteps, IsFork, IsNextOr, Path, top_box};
 
 use crate::branching::first_choice;
 use crate::draft::{RecordDraft, no_draft, note, offer};
 use crate::found::{Budget, Found};
+use crate::gap::Gap;
 use crate::improving::{improve, improve_again, improve_further, offer_found, seek};
 use crate::pooling::{Pooled, pool_for};
 use crate::pricing::{LEAD_PART, begin_climb, climb_again, climb_by_plan, climb_further, follow};
 use crate::rooms::{Rooms, rooms_for};
-use crate::seeing::{Seen, Standing, see};
-use crate::setting::Setting;
+use crate::seeing::{Seen, Standing, Told, see};
+use crate::setting::{Setting, Start};
 use branch_tree::{Branch, Leaf, Tree, TreeNode, Walk};
 use cut_rows::Pool;
 use flow_types::{Bound, OutOfMemory, Plan, Scenario};
 use greedy_plan::Greedy;
 use plan_improver::Search;
-use relaxed_bound::Relaxed;
 use std::alloc::Global;
-use time_windows::Boxes;
+use time_windows::{Boxes, Subproblem};
 
 // Offers the greedy plan of the box.
 fn visit(
-    alloc: Global,
-    s: &Scenario,
-    boxes: &Boxes,
+    problem: Subproblem<'_>,
     rooms: &mut Rooms,
     draft: &mut RecordDraft,
 ) -> Result<(), OutOfMemory>
-    requires boxes { IsMadeFor (parts_of s.now) boxes.now }
-    requires rooms { AreRoomsFor (parts_of s.now) rooms.old }
+    requires rooms { AreRoomsFor (parts_in problem) rooms.old }
     ensures visited { OnOk result
-        (IsVisited (parts_of s.now) (box_of boxes.now) draft.old draft.new) }
-    ensures rooms { AreRoomsFor (parts_of s.now) rooms.new }
+        (IsVisited (parts_in problem.entry) (box_in problem.entry) draft.old draft.new) }
+    ensures rooms { AreRoomsFor (parts_in problem.entry) rooms.new }
 {
-    match rooms.plans.greedy.first_plan(alloc, s, boxes)? {
+    let Subproblem { s, boxes } = problem;
+    match rooms.plans.greedy.first_plan(rooms.alloc, s, boxes)? {
         Greedy::Plan(plan) => offer(draft, s, plan),
         Greedy::Stuck { .. } => Ok(()),
+    }
+}
+
+// The same, and gives the plan, or as much of it as there is.
+fn begin(
+    problem: Subproblem<'_>,
+    rooms: &mut Rooms,
+    draft: &mut RecordDraft,
+) -> Result<Plan, OutOfMemory>
+    requires rooms { AreRoomsFor (parts_in problem) rooms.old }
+    ensures visited { IfOk result
+        (λ plan. IsVisited (parts_in problem.entry) (box_in problem.entry) draft.old draft.new) }
+    ensures rooms { AreRoomsFor (parts_in problem.entry) rooms.new }
+{
+    let Subproblem { s, boxes } = problem;
+    match rooms.plans.greedy.first_plan(rooms.alloc, s, boxes)? {
+        Greedy::Plan(plan) => {
+            let start = plan.copy(rooms.alloc)?;
+            offer(draft, s, plan)?;
+            Ok(start)
+        }
+        Greedy::Stuck { kept, .. } => Ok(kept),
     }
 }
 
@@ -121,36 +142,36 @@ fn split(
 // Sees the present box, writes down what is seen, and goes to the next one, if there is one. Each
 // plan that is known is in the first box, with which the pool goes.
 fn go_on(
-    alloc: Global,
     s: &Scenario,
     setting: Setting<'_>,
     rooms: &mut Rooms,
     walk: &mut Walk,
     draft: &mut RecordDraft,
-    first: bool,
-    told: Option<Relaxed>,
+    told: Told,
 ) -> Result<bool, OutOfMemory>
-    requires first { IsTrue first → walk.old.above ≡ [] }
+    requires first { IsTrue told.known → walk.old.above ≡ [] }
     requires searching { IsSearching (parts_of s.now) setting.pool.now setting.budget walk.old
         draft.old }
     requires rooms { AreRoomsFor (parts_of s.now) rooms.old }
     requires pool { IsPoolOf (parts_of s.now) setting.pool.now }
     requires begun { length draft.old.nodes ≡ 0 → IsFirstPool (parts_of s.now) setting.budget.limits
         draft.old.best (box_of walk.old.present) setting.pool.now }
-    requires told { IfSome told (IsRelaxedIn (parts_of s.now) setting.pool.now
-        (box_of walk.old.present) setting.budget.limits draft.old.best) }
+    requires told { AreTold (parts_of s.now) setting.pool.now (box_of walk.old.present)
+        setting.budget.limits draft.old.best rooms.old.prices.ascent.best told }
     ensures left { IfOk result (IsLeft (parts_of s.now) setting.entry.pool.now setting.entry.budget
-        walk.old
-        draft.old walk.new draft.new) }
+        walk.old draft.old walk.new draft.new) }
     ensures rooms { AreRoomsFor (parts_of s.now) rooms.new }
 {
     let more = has_room(setting.budget, walk, draft);
     let standing = Standing {
         cutoff: draft.best,
-        known: first,
         more,
     };
-    let seen = see(alloc, s, walk.boxes(), rooms, setting, standing, told)?;
+    let problem = Subproblem {
+        s,
+        boxes: walk.boxes(),
+    };
+    let seen = see(problem, rooms, setting, standing, told)?;
     match seen {
         Seen::Leaf { leaf, bound } => {
             let next = leave(s, walk, draft, leaf, bound)?;
@@ -163,93 +184,121 @@ fn go_on(
     }
 }
 
-// A plan of the box to which prices lead that are found from those of the box that was split, if
-// there is one.
-fn find_by_prices(
-    alloc: Global,
-    s: &Scenario,
-    boxes: &Boxes,
+// What a climb in a box leads to: what the kept prices tell, where there is one, and a plan of the
+// box, if one is found.
+#[derive(Drop)]
+struct Climbed {
+    bound: Option<Bound>,
+    plan: Option<Plan>,
+}
+
+// The plan that the last climb led to, if there is one that keeps every rule.
+fn plan_of_climb(
+    problem: Subproblem<'_>,
     rooms: &mut Rooms,
-    rounds: u32,
     cutoff: Option<i64>,
 ) -> Result<Option<Plan>, OutOfMemory>
-    requires boxes { IsMadeFor (parts_of s.now) boxes.now }
-    requires rooms { AreRoomsFor (parts_of s.now) rooms.old }
-    ensures found { IfOk result
-        (λ found. IfSome found (IsPlanIn (parts_of s.now) (box_of boxes.now))) }
-    ensures rooms { AreRoomsFor (parts_of s.now) rooms.new }
+    requires rooms { AreRoomsFor (parts_in problem) rooms.old }
+    ensures plan { IfOk result
+        (λ found. IfSome found (IsPlanIn (parts_in problem.entry) (box_in problem.entry))) }
+    ensures same { rooms.new.prices.ascent.best ≡ rooms.old.prices.ascent.best }
+    ensures rooms { AreRoomsFor (parts_in problem.entry) rooms.new }
 {
-    if rounds == 0 || boxes.is_empty() || first_choice(s, boxes).is_none() {
-        return Ok(None);
-    }
-    let _climbed = rooms
-        .prices
-        .ascent
-        .climb(s, boxes, cutoff, LEAD_PART, rounds);
-    match rooms.prices.ascent.plan(alloc, s, boxes, cutoff)? {
+    let Subproblem { s, boxes } = problem;
+    match rooms.prices.ascent.plan(rooms.alloc, s, boxes, cutoff)? {
         None => Ok(None),
         Some(plan) => Ok(rooms.plans.improver.if_kept(s, boxes, plan)),
     }
 }
 
-// Looks for a plan of the present box to which prices lead, and offers it.
+// Climbs from the prices of the box that was split, if there is one.
+fn climb_in(
+    problem: Subproblem<'_>,
+    rooms: &mut Rooms,
+    rounds: u32,
+    cutoff: Option<i64>,
+) -> Result<Climbed, OutOfMemory>
+    requires rooms { AreRoomsFor (parts_in problem) rooms.old }
+    ensures bound { IfOk result (λ climbed. IfSome climbed.bound (IsClimbed
+        (parts_in problem.entry) (box_in problem.entry) rooms.new.prices.ascent.best)) }
+    ensures plan { IfOk result (λ climbed. IfSome climbed.plan
+        (IsPlanIn (parts_in problem.entry) (box_in problem.entry))) }
+    ensures rooms { AreRoomsFor (parts_in problem.entry) rooms.new }
+{
+    let Subproblem { s, boxes } = problem;
+    if rounds == 0 || boxes.is_empty() || first_choice(problem).is_none() {
+        return Ok(Climbed {
+            bound: None,
+            plan: None,
+        });
+    }
+    let bound = rooms
+        .prices
+        .ascent
+        .climb(s, boxes, cutoff, LEAD_PART, rounds);
+    let plan = plan_of_climb(problem, rooms, cutoff)?;
+    Ok(Climbed {
+        bound: Some(bound),
+        plan,
+    })
+}
+
+// The same, and offers the plan. Answers what the kept prices tell, where there is a climb.
 fn climb_on(
-    alloc: Global,
-    s: &Scenario,
-    walk: &Walk,
+    problem: Subproblem<'_>,
     rooms: &mut Rooms,
     draft: &mut RecordDraft,
     rounds: u32,
-) -> Result<(), OutOfMemory>
-    requires boxes { IsMadeFor (parts_of s.now) walk.now.present }
-    requires rooms { AreRoomsFor (parts_of s.now) rooms.old }
-    ensures improved { (pool : List CutName) (budget : Budget)
-        → IsSearching (parts_of s.now) pool budget walk.now draft.old
-        → OnOk result (IsSearching (parts_of s.now) pool budget walk.now draft.new) }
-    ensures nodes { OnOk result (draft.new.nodes ≡ draft.old.nodes) }
-    ensures rooms { AreRoomsFor (parts_of s.now) rooms.new }
+) -> Result<Option<Bound>, OutOfMemory>
+    requires rooms { AreRoomsFor (parts_in problem) rooms.old }
+    ensures climbed { IfOk result (λ climbed. IfSome climbed (IsClimbed (parts_in problem.entry)
+        (box_in problem.entry) rooms.new.prices.ascent.best)) }
+    ensures improved { IfOk result (λ climbed. IsImproved (parts_in problem.entry)
+        (box_in problem.entry) draft.old draft.new) }
+    ensures rooms { AreRoomsFor (parts_in problem.entry) rooms.new }
 {
-    let found = find_by_prices(alloc, s, walk.boxes(), rooms, rounds, draft.best)?;
-    offer_found(s, walk, draft, found)
+    let Climbed { bound, plan } = climb_in(problem, rooms, rounds, draft.best)?;
+    offer_found(problem, draft, plan)?;
+    Ok(bound)
 }
 
 // Goes on to the next box, if one waits, and offers its greedy plan.
 fn step(
-    alloc: Global,
     s: &Scenario,
     setting: Setting<'_>,
     rooms: &mut Rooms,
     walk: &mut Walk,
     draft: &mut RecordDraft,
-    first: bool,
-    told: Option<Relaxed>,
+    told: Told,
 ) -> Result<bool, OutOfMemory>
-    requires first { IsTrue first → walk.old.above ≡ [] }
+    requires first { IsTrue told.known → walk.old.above ≡ [] }
     requires searching { IsSearching (parts_of s.now) setting.pool.now setting.budget walk.old
         draft.old }
     requires rooms { AreRoomsFor (parts_of s.now) rooms.old }
     requires pool { IsPoolOf (parts_of s.now) setting.pool.now }
     requires begun { length draft.old.nodes ≡ 0 → IsFirstPool (parts_of s.now) setting.budget.limits
         draft.old.best (box_of walk.old.present) setting.pool.now }
-    requires told { IfSome told (IsRelaxedIn (parts_of s.now) setting.pool.now
-        (box_of walk.old.present) setting.budget.limits draft.old.best) }
-    ensures stepped { IfOk result (IsStepped
-        (parts_of s.now) setting.entry.pool.now setting.entry.budget
-        walk.old draft.old walk.new draft.new) }
+    requires told { AreTold (parts_of s.now) setting.pool.now (box_of walk.old.present)
+        setting.budget.limits draft.old.best rooms.old.prices.ascent.best told }
+    ensures stepped { IfOk result (IsStepped (parts_of s.now) setting.entry.pool.now
+        setting.entry.budget walk.old draft.old walk.new draft.new) }
     ensures rooms { AreRoomsFor (parts_of s.now) rooms.new }
 {
     let before = walk.waiting();
-    if !go_on(alloc, s, setting, rooms, walk, draft, first, told)? {
+    if !go_on(s, setting, rooms, walk, draft, told)? {
         return Ok(false);
     }
     follow(s, &mut rooms.prices, before, walk.waiting())?;
-    visit(alloc, s, walk.boxes(), rooms, draft)?;
+    let problem = Subproblem {
+        s,
+        boxes: walk.boxes(),
+    };
+    visit(problem, rooms, draft)?;
     Ok(true)
 }
 
 // Goes on to the next box after a climb in the present one, which isn't the first.
 fn advance(
-    alloc: Global,
     s: &Scenario,
     setting: Setting<'_>,
     rooms: &mut Rooms,
@@ -261,95 +310,49 @@ fn advance(
     requires rooms { AreRoomsFor (parts_of s.now) rooms.old }
     requires pool { IsPoolOf (parts_of s.now) setting.pool.now }
     requires begun { 0 < length draft.old.nodes }
-    ensures stepped { IfOk result (IsStepped
-        (parts_of s.now) setting.entry.pool.now setting.entry.budget
-        walk.old draft.old walk.new draft.new) }
+    ensures stepped { IfOk result (IsStepped (parts_of s.now) setting.entry.pool.now
+        setting.entry.budget walk.old draft.old walk.new draft.new) }
     ensures rooms { AreRoomsFor (parts_of s.now) rooms.new }
 {
-    climb_on(alloc, s, walk, rooms, draft, setting.budget.rounds)?;
-    let more = step(alloc, s, setting, rooms, walk, draft, false, None)?;
+    let problem = Subproblem {
+        s,
+        boxes: walk.boxes(),
+    };
+    let climbed = climb_on(problem, rooms, draft, setting.budget.rounds)?;
+    let told = Told {
+        known: false,
+        relaxed: None,
+        climbed,
+    };
+    let more = step(s, setting, rooms, walk, draft, told)?;
     Ok(more)
 }
 
-// Searches from the path's first box on, which is `whole`, until no box waits. This bound is known
-// of it, and what its relaxation tells may be there already.
-fn run(
-    alloc: Global,
-    s: &Scenario,
+// Searches on from behind the first box, of which this bound is known, until no box waits.
+fn go_through(
+    start: Start<'_>,
     setting: Setting<'_>,
     rooms: &mut Rooms,
-    whole: &Boxes,
     walk: &mut Walk,
     draft: &mut RecordDraft,
     bound: Bound,
-    told: Option<Relaxed>,
 ) -> Result<(), OutOfMemory>
-    requires made { IsMadeFor (parts_of s.now) whole.now }
-    requires whole { box_of whole.now ≡ top_box walk.old }
-    requires first { walk.old.above ≡ [] }
-    requires searching { IsSearching (parts_of s.now) setting.pool.now setting.budget walk.old
+    requires whole { box_in start.whole ≡ top_box walk.old }
+    requires searching { IsSearching (parts_in start.whole) setting.pool.now setting.budget walk.old
         draft.old }
-    requires rooms { AreRoomsFor (parts_of s.now) rooms.old }
-    requires pool { IsPoolOf (parts_of s.now) setting.pool.now }
-    requires begun { IsFirstPool (parts_of s.now) setting.budget.limits draft.old.best
-        (box_of walk.old.present) setting.pool.now }
-    requires told { IfSome told (IsRelaxedIn (parts_of s.now) setting.pool.now
-        (box_of walk.old.present) setting.budget.limits draft.old.best) }
-    ensures { OnOk result (IsSearched (parts_of s.now) setting.entry.pool.now setting.entry.budget
-        (top_box walk.old) draft.new) }
+    requires rooms { AreRoomsFor (parts_in start.whole) rooms.old }
+    requires pool { IsPoolOf (parts_in start.whole) setting.pool.now }
+    requires begun { 0 < length draft.old.nodes }
+    ensures { OnOk result (IsSearched (parts_in start.entry.whole) setting.entry.pool.now
+        setting.entry.budget (top_box walk.old) draft.new) }
 {
     let mut number = 1u32;
-    if !step(alloc, s, setting, rooms, walk, draft, true, told)? {
-        return Ok(());
-    }
-    seek(alloc, s, whole, walk, rooms, draft, bound, number)?;
-    while advance(alloc, s, setting, rooms, walk, draft)? {
+    seek(start, rooms, draft, bound, number)?;
+    while advance(start.whole.s, setting, rooms, walk, draft)? {
         number = number.saturating_add(1);
-        seek(alloc, s, whole, walk, rooms, draft, bound, number)?;
+        seek(start, rooms, draft, bound, number)?;
     }
     Ok(())
-}
-
-// Looks for a plan of the first box by prices, and makes the pool that goes with it; then searches
-// until no box waits. The climb in the first box has so many steps, and this bound is known of it.
-fn run_first(
-    alloc: Global,
-    s: &Scenario,
-    budget: Budget,
-    rooms: &mut Rooms,
-    whole: &Boxes,
-    walk: &mut Walk,
-    draft: &mut RecordDraft,
-    steps: u32,
-    bound: Bound,
-) -> Result<Pool, OutOfMemory>
-    requires made { IsMadeFor (parts_of s.now) whole.now }
-    requires whole { box_of whole.now ≡ top_box walk.old }
-    requires first { walk.old.above ≡ [] }
-    requires here { IsMadeFor (parts_of s.now) walk.old.present }
-    requires tight { IsTight (parts_of s.now) (box_of walk.old.present) }
-    requires searching { (pool : List CutName)
-        → IsSearching (parts_of s.now) pool budget walk.old draft.old }
-    requires rooms { AreRoomsFor (parts_of s.now) rooms.old }
-    ensures cuts { IfOk result (IsPoolOf (parts_of s.now)) }
-    ensures searched { IfOk result (λ pool.
-        IsSearched (parts_of s.now) pool budget (top_box walk.old) draft.new) }
-{
-    climb_on(alloc, s, walk, rooms, draft, steps)?;
-    let Pooled { pool, relaxed } = pool_for(
-        alloc,
-        s,
-        walk.boxes(),
-        &rooms.leaves,
-        budget.limits,
-        draft.best,
-    )?;
-    let setting = Setting {
-        budget,
-        pool: &pool,
-    };
-    run(alloc, s, setting, rooms, whole, walk, draft, bound, relaxed)?;
-    Ok(pool)
 }
 
 // The least of the bounds.
@@ -395,78 +398,85 @@ fn found_in(draft: RecordDraft, pool: Pool) -> Found
     }
 }
 
-// How many steps of so many the next climb has: none, where the bound reaches the cutoff.
-fn steps_for(rounds: u32, bound: Bound, cutoff: Option<i64>) -> u32 {
-    if bound.is_reached(cutoff) { 0 } else { rounds }
+// How many steps of so many the next climb has: none, where the gap is closed.
+fn steps_for(rounds: u32, gap: Gap) -> u32 {
+    if gap.is_closed() { 0 } else { rounds }
 }
 
-// Searches from the tight box on, which is the path's first one and `whole`, for plans and for
-// prices; and then until no box waits.
+// Looks for plans of the first box and for prices, in turns, and answers what the prices tell.
+fn prepare(
+    start: Start<'_>,
+    rounds: u32,
+    rooms: &mut Rooms,
+    draft: &mut RecordDraft,
+) -> Result<Bound, OutOfMemory>
+    requires rooms { AreRoomsFor (parts_in start.whole) rooms.old }
+    ensures improved { (pool : List CutName) (budget : Budget) (path : Path)
+        → box_in start.entry.whole ≡ top_box path
+        → IsSearching (parts_in start.entry.whole) pool budget path draft.old
+        → IfOk result
+        (λ bound. IsSearching (parts_in start.entry.whole) pool budget path draft.new) }
+    ensures rooms { AreRoomsFor (parts_in start.entry.whole) rooms.new }
+{
+    let whole = start.whole;
+    let bound = begin_climb(whole, &mut rooms.prices, rounds, draft.best)?;
+    improve(start, rooms, draft, bound, Search::Short)?;
+    let bound = climb_further(whole, &mut rooms.prices, rounds, draft.gap(bound));
+    improve_further(start, rooms, draft, bound)?;
+    let before = climb_again(whole, &mut rooms.prices, rounds, draft.gap(bound))?;
+    improve(start, rooms, draft, before, Search::Long)?;
+    let best = draft.plans.items().last();
+    let bound = climb_by_plan(whole, &mut rooms.prices, rounds, best, draft.gap(before))?;
+    improve_again(start, rooms, draft, before, bound)?;
+    Ok(bound)
+}
+
+// Searches from the tight box on, which is the path's first one, until no box waits. The pool goes
+// with it.
 fn search_from(
-    alloc: Global,
-    s: &Scenario,
+    start: Start<'_>,
     budget: Budget,
     rooms: &mut Rooms,
-    whole: &Boxes,
     walk: &mut Walk,
     draft: &mut RecordDraft,
 ) -> Result<Pool, OutOfMemory>
-    requires made { IsMadeFor (parts_of s.now) whole.now }
-    requires whole { box_of whole.now ≡ top_box walk.old }
+    requires whole { box_in start.whole ≡ top_box walk.old }
     requires first { walk.old.above ≡ [] }
-    requires here { IsMadeFor (parts_of s.now) walk.old.present }
-    requires tight { IsTight (parts_of s.now) (box_of walk.old.present) }
+    requires here { IsMadeFor (parts_in start.whole) walk.old.present }
+    requires tight { IsTight (parts_in start.whole) (box_of walk.old.present) }
     requires searching { (pool : List CutName)
-        → IsSearching (parts_of s.now) pool budget walk.old draft.old }
-    requires rooms { AreRoomsFor (parts_of s.now) rooms.old }
-    ensures cuts { IfOk result (IsPoolOf (parts_of s.now)) }
+        → IsSearching (parts_in start.whole) pool budget walk.old draft.old }
+    requires rooms { AreRoomsFor (parts_in start.whole) rooms.old }
+    ensures cuts { IfOk result (IsPoolOf (parts_in start.entry.whole)) }
     ensures searched { IfOk result (λ pool.
-        IsSearched (parts_of s.now) pool budget (top_box walk.old) draft.new) }
+        IsSearched (parts_in start.entry.whole) pool budget (top_box walk.old) draft.new) }
 {
-    let bound = begin_climb(
+    let s = start.whole.s;
+    let bound = prepare(start, budget.rounds, rooms, draft)?;
+    let problem = Subproblem {
         s,
-        walk.boxes(),
-        &mut rooms.prices,
-        budget.rounds,
-        draft.best,
-    )?;
-    improve(alloc, s, walk, rooms, draft, bound, Search::Short)?;
-    let bound = climb_further(
-        s,
-        walk.boxes(),
-        &mut rooms.prices,
-        budget.rounds,
-        draft.best,
-        bound,
-    );
-    improve_further(alloc, s, walk, rooms, draft, bound)?;
-    let bound = climb_again(
-        s,
-        walk.boxes(),
-        &mut rooms.prices,
-        budget.rounds,
-        draft.best,
-        bound,
-    )?;
-    improve(alloc, s, walk, rooms, draft, bound, Search::Long)?;
-    let before = bound;
-    let bound = climb_by_plan(
-        s,
-        walk.boxes(),
-        &mut rooms.prices,
-        budget.rounds,
-        draft.plans.items().last(),
-        draft.best,
-        before,
-    )?;
-    improve_again(alloc, s, walk, rooms, draft, before, bound)?;
-    let steps = steps_for(budget.rounds, bound, draft.best);
-    run_first(alloc, s, budget, rooms, whole, walk, draft, steps, bound)
+        boxes: walk.boxes(),
+    };
+    let steps = steps_for(budget.rounds, draft.gap(bound));
+    let climbed = climb_on(problem, rooms, draft, steps)?;
+    let Pooled { pool, relaxed } = pool_for(problem, rooms, budget.limits, draft.best)?;
+    let setting = Setting {
+        budget,
+        pool: &pool,
+    };
+    let told = Told {
+        known: true,
+        relaxed,
+        climbed,
+    };
+    if step(s, setting, rooms, walk, draft, told)? {
+        go_through(start, setting, rooms, walk, draft, bound)?;
+    }
+    Ok(pool)
 }
 
 // Searches the tight box, of which nothing is written down yet.
 fn search_in(
-    alloc: Global,
     s: &Scenario,
     boxes: Boxes,
     budget: Budget,
@@ -482,10 +492,12 @@ fn search_in(
     ensures searched { IfOk result (λ pool.
         IsSearched (parts_of s.now) pool budget (box_of boxes) draft.new) }
 {
-    visit(alloc, s, &boxes, rooms, draft)?;
-    let whole = boxes.copy(alloc)?;
-    let mut walk = Walk::new(alloc, boxes)?;
-    search_from(alloc, s, budget, rooms, &whole, &mut walk, draft)
+    let first = boxes.copy(rooms.alloc)?;
+    let whole = Subproblem { s, boxes: &first };
+    let plan = begin(whole, rooms, draft)?;
+    let start = Start { whole, plan: &plan };
+    let mut walk = Walk::new(rooms.alloc, boxes)?;
+    search_from(start, budget, rooms, &mut walk, draft)
 }
 
 // What is written down of a whole search, and the cuts that its leaves may name.
@@ -497,7 +509,6 @@ struct Searched {
 
 // Searches from the tight box on, and gives all that is written down.
 fn draft_of(
-    alloc: Global,
     s: &Scenario,
     boxes: Boxes,
     budget: Budget,
@@ -511,8 +522,8 @@ fn draft_of(
     ensures searched { IfOk result (λ searched. IsSearched (parts_of s.now) searched.pool budget
         (box_of boxes) searched.draft) }
 {
-    let mut draft = no_draft(alloc);
-    let pool = search_in(alloc, s, boxes, budget, rooms, &mut draft)?;
+    let mut draft = no_draft(rooms.alloc);
+    let pool = search_in(s, boxes, budget, rooms, &mut draft)?;
     Ok(Searched { draft, pool })
 }
 
@@ -531,7 +542,7 @@ fn search_tight(
         (box_of boxes) searched.draft) }
 {
     let mut rooms = rooms_for(alloc, s)?;
-    draft_of(alloc, s, boxes, budget, &mut rooms)
+    draft_of(s, boxes, budget, &mut rooms)
 }
 
 /// Searches the box, which is one of the scenario, for a plan that costs the least, and spends no

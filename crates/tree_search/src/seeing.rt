@@ -6,31 +6,29 @@ ghost use Rattle.dual_leaf.specs.declared.fault.LeafFault.{LeafFault};
 ghost use Rattle.dual_leaf.specs.Leaf.{IsCostIn, IsLeafBound, IsNearOf, IsUnitBox};
 ghost use Rattle.dual_leaf.specs.Work.{IsRoomFor};
 ghost use Rattle.lagrange_bound.specs.Best.{HasPlanAt};
-ghost use Rattle.tree_search.specs.Rooms.{ArePriceRoomsFor, AreRoomsFor};
-ghost use Rattle.flow_types.specs.Scenario.{parts_of};
+ghost use Rattle.tree_search.specs.Rooms.{AreRoomsFor};
 ghost use Rattle.flow_types.specs.declared.bound.Bound.{Bound};
 ghost use Rattle.flow_types.specs.declared.parts.Parts.{Parts};
 ghost use Rattle.time_windows.specs.Boxes.{Box};
 ghost use Rattle.flow_types.specs.Bounds.{is_reached};
-ghost use Rattle.time_windows.specs.Held.{IsMadeFor, box_of};
 ghost use Rattle.time_windows.specs.Tight.{IsLive, IsTight};
 ghost use Rattle.cut_rows.specs.Pools.{IsPoolOf};
-ghost use Rattle.cut_rows.specs.Table.{IsTableFor};
 ghost use Rattle.relaxed_bound.specs.Point.{IsPointIn, IsToldPoint};
-ghost use Rattle.tree_search.specs.Seen.{IsBranchOf, IsRelaxedIn, IsSeen, may_split};
+ghost use Rattle.tree_search.specs.Seen.{AreTold, IsBranchOf, IsRelaxedIn, IsSeen, may_split};
+ghost use Rattle.time_windows.specs.Subproblems.{box_in, parts_in};
 
 use crate::branching::{first_choice, nearest_half};
+use crate::gap::Gap;
 use crate::pricing::{price, price_leaf};
 use crate::probing::strongest;
-use crate::rooms::{PriceRooms, Rooms};
+use crate::rooms::Rooms;
 use crate::setting::Setting;
 use branch_tree::{Branch, Leaf};
-use cut_rows::{Pool, Table};
+use cut_rows::{Pool, Relaxation};
 use dual_leaf::LeafWork;
-use flow_types::{Bound, OutOfMemory, Scenario};
+use flow_types::{Bound, OutOfMemory};
 use relaxed_bound::{Limits, Point, Relaxed, relax};
-use std::alloc::Global;
-use time_windows::Boxes;
+use time_windows::Subproblem;
 
 /// What is seen of a box.
 #[derive(Drop)]
@@ -41,62 +39,67 @@ pub enum Seen {
     Split(Branch),
 }
 
-/// What is known before a box is seen.
+/// Where the search stands before a box is seen.
 #[derive(Clone, Copy)]
 pub struct Standing {
     /// What the best plan costs, if one is known.
     pub cutoff: Option<i64>,
-    /// Whether that plan is in the box.
-    pub known: bool,
     /// Whether there is room for two nodes more.
     pub more: bool,
+}
+
+/// What was told of a box before it is seen.
+#[derive(Drop)]
+pub struct Told {
+    /// Whether the best plan is in the box.
+    pub known: bool,
+    /// What the box's relaxation tells.
+    pub relaxed: Option<Relaxed>,
+    /// What the kept prices tell.
+    pub climbed: Option<Bound>,
 }
 
 /// What is seen of the box. Where no plan is in it the leaf is Empty, and where it has no choice
 /// the leaf is Unit. Else the leaf is that of the relaxation's run or of prices, whichever tells
 /// more; or, where neither reaches the cutoff and there is room for two nodes more, the box is
 /// split. Where a plan in the box is known to cost the cutoff, a bound that reaches it is enough.
-/// What the relaxation tells may be there already.
 pub fn see(
-    alloc: Global,
-    s: &Scenario,
-    boxes: &Boxes,
+    problem: Subproblem<'_>,
     rooms: &mut Rooms,
     setting: Setting<'_>,
     standing: Standing,
-    told: Option<Relaxed>,
+    told: Told,
 ) -> Result<Seen, OutOfMemory>
-    requires made { IsMadeFor (parts_of s.now) boxes.now }
-    requires tight { IsTight (parts_of s.now) (box_of boxes.now) }
-    requires rooms { AreRoomsFor (parts_of s.now) rooms.old }
-    requires pool { IsPoolOf (parts_of s.now) setting.pool.now }
-    requires known { IsTrue standing.known
-        → IfSome standing.cutoff (HasPlanAt (parts_of s.now) (box_of boxes.now)) }
-    requires told { IfSome told (IsRelaxedIn (parts_of s.now) setting.pool.now
-        (box_of boxes.now) setting.budget.limits standing.cutoff) }
-    requires tried { IsUnitBox (box_of boxes.now) → (bound : Bound)
-        → IsCostIn (parts_of s.now) (box_of boxes.now) bound
+    requires tight { IsTight (parts_in problem) (box_in problem) }
+    requires rooms { AreRoomsFor (parts_in problem) rooms.old }
+    requires pool { IsPoolOf (parts_in problem) setting.pool.now }
+    requires known { IsTrue told.known
+        → IfSome standing.cutoff (HasPlanAt (parts_in problem) (box_in problem)) }
+    requires told { AreTold (parts_in problem) setting.pool.now (box_in problem)
+        setting.budget.limits standing.cutoff rooms.old.prices.ascent.best told }
+    requires tried { IsUnitBox (box_in problem) → (bound : Bound)
+        → IsCostIn (parts_in problem) (box_in problem) bound
         → is_reached standing.cutoff bound ≡ true }
-    ensures seen { IfOk result (IsSeen (parts_of s.now) setting.entry.pool.now setting.entry.budget
-        standing.cutoff standing.more (box_of boxes.now)) }
-    ensures rooms { AreRoomsFor (parts_of s.now) rooms.new }
+    ensures seen { IfOk result (IsSeen (parts_in problem.entry) setting.entry.pool.now
+        setting.entry.budget standing.cutoff standing.more (box_in problem.entry)) }
+    ensures rooms { AreRoomsFor (parts_in problem.entry) rooms.new }
 {
-    if boxes.is_empty() {
+    if problem.boxes.is_empty() {
         return Ok(Seen::Leaf {
             leaf: Leaf::Empty,
             bound: Bound::NoPlan,
         });
     }
-    match first_choice(s, boxes) {
+    match first_choice(problem) {
         None => {
-            let bound = bound_of(s, setting.pool, boxes, &mut rooms.leaves, &Leaf::Unit);
+            let bound = bound_of(problem, setting.pool, &mut rooms.leaves, &Leaf::Unit);
             Ok(Seen::Leaf {
                 leaf: Leaf::Unit,
                 bound,
             })
         }
         Some(branch) => {
-            let seen = see_open(alloc, s, boxes, rooms, setting, standing, told, branch)?;
+            let seen = see_open(problem, rooms, setting, standing, told, branch)?;
             Ok(seen)
         }
     }
@@ -104,60 +107,51 @@ pub fn see(
 
 // What is seen of a box in which no node that must be entered is closed, and which has a choice.
 fn see_open(
-    alloc: Global,
-    s: &Scenario,
-    boxes: &Boxes,
+    problem: Subproblem<'_>,
     rooms: &mut Rooms,
     setting: Setting<'_>,
     standing: Standing,
-    told: Option<Relaxed>,
+    told: Told,
     branch: Branch,
 ) -> Result<Seen, OutOfMemory>
-    requires made { IsMadeFor (parts_of s.now) boxes.now }
-    requires tight { IsTight (parts_of s.now) (box_of boxes.now) }
-    requires rooms { AreRoomsFor (parts_of s.now) rooms.old }
-    requires pool { IsPoolOf (parts_of s.now) setting.pool.now }
-    requires known { IsTrue standing.known
-        → IfSome standing.cutoff (HasPlanAt (parts_of s.now) (box_of boxes.now)) }
-    requires told { IfSome told (IsRelaxedIn (parts_of s.now) setting.pool.now
-        (box_of boxes.now) setting.budget.limits standing.cutoff) }
-    requires live { IsLive (box_of boxes.now) }
-    requires branch { IsBranchOf (parts_of s.now) (box_of boxes.now) branch }
-    ensures seen { IfOk result (IsSeen (parts_of s.now) setting.entry.pool.now setting.entry.budget
-        standing.cutoff standing.more (box_of boxes.now)) }
-    ensures rooms { AreRoomsFor (parts_of s.now) rooms.new }
+    requires tight { IsTight (parts_in problem) (box_in problem) }
+    requires rooms { AreRoomsFor (parts_in problem) rooms.old }
+    requires pool { IsPoolOf (parts_in problem) setting.pool.now }
+    requires known { IsTrue told.known
+        → IfSome standing.cutoff (HasPlanAt (parts_in problem) (box_in problem)) }
+    requires told { AreTold (parts_in problem) setting.pool.now (box_in problem)
+        setting.budget.limits standing.cutoff rooms.old.prices.ascent.best told }
+    requires live { IsLive (box_in problem) }
+    requires branch { IsBranchOf (parts_in problem) (box_in problem) branch }
+    ensures seen { IfOk result (IsSeen (parts_in problem.entry) setting.entry.pool.now
+        setting.entry.budget standing.cutoff standing.more (box_in problem.entry)) }
+    ensures rooms { AreRoomsFor (parts_in problem.entry) rooms.new }
 {
-    let Standing {
-        cutoff,
+    let Standing { cutoff, more } = standing;
+    let Told {
         known,
-        more,
-    } = standing;
-    let table = rooms.leaves.table();
-    let relaxed = told_or_run(alloc, s, boxes, table, setting, cutoff, told)?;
+        relaxed,
+        climbed,
+    } = told;
+    let relaxed = told_or_run(problem, rooms, setting, cutoff, relaxed)?;
     let Relaxed {
         leaf,
         end: _,
         point,
     } = relaxed;
-    let run = bound_of(s, setting.pool, boxes, &mut rooms.leaves, &leaf);
+    let run = bound_of(problem, setting.pool, &mut rooms.leaves, &leaf);
     if is_closed(known, cutoff, run) {
         return Ok(Seen::Leaf { leaf, bound: run });
     }
+    let gap = Gap { cutoff, bound: run };
     let enough = if_known(known, cutoff);
-    let priced = price(
-        s,
-        boxes,
-        &mut rooms.prices,
-        setting.budget.rounds,
-        cutoff,
-        run,
-        enough,
-    );
+    let rounds = setting.budget.rounds;
+    let priced = price(problem, &mut rooms.prices, rounds, gap, climbed, enough);
     if may_split(more, cutoff, run, priced.bound) {
-        let branch = choose(alloc, s, boxes, &point, &mut rooms.prices, cutoff, branch)?;
+        let branch = choose(problem, rooms, &point, cutoff, branch)?;
         Ok(Seen::Split(branch))
     } else if priced.bound.is_above(run) {
-        let leaf = price_leaf(alloc, s, &rooms.prices, priced.source)?;
+        let leaf = price_leaf(rooms.alloc, problem.s, &rooms.prices, priced.source)?;
         Ok(Seen::Leaf {
             leaf,
             bound: priced.bound,
@@ -169,59 +163,47 @@ fn see_open(
 
 // What the relaxation of the box tells: what is there already, or by a run.
 fn told_or_run(
-    alloc: Global,
-    s: &Scenario,
-    boxes: &Boxes,
-    table: &Table,
+    problem: Subproblem<'_>,
+    rooms: &Rooms,
     setting: Setting<'_>,
     cutoff: Option<i64>,
     told: Option<Relaxed>,
 ) -> Result<Relaxed, OutOfMemory>
-    requires made { IsMadeFor (parts_of s.now) boxes.now }
-    requires tight { IsTight (parts_of s.now) (box_of boxes.now) }
-    requires table { IsTableFor (parts_of s.now) table.now }
-    requires pool { IsPoolOf (parts_of s.now) setting.pool.now }
-    requires told { IfSome told (IsRelaxedIn (parts_of s.now) setting.pool.now
-        (box_of boxes.now) setting.budget.limits cutoff) }
-    ensures { IfOk result (IsRelaxedIn (parts_of s.now) setting.entry.pool.now (box_of boxes.now)
-        setting.entry.budget.limits cutoff) }
+    requires tight { IsTight (parts_in problem) (box_in problem) }
+    requires rooms { AreRoomsFor (parts_in problem) rooms.now }
+    requires pool { IsPoolOf (parts_in problem) setting.pool.now }
+    requires told { IfSome told (IsRelaxedIn (parts_in problem) setting.pool.now (box_in problem)
+        setting.budget.limits cutoff) }
+    ensures { IfOk result (IsRelaxedIn (parts_in problem.entry) setting.entry.pool.now
+        (box_in problem.entry) setting.entry.budget.limits cutoff) }
 {
     match told {
         Some(relaxed) => Ok(relaxed),
-        None => run_of(
-            alloc,
-            s,
-            boxes,
-            table,
-            setting.pool,
-            setting.budget.limits,
-            cutoff,
-        ),
+        None => run_of(problem, rooms, setting.pool, setting.budget.limits, cutoff),
     }
 }
 
 /// What a run of the box's relaxation with these cuts tells.
 pub fn run_of(
-    alloc: Global,
-    s: &Scenario,
-    boxes: &Boxes,
-    table: &Table,
+    problem: Subproblem<'_>,
+    rooms: &Rooms,
     pool: &Pool,
     limits: Limits,
     cutoff: Option<i64>,
 ) -> Result<Relaxed, OutOfMemory>
-    requires made { IsMadeFor (parts_of s.now) boxes.now }
-    requires tight { IsTight (parts_of s.now) (box_of boxes.now) }
-    requires table { IsTableFor (parts_of s.now) table.now }
-    requires pool { IsPoolOf (parts_of s.now) pool.now }
-    ensures relaxed { IfOk result (IsRelaxedIn (parts_of s.now) pool.now (box_of boxes.now) limits
-        cutoff) }
+    requires tight { IsTight (parts_in problem) (box_in problem) }
+    requires rooms { AreRoomsFor (parts_in problem) rooms.now }
+    requires pool { IsPoolOf (parts_in problem) pool.now }
+    ensures relaxed { IfOk result (IsRelaxedIn (parts_in problem.entry) pool.now
+        (box_in problem.entry) limits cutoff) }
     ensures point { IfOk result (λ relaxed. IfSome relaxed.point
-        (IsPointIn (parts_of s.now) pool.now (box_of boxes.now))) }
-    ensures told { IfOk result (λ relaxed. IsToldPoint (parts_of s.now) pool.now
-        (box_of boxes.now) limits cutoff relaxed.point) }
+        (IsPointIn (parts_in problem.entry) pool.now (box_in problem.entry))) }
+    ensures told { IfOk result (λ relaxed. IsToldPoint (parts_in problem.entry) pool.now
+        (box_in problem.entry) limits cutoff relaxed.point) }
 {
-    relax(alloc, s, pool, boxes, table, limits, cutoff)
+    let Subproblem { s, boxes } = problem;
+    let relaxation = Relaxation::of(s, boxes, rooms.leaves.table(), pool);
+    relax(rooms.alloc, relaxation, limits, cutoff)
 }
 
 // Whether a plan is known, and the bound reaches what it costs.
@@ -250,42 +232,39 @@ fn may_split(more: bool, cutoff: Option<i64>, run: Bound, priced: Bound) -> bool
 // Where to split the box, which has this branch: where prices tell the most of both sides, of the
 // branch that is nearest to a half at the run's point, if there is one, and some others.
 fn choose(
-    alloc: Global,
-    s: &Scenario,
-    boxes: &Boxes,
+    problem: Subproblem<'_>,
+    rooms: &mut Rooms,
     point: &Option<Point>,
-    rooms: &mut PriceRooms,
     cutoff: Option<i64>,
     known: Branch,
 ) -> Result<Branch, OutOfMemory>
-    requires made { IsMadeFor (parts_of s.now) boxes.now }
-    requires known { IsBranchOf (parts_of s.now) (box_of boxes.now) known }
-    requires rooms { ArePriceRoomsFor (parts_of s.now) rooms.old }
-    ensures branch { IfOk result (IsBranchOf (parts_of s.now) (box_of boxes.now)) }
-    ensures rooms { ArePriceRoomsFor (parts_of s.now) rooms.new }
+    requires known { IsBranchOf (parts_in problem) (box_in problem) known }
+    requires rooms { AreRoomsFor (parts_in problem) rooms.old }
+    ensures branch { IfOk result (IsBranchOf (parts_in problem.entry) (box_in problem.entry)) }
+    ensures rooms { AreRoomsFor (parts_in problem.entry) rooms.new }
 {
     match point {
-        None => strongest(alloc, s, boxes, rooms, cutoff, known, None),
+        None => strongest(problem, rooms, cutoff, known, None),
         Some(point) => {
-            let near = nearest_half(s, boxes, point, known);
-            strongest(alloc, s, boxes, rooms, cutoff, near, Some(near))
+            let near = nearest_half(problem, point, known);
+            strongest(problem, rooms, cutoff, near, Some(near))
         }
     }
 }
 
 // The bound of a leaf that has one.
-fn bound_of(s: &Scenario, pool: &Pool, boxes: &Boxes, work: &mut LeafWork, leaf: &Leaf) -> Bound
-    requires made { IsMadeFor (parts_of s.now) boxes.now }
-    requires tight { IsTight (parts_of s.now) (box_of boxes.now) }
-    requires work { IsRoomFor (parts_of s.now) work.old }
+fn bound_of(problem: Subproblem<'_>, pool: &Pool, work: &mut LeafWork, leaf: &Leaf) -> Bound
+    requires tight { IsTight (parts_in problem) (box_in problem) }
+    requires work { IsRoomFor (parts_in problem) work.old }
     requires range { IsInRange leaf.now }
     requires some { (answer : Result Bound LeafFault)
-        → IsLeafBound (parts_of s.now) pool.now (box_of boxes.now) leaf.now answer
+        → IsLeafBound (parts_in problem) pool.now (box_in problem) leaf.now answer
         → IsOk answer }
-    ensures bound { IsLeafBound (parts_of s.now) pool.now (box_of boxes.now) leaf.now
+    ensures bound { IsLeafBound (parts_in problem.entry) pool.now (box_in problem.entry) leaf.now
         (Ok result) }
     ensures near { IsNearOf leaf.now result }
-    ensures work { IsRoomFor (parts_of s.now) work.new }
+    ensures work { IsRoomFor (parts_in problem.entry) work.new }
 {
-    work.leaf_bound(s, pool, boxes, leaf).unwrap()
+    work.leaf_bound(problem.s, pool, problem.boxes, leaf)
+        .unwrap()
 }

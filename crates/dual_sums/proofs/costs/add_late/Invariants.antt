@@ -1,14 +1,15 @@
 use Rattle.std.proofs.Common.{◌*◌, ◌^◌, ◌*ℤ◌, pos, slice_get}
 use Rattle.bytime_model.specs.CostRow.{late_step_at, late_variable, steps}
 use Rattle.bytime_model.specs.Values.{form_value}
-use Rattle.bytime_model.specs.Landing.{choice_in}
-use Rattle.dual_sums.specs.Growing.{Grows}
+use Rattle.cut_rows.specs.Relaxations.{parts_under}
+use Rattle.dual_sums.specs.Growing.{Grows, choice_under}
 use Rattle.dual_sums.proofs.costs.add_late.Given as goal
 
 abbrev pub invariant-loop-delay : goal.invariant-loop-delay
 invariant-loop-delay l =
-    Grows (choice_in l.fn.s.parts l.fn.columns l.fn.boxes)
+    let parts = parts_under l.relaxation in
+    let found = slice_get parts.flights l.fn.flight in
+    Grows (choice_under l.relaxation)
     (λ value. pos l.fn.weight *ℤ form_value value
-    (steps (late_step_at l.fn.s.parts.tables (slice_get l.fn.s.parts.flights l.fn.flight))
-    (late_variable l.fn.flight (slice_get l.fn.s.parts.flights l.fn.flight)) l.delay))
+    (steps (late_step_at parts.tables found) (late_variable l.fn.flight found) l.delay))
     (l.delay * 2 ^ 93) l.fn.sums l.sums

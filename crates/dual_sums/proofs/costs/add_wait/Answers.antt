@@ -1,18 +1,19 @@
 use Rattle.std.proofs.Common.{◌^◌, ◌*ℤ◌, pos, subst}
-use Rattle.flow_types.specs.Scenario.{flight_at, parts_of}
+use Rattle.flow_types.specs.Scenario.{flight_at}
 use Rattle.bytime_model.specs.declared.variables.Term.{Term}
 use Rattle.bytime_model.specs.CostRow.{wait_step_at, wait_variable}
-use Rattle.bytime_model.specs.Landing.{choice_in}
-use Rattle.dual_sums.specs.Growing.{Grows}
+use Rattle.cut_rows.specs.Relaxations.{parts_under}
+use Rattle.dual_sums.specs.Growing.{Grows, choice_under}
 use Rattle.dual_sums.proofs.CostGrowFacts.{steps_more}
 use Rattle.dual_sums.proofs.costs.add_wait.Goals as goal
 
 pub loop-delay-preserved : goal.loop-delay-preserved
 loop-delay-preserved c =
-    let at = choice_in (parts_of c.args.s.now) c.args.columns.now c.args.boxes.now in
+    let at = choice_under c.args.relaxation in
+    let found = flight_at c.args.relaxation.problem.s.now c.args.flight in
     steps_more at c.args.weight
-    (wait_step_at (parts_of c.args.s.now).tables (flight_at c.args.s.now c.args.flight))
-    (wait_variable c.args.flight (flight_at c.args.s.now c.args.flight)) c.loop-delay.delay
+    (wait_step_at (parts_under c.args.relaxation).tables found)
+    (wait_variable c.args.flight found) c.loop-delay.delay
     c.args.sums.now c.loop-delay.sums c.add_step.new.sums c.loop-delay.invariant
     (subst (λ (term : Term). Grows at
     (λ value. pos c.args.weight *ℤ (term.factor *ℤ pos (value term.variable))) (2 ^ 93)

@@ -1,8 +1,6 @@
 use Rattle.std.proofs.Common.{◌*◌, ◌+ℤ◌, ◌*ℤ◌, ◌^◌, ◌∙◌, ap, length, pos, unsigned_abs, subst, arith}
-use Rattle.flow_types.specs.Scenario.{parts_of}
 use Rattle.bytime_model.specs.Values.{form_value}
-use Rattle.bytime_model.specs.Landing.{choice_in}
-use Rattle.dual_sums.specs.Growing.{Grows}
+use Rattle.dual_sums.specs.Growing.{Grows, choice_under}
 use Rattle.dual_sums.specs.Sums.{sum_at}
 use Rattle.dual_sums.proofs.RowGrowFacts.{row_grows}
 use Rattle.dual_sums.proofs.SumsFacts.{whole_small}
@@ -12,10 +10,10 @@ pub returns : goal.returns
 returns c =
     let small = c.charge.ensures.small in
     let whole = whole_small c.charge.result (omega (arith, small)) in
-    row_grows (choice_in (parts_of c.args.s.now) c.args.columns.now c.args.boxes.now) c.args.count
+    row_grows (choice_under c.args.relaxation) c.args.count
     c.args.row.now c.charge.result c.args.sums.now c.add_terms.new.sums c.land.new.self
     c.requires.few
-    (subst (λ terms. Grows (choice_in (parts_of c.args.s.now) c.args.columns.now c.args.boxes.now)
+    (subst (λ terms. Grows (choice_under c.args.relaxation)
     (λ value. pos c.args.count *ℤ form_value value terms) (length terms * 2 ^ 62) c.args.sums.now
     c.add_terms.new.sums) c.terms.ensures c.add_terms.ensures) c.charge.ensures.charge small
     (λ bit. c.land.ensures.sum bit

@@ -1,9 +1,11 @@
-use Rattle.bytime_model.specs.Landing.{choice_in}
+use Rattle.cut_rows.specs.Relaxations.{parts_under}
+use Rattle.dual_sums.specs.Growing.{choice_under}
 use Rattle.dual_sums.specs.Rows.{AreAddedTo}
 use Rattle.dual_sums.proofs.rows.add_rows.Given as goal
 
 abbrev pub invariant-loop-position : goal.invariant-loop-position
 invariant-loop-position l =
-    AreAddedTo l.fn.s.parts l.fn.pool (choice_in l.fn.s.parts l.fn.table.columns l.fn.boxes)
-    l.fn.rows l.position
+    AreAddedTo (parts_under l.relaxation) l.relaxation.pool.now
+    (choice_under l.relaxation)
+    l.rows l.position
     l.fn.sums l.sums

@@ -1,4 +1,4 @@
-use Rattle.std.proofs.Common.{Some, arith, subst, sym}
+use Rattle.std.proofs.Common.{arith, subst, sym}
 use Rattle.time_windows.specs.Boxes.{IsInWindow, IsProper}
 use Rattle.flight_routes.proofs.accesses.with_window.Goals as goal
 

@@ -1,4 +1,3 @@
-use Rattle.std.proofs.Common.{◌-◌}
 use Rattle.flight_routes.specs.Prices.{price_in}
 use Rattle.flight_routes.proofs.LaterFacts.{AddsLater}
 use Rattle.flight_routes.proofs.later.add_later.Given as goal

@@ -7,10 +7,10 @@ use Rattle.flight_routes.proofs.relax.relax.Goals as goal
 
 pub loop-time-init : goal.loop-time-init
 loop-time-init c =
-    let clear = clear_in c.args.clear.now in
-    let paid = paid_in c.args.paid.now in
-    let cell = cell_in c.args.cells.now in
-    let next = c.args.next in
+    let clear = clear_in c.args.passage.clear.now in
+    let paid = paid_in c.args.passage.paid.now in
+    let cell = cell_in c.args.passage.cells.now in
+    let next = c.args.passage.next in
     record {
       wait = rw c.none-wait.ensures
           (no_entry clear paid cell next c.args.window.lo c.requires.kept (next.hi + 1)
@@ -27,18 +27,18 @@ pub wait_from-wait-requires-clause-wait : goal.wait_from-wait-requires-clause-wa
 wait_from-wait-requires-clause-wait c =
     let same : c.loop-time.time - 1 + 1 ≡ c.loop-time.time = omega arith in
     subst (λ (n : ℕ). IsLeast
-    (IsEntry (clear_in c.args.clear.now) (cell_in c.args.cells.now) c.args.next n)
-    (entry_cost (paid_in c.args.paid.now) (cell_in c.args.cells.now)) c.loop-time.wait)
+    (IsEntry (clear_in c.args.passage.clear.now) (cell_in c.args.passage.cells.now) c.args.passage.next n)
+    (entry_cost (paid_in c.args.passage.paid.now) (cell_in c.args.passage.cells.now)) c.loop-time.wait)
     (sym same) c.loop-time.invariant.wait
 
 pub loop-time-preserved : goal.loop-time-preserved
 loop-time-preserved c =
-    let clear = clear_in c.args.clear.now in
-    let paid = paid_in c.args.paid.now in
-    let cell = cell_in c.args.cells.now in
+    let clear = clear_in c.args.passage.clear.now in
+    let paid = paid_in c.args.passage.paid.now in
+    let cell = cell_in c.args.passage.cells.now in
     record {
       wait = c.wait_from-wait.ensures;
-      slots = λ t from to. slot_next clear paid cell c.args.next c.args.window.lo c.requires.kept
+      slots = λ t from to. slot_next clear paid cell c.args.passage.next c.args.window.lo c.requires.kept
           c.args.least t from
           c.loop-time.time c.wait_from-wait.result (slice_index_or c.args.row.now t None)
           (slice_index_or c.loop-time.row t None) (slice_index_or c.offer.new.row t None)

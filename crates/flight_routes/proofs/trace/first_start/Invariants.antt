@@ -8,4 +8,4 @@ use Rattle.flight_routes.proofs.trace.first_start.Given as goal
 abbrev pub invariant-loop-time : goal.invariant-loop-time
 invariant-loop-time l =
     (u : ℕ) → u < l.time
-    → IsKeptStart (row_of l.accesses) (rates_of l.rates) l.cells l.least u → ⊥
+    → IsKeptStart (row_of l.ways.accesses.now) (rates_of l.ways.rates.now) l.cells l.least u → ⊥

@@ -1,4 +1,4 @@
-use Rattle.std.proofs.Common.{◌≡◌, ◌+◌, ◌<◌, ◌^◌, ℕ, List, Option, ℤ, IfSome, IsSome, length, slice_index_or, sym, subst, arith}
+use Rattle.std.proofs.Common.{◌≡◌, ◌+◌, ◌^◌, ℕ, Option, ℤ, IfSome, IsSome, length, slice_index_or, sym, subst, arith}
 use Rattle.std.proofs.lemmas.List.{get_or_default}
 use Rattle.flow_types.specs.declared.plan.Stop.{Stop}
 use Rattle.flight_routes.specs.Firsts.{IsFirst, IsFirstAt, IsNext, IsNextAmong}
@@ -13,23 +13,23 @@ use Rattle.flight_routes.proofs.trace.next_stop.Goals as goal
 
 pub first_by-requires-clause-costs : goal.first_by-requires-clause-costs
 first_by-requires-clause-costs c = λ n u inside within.
-    cells_within c.args.flight.now (row_of c.args.accesses.now) (rates_of c.args.rates.now)
-    c.requires.ready.network c.requires.ready.day.small 0 c.args.cells.now c.requires.cells n u
-    (omega arith) (subst (λ (nodes : List ℕ). n < length nodes) c.items.ensures inside) within
+    cells_within c.args.ways.flight.now (row_of c.args.ways.accesses.now) (rates_of c.args.ways.rates.now)
+    c.args.ways.ready.network c.args.ways.ready.day.small 0 c.args.cells.now c.requires.cells n u
+    (omega arith) inside within
 
 pub first_by-requires-clause-value : goal.first_by-requires-clause-value
 first_by-requires-clause-value c =
     subst (λ (o : Option ℤ). IfSome o (IsNear (2 ^ 111))) (sym c.cell_at-value.ensures)
-    (cells_within c.args.flight.now (row_of c.args.accesses.now) (rates_of c.args.rates.now)
-    c.requires.ready.network c.requires.ready.day.small 0 c.args.cells.now c.requires.cells
+    (cells_within c.args.ways.flight.now (row_of c.args.ways.accesses.now) (rates_of c.args.ways.rates.now)
+    c.args.ways.ready.network c.args.ways.ready.day.small 0 c.args.cells.now c.requires.cells
     c.args.stop.node c.args.stop.time (omega arith) (omega (arith, c.requires.node))
     c.requires.window)
 
 pub loop-at-preserved : goal.loop-at-preserved
 loop-at-preserved c =
     let legs = c.items-legs.result.now in
-    let row = row_of c.args.accesses.now in
-    let rates = rates_of c.args.rates.now in
+    let row = row_of c.args.ways.accesses.now in
+    let rates = rates_of c.args.ways.rates.now in
     let value = c.cell_at-value.result in
     let leg = slice_index_or legs c.loop-at.at (record { from = 0; to = 0; least = 0 }) in
     subst
@@ -41,9 +41,9 @@ loop-at-preserved c =
 
 pub unreachable-requires : goal.unreachable-requires
 unreachable-requires c =
-    let flight = c.args.flight.now in
-    let row = row_of c.args.accesses.now in
-    let rates = rates_of c.args.rates.now in
+    let flight = c.args.ways.flight.now in
+    let row = row_of c.args.ways.accesses.now in
+    let rates = rates_of c.args.ways.rates.now in
     let legs = c.items-legs.result.now in
     let value = c.cell_at-value.result in
     let stop = c.args.stop in
@@ -51,7 +51,7 @@ unreachable-requires c =
     let none = subst (λ (o : Option Stop). IsFirst
     (IsNextAmong legs c.loop-at.at row rates c.args.cells.now stop value) o) c.in-None.is
     c.loop-at.invariant in
-    not_none flight row rates c.args.rates.now.span c.requires.ready c.args.cells.now
+    not_none flight row rates c.args.ways.rates.now.span c.args.ways.ready c.args.cells.now
     c.requires.cells legs stop value
     (subst (HasLegsFrom stop.node flight.legs) (sym c.items-legs.ensures)
     (all_legs stop.node flight.legs))
@@ -65,9 +65,9 @@ unreachable-requires c =
 
 pub returns : goal.returns
 returns c =
-    let flight = c.args.flight.now in
-    let row = row_of c.args.accesses.now in
-    let rates = rates_of c.args.rates.now in
+    let flight = c.args.ways.flight.now in
+    let row = row_of c.args.ways.accesses.now in
+    let rates = rates_of c.args.ways.rates.now in
     let legs = c.items-legs.result.now in
     let stop = c.args.stop in
     let same : c.loop-at.at ≡ length legs = omega arith in
@@ -76,7 +76,7 @@ returns c =
     c.in-Some.is c.loop-at.invariant in
     subst (λ (o : Option ℤ). IsFirstAt (IsNext flight row rates c.args.cells.now stop o)
     c.in-Some.next) c.cell_at-value.ensures
-    (first_of_all flight row rates c.args.rates.now.span c.requires.ready c.args.cells.now
+    (first_of_all flight row rates c.args.ways.rates.now.span c.args.ways.ready c.args.cells.now
     c.requires.cells legs stop c.in-Some.next c.cell_at-value.result
     (subst (HasLegsFrom stop.node flight.legs) (sym c.items-legs.ensures)
     (all_legs stop.node flight.legs))

@@ -14,9 +14,9 @@ use Rattle.flight_routes.proofs.trace.trace.Goals as goal
 
 pub loop-stop-init : goal.loop-stop-init
 loop-stop-init c =
-    let flight = c.args.flight.now in
-    let row = row_of c.args.accesses.now in
-    let rates = rates_of c.args.rates.now in
+    let flight = c.args.ways.flight.now in
+    let row = row_of c.args.ways.accesses.now in
+    let rates = rates_of c.args.ways.rates.now in
     let cells = c.args.cells.now in
     let stop = c.start_stop-stop.result in
     let node = c.start_stop-stop.ensures.node in
@@ -28,10 +28,10 @@ loop-stop-init c =
       goes_on = λ rest on.
           subst (λ (xs : List Stop). IsFirstLeast (IsWay flight row rates) (whole_cost rates)
           IsNoLater (xs ++ rest)) (sym items)
-          (trace_start flight row rates c.args.rates.now.span c.requires.ready cells
+          (trace_start flight row rates c.args.ways.rates.now.span c.args.ways.ready cells
           c.requires.cells stop c.args.least node c.requires.some c.requires.least
           c.start_stop-stop.ensures.first rest on);
-      inside = omega (arith, node, c.requires.ready.network.nodes_from);
+      inside = omega (arith, node, c.args.ways.ready.network.nodes_from);
       window = subst (λ (n : ℕ). IsInWindow (row n).window stop.time) (sym node) start.window;
       reaches = subst (λ (n : ℕ). IsSome (cell_at cells n stop.time)) (sym node) start.reaches;
       few = omega (arith, c.push_reserved.ensures.len, c.clear.ensures.len);
@@ -40,9 +40,9 @@ loop-stop-init c =
 
 pub loop-stop-preserved : goal.loop-stop-preserved
 loop-stop-preserved c =
-    let flight = c.args.flight.now in
-    let row = row_of c.args.accesses.now in
-    let rates = rates_of c.args.rates.now in
+    let flight = c.args.ways.flight.now in
+    let row = row_of c.args.ways.accesses.now in
+    let rates = rates_of c.args.ways.rates.now in
     let cells = c.args.cells.now in
     let stop = c.loop-stop.stop in
     let next = c.next_stop-stop.result in
@@ -50,12 +50,12 @@ loop-stop-preserved c =
     let first = c.next_stop-stop.ensures in
     let before : stop.node + 1 < length flight.nodes =
     omega (arith, ap length c.items-nodes.ensures) in
-    let up = step_up flight row rates c.requires.ready.network stop next
+    let up = step_up flight row rates c.args.ways.ready.network stop next
     first.inside.passage.step in
     record {
       goes_on = λ rest on.
           let more = so_far.goes_on (next ∷ rest)
-          (trace_next flight row rates c.args.rates.now.span c.requires.ready cells
+          (trace_next flight row rates c.args.ways.rates.now.span c.args.ways.ready cells
           c.requires.cells stop next (cell_at cells stop.node stop.time) before
           (c.requires.cells.each stop.node stop.time (omega arith) so_far.inside so_far.window)
           so_far.reaches first rest on) in
@@ -73,9 +73,9 @@ loop-stop-preserved c =
 
 pub returns-clause-first : goal.returns-clause-first
 returns-clause-first c =
-    let flight = c.args.flight.now in
-    let row = row_of c.args.accesses.now in
-    let rates = rates_of c.args.rates.now in
+    let flight = c.args.ways.flight.now in
+    let row = row_of c.args.ways.accesses.now in
+    let rates = rates_of c.args.ways.rates.now in
     let cells = c.args.cells.now in
     let stop = c.loop-stop.stop in
     let so_far = c.loop-stop.invariant in
@@ -84,7 +84,7 @@ returns-clause-first c =
     subst (λ (xs : List Stop). IsFirstLeast (IsWay flight row rates) (whole_cost rates)
     IsNoLater xs) (append-nil c.loop-stop.stops.items)
     (so_far.goes_on []
-    (trace_last flight row rates c.args.rates.now.span c.requires.ready cells c.requires.cells
+    (trace_last flight row rates c.args.ways.rates.now.span c.args.ways.ready cells c.requires.cells
     stop (cell_at cells stop.node stop.time) last
     (c.requires.cells.each stop.node stop.time (omega arith) so_far.inside so_far.window)
     so_far.reaches))

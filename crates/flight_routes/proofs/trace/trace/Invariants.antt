@@ -15,16 +15,16 @@ abbrev pub invariant-loop-stop : goal.invariant-loop-stop
 invariant-loop-stop l =
     record {
       goes_on : (rest : List Stop)
-          → IsFirstLeast (IsWayOn l.flight (row_of l.accesses) (rates_of l.rates) l.stop)
-          (way_cost (rates_of l.rates) l.stop) IsNoLater rest
-          → IsFirstLeast (IsWay l.flight (row_of l.accesses) (rates_of l.rates))
-          (whole_cost (rates_of l.rates)) IsNoLater (l.stops.items ++ rest);
-      inside : l.stop.node < length l.flight.nodes;
-      window : IsInWindow (row_of l.accesses l.stop.node).window l.stop.time;
+          → IsFirstLeast (IsWayOn l.ways.flight.now (row_of l.ways.accesses.now) (rates_of l.ways.rates.now) l.stop)
+          (way_cost (rates_of l.ways.rates.now) l.stop) IsNoLater rest
+          → IsFirstLeast (IsWay l.ways.flight.now (row_of l.ways.accesses.now) (rates_of l.ways.rates.now))
+          (whole_cost (rates_of l.ways.rates.now)) IsNoLater (l.stops.items ++ rest);
+      inside : l.stop.node < length l.ways.flight.now.nodes;
+      window : IsInWindow (row_of l.ways.accesses.now l.stop.node).window l.stop.time;
       reaches : IsSome (cell_at l.cells l.stop.node l.stop.time);
       few : vec_len l.stops ≤ l.stop.node + 1;
       room : most_nodes ≤ vec_capacity l.stops;
     }
 
 abbrev pub decreases-loop-stop : goal.decreases-loop-stop
-decreases-loop-stop l = length l.flight.nodes - l.stop.node
+decreases-loop-stop l = length l.ways.flight.now.nodes - l.stop.node

@@ -1,20 +1,19 @@
 use Rattle.std.proofs.Common.{◌+◌, ap, length, subst, sym, arith}
-use Rattle.flow_types.specs.Scenario.{parts_of}
-use Rattle.time_windows.specs.Held.{box_of}
+use Rattle.time_windows.specs.Subproblems.{box_in, parts_in}
 use Rattle.greedy_plan.proofs.BoundFacts.{IsPartSum, cost_small, part_more}
 use Rattle.greedy_plan.proofs.bound.bound_of.Goals as goal
 
 pub plus-sum-requires-clause-more : goal.plus-sum-requires-clause-more
 plus-sum-requires-clause-more c =
-    cost_small (parts_of c.args.s.now) (box_of c.args.boxes.now) _ c.args.prices.now
-    c.least_trip.result c.args.s.now.valid c.requires.free c.least_trip.ensures.least
+    cost_small (parts_in c.args.problem) (box_in c.args.problem) _ c.args.prices.now
+    c.least_trip.result c.args.problem.s.now.valid c.requires.free c.least_trip.ensures.least
 
 pub loop-number-preserved : goal.loop-number-preserved
 loop-number-preserved c = (
-  subst (IsPartSum (parts_of c.args.s.now) (box_of c.args.boxes.now) (c.loop-number.number + 1))
+  subst (IsPartSum (parts_in c.args.problem) (box_in c.args.problem) (c.loop-number.number + 1))
       (sym c.plus-sum.ensures)
-      (part_more (parts_of c.args.s.now) (box_of c.args.boxes.now) c.loop-number.number
-      c.args.prices.now c.loop-number.sum c.least_trip.result c.args.s.now.valid c.requires.free
+      (part_more (parts_in c.args.problem) (box_in c.args.problem) c.loop-number.number
+      c.args.prices.now c.loop-number.sum c.least_trip.result c.args.problem.s.now.valid c.requires.free
       (omega (
         arith,
         c.loop-number-test.true,

@@ -1,14 +1,13 @@
 use Rattle.std.proofs.Common.{◌≡◌, length}
-use Rattle.flow_types.specs.Scenario.{parts_of}
 use Rattle.flight_routes.specs.Work.{IsWorkFor}
 use Rattle.plan_rules.specs.Loads.{AreLoads}
-use Rattle.time_windows.specs.Held.{box_of}
 use Rattle.greedy_plan.specs.Greedy.{AreChosen, with_rest}
+use Rattle.time_windows.specs.Subproblems.{box_in, parts_in}
 use Rattle.greedy_plan.proofs.first.choose_trips.Given as goal
 
 abbrev pub invariant-loop-number : goal.invariant-loop-number
 invariant-loop-number l =
-    AreChosen (parts_of l.s) (box_of l.boxes) l.plan
+    AreChosen (parts_in l.problem) (box_in l.problem) l.plan
     × (length l.plan ≡ l.number)
-    × AreLoads (parts_of l.s) (with_rest (parts_of l.s).flights l.plan) l.loads
-    × IsWorkFor (parts_of l.s) l.work
+    × AreLoads (parts_in l.problem) (with_rest (parts_in l.problem).flights l.plan) l.loads
+    × IsWorkFor (parts_in l.problem) l.work

@@ -1,19 +1,18 @@
 use Rattle.std.proofs.Common.{◌+◌, get_or, take}
 use Rattle.std.proofs.lemmas.Result.{err_from_is_err_and}
-use Rattle.flow_types.specs.Scenario.{parts_of}
 use Rattle.scaled_simplex.specs.Program.{most_indices}
-use Rattle.time_windows.specs.Held.{box_of}
 use Rattle.bytime_model.specs.AllRows.{kind_rows, kinds_rows}
 use Rattle.bytime_model.proofs.ListingFacts.{next_taken}
+use Rattle.presolve.specs.Frames.{box_in, parts_in, pool_in}
 use Rattle.presolve.proofs.NamesFacts.{adds_both, adds_room, adds_wide, front_taken}
 use Rattle.presolve.proofs.kinds.add_kinds.Goals as goal
 
 pub add_kind-requires-clause-few : goal.add_kind-requires-clause-few
 add_kind-requires-clause-few c =
-    let parts = parts_of c.args.s.now in
+    let parts = parts_in c.args.frame.now in
     let kinds = c.args.kinds.now in
     let i = c.loop-kind.kind-index in
-    adds_room parts c.args.frame.now.pool.now (box_of c.args.boxes.now)
+    adds_room parts (pool_in c.args.frame.now) (box_in c.args.frame.now)
     (kinds_rows parts (take i kinds))
     (kind_rows parts (get_or kinds i _)) (kinds_rows parts (take (i + 1) kinds))
     (kinds_rows parts kinds) c.args.draft.now c.loop-kind.draft most_indices
@@ -22,12 +21,12 @@ add_kind-requires-clause-few c =
 
 pub returns-in_err-add_kind-clause-wide : goal.returns-in_err-add_kind-clause-wide
 returns-in_err-add_kind-clause-wide c =
-    let parts = parts_of c.args.s.now in
+    let parts = parts_in c.args.frame.now in
     let kinds = c.args.kinds.now in
     let i = c.loop-kind.kind-index in
     let p = err_from_is_err_and c.from_residual.result c.from_residual.ensures.1 in
     rw (p.1, p.2)
-    (adds_wide parts c.args.frame.now.pool.now (box_of c.args.boxes.now)
+    (adds_wide parts (pool_in c.args.frame.now) (box_in c.args.frame.now)
     (kinds_rows parts (take i kinds))
     (kind_rows parts (get_or kinds i _)) (kinds_rows parts (take (i + 1) kinds))
     (kinds_rows parts kinds) c.args.draft.now c.loop-kind.draft c.in_err-add_kind.field-0.0
@@ -36,10 +35,10 @@ returns-in_err-add_kind-clause-wide c =
 
 pub loop-kind-preserved : goal.loop-kind-preserved
 loop-kind-preserved c =
-    let parts = parts_of c.args.s.now in
+    let parts = parts_in c.args.frame.now in
     let kinds = c.args.kinds.now in
     let i = c.loop-kind.kind-index in
-    adds_both parts c.args.frame.now.pool.now (box_of c.args.boxes.now)
+    adds_both parts (pool_in c.args.frame.now) (box_in c.args.frame.now)
     (kinds_rows parts (take i kinds))
     (kind_rows parts (get_or kinds i _)) (kinds_rows parts (take (i + 1) kinds))
     c.args.draft.now c.loop-kind.draft c.add_kind.new.draft c.loop-kind.invariant

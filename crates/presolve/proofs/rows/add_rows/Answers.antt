@@ -1,8 +1,7 @@
 use Rattle.std.proofs.Common.{◌+◌, get_or, sum_by, take}
 use Rattle.std.proofs.lemmas.Result.{err_from_is_err_and}
-use Rattle.flow_types.specs.Scenario.{parts_of}
-use Rattle.time_windows.specs.Held.{box_of}
 use Rattle.scaled_simplex.specs.Program.{most_indices}
+use Rattle.presolve.specs.Frames.{box_in, parts_in, pool_in}
 use Rattle.presolve.specs.Counting.{row_entries}
 use Rattle.presolve.proofs.CountFacts.{counted_both, sum_taken, sum_within, wide_both}
 use Rattle.presolve.proofs.RowFacts.{rows_more, rows_room}
@@ -10,15 +9,15 @@ use Rattle.presolve.proofs.rows.add_rows.Goals as goal
 
 pub add_row-requires-clause-few : goal.add_row-requires-clause-few
 add_row-requires-clause-few c =
-    rows_room (parts_of c.args.s.now) c.args.frame.now.pool.now (box_of c.args.boxes.now)
+    rows_room (parts_in c.args.frame.now) (pool_in c.args.frame.now) (box_in c.args.frame.now)
     c.args.names.now c.loop-name.name-index c.args.draft.now.program c.loop-name.draft.program
     c.args.draft.now.kept c.loop-name.draft.kept most_indices c.loop-name-test.true
     c.loop-name.invariant.rows c.requires.few
 
 pub returns-in_err-add_row-clause-wide : goal.returns-in_err-add_row-clause-wide
 returns-in_err-add_row-clause-wide c =
-    let part = row_entries (parts_of c.args.s.now) c.args.frame.now.pool.now
-    (box_of c.args.boxes.now) in
+    let part = row_entries (parts_in c.args.frame.now) (pool_in c.args.frame.now)
+    (box_in c.args.frame.now) in
     let names = c.args.names.now in
     let i = c.loop-name.name-index in
     let p = err_from_is_err_and c.from_residual.result c.from_residual.ensures.1 in
@@ -30,13 +29,13 @@ returns-in_err-add_row-clause-wide c =
 
 pub loop-name-preserved : goal.loop-name-preserved
 loop-name-preserved c =
-    let part = row_entries (parts_of c.args.s.now) c.args.frame.now.pool.now
-    (box_of c.args.boxes.now) in
+    let part = row_entries (parts_in c.args.frame.now) (pool_in c.args.frame.now)
+    (box_in c.args.frame.now) in
     let names = c.args.names.now in
     let i = c.loop-name.name-index in
     record {
-      rows = rows_more (parts_of c.args.s.now) c.args.frame.now.pool.now
-          (box_of c.args.boxes.now) names i _ c.args.draft.now.program
+      rows = rows_more (parts_in c.args.frame.now) (pool_in c.args.frame.now)
+          (box_in c.args.frame.now) names i _ c.args.draft.now.program
           c.loop-name.draft.program c.add_row.new.draft.program c.args.draft.now.kept
           c.loop-name.draft.kept c.add_row.new.draft.kept
           c.loop-name-test.true c.loop-name.invariant.rows c.in_ok-add_row.ensures.row;

@@ -1,9 +1,9 @@
-use Rattle.flow_types.specs.Scenario.{parts_of}
 use Rattle.price_ascent.specs.Slopes.{AreSlopesFor, IsGood}
+use Rattle.time_windows.specs.Subproblems.{parts_in}
 use Rattle.price_ascent.proofs.bids.settle_flight.Given as goal
 
 abbrev pub invariant-loop-at : goal.invariant-loop-at
 invariant-loop-at l = record {
-  slopes : AreSlopesFor (parts_of l.s) l.slopes;
-  prices : IsGood (parts_of l.s) l.prices;
+  slopes : AreSlopesFor (parts_in l.problem) l.slopes;
+  prices : IsGood (parts_in l.problem) l.prices;
 }

@@ -6,13 +6,13 @@ use Rattle.time_windows.proofs.connections.settle_connections.Goals as goal
 
 pub loop-flight-smaller : goal.loop-flight-smaller
 loop-flight-smaller c =
-    taken_less (parts_of c.args.s.now) c.loop-flight.accesses c.settle_flight.new.accesses
+    taken_less (parts_of c.args.network.s.now) c.loop-flight.accesses c.settle_flight.new.accesses
     c.loop-flight.waiting c.pop_first.new.self c.settle_flight.new.waiting
     c.in-Some.flight c.in-Some.ensures.taken c.settle_flight.ensures.step c.loop-flight.invariant.2
 
 pub loop-flight-preserved : goal.loop-flight-preserved
 loop-flight-preserved c =
-    let parts = parts_of c.args.s.now in (
+    let parts = parts_of c.args.network.s.now in (
       narrows_then (IsTight parts) c.args.accesses.now c.loop-flight.accesses
           c.settle_flight.new.accesses c.loop-flight.invariant.0
           c.settle_flight.ensures.step.narrows,
@@ -31,6 +31,6 @@ loop-flight-preserved c =
 pub returns-clause-tight : goal.returns-clause-tight
 returns-clause-tight c = record {
   rows = c.loop-flight.invariant.1;
-  turns = none_waits (parts_of c.args.s.now) c.loop-flight.accesses c.loop-flight.waiting
+  turns = none_waits (parts_of c.args.network.s.now) c.loop-flight.accesses c.loop-flight.waiting
       c.in_default.ensures.taken c.loop-flight.invariant.3;
 }

@@ -9,7 +9,7 @@ use Rattle.time_windows.proofs.connections.settle_flight.Goals as goal
 
 pub settle_turns-requires-clause-turns : goal.settle_turns-requires-clause-turns
 settle_turns-requires-clause-turns c =
-    let connections = (parts_of c.args.s.now).connections in
+    let connections = (parts_of c.args.network.s.now).connections in
     subst (All (λ turn. Contains connections (connection_at Departure c.args.flight turn)))
     (sym (c.of_flight-departures.ensures
     ∙ c.requires.turns.departures c.args.flight c.requires.flight))
@@ -17,7 +17,7 @@ settle_turns-requires-clause-turns c =
 
 pub settle_turns-requires-2-clause-turns : goal.settle_turns-requires-2-clause-turns
 settle_turns-requires-2-clause-turns c =
-    let connections = (parts_of c.args.s.now).connections in
+    let connections = (parts_of c.args.network.s.now).connections in
     subst (All (λ turn. Contains connections (connection_at Arrival c.args.flight turn)))
     (sym (c.of_flight-arrivals.ensures
     ∙ c.requires.turns.arrivals c.args.flight c.requires.flight))
@@ -25,13 +25,13 @@ settle_turns-requires-2-clause-turns c =
 
 pub returns-clause-step : goal.returns-clause-step
 returns-clause-step c =
-    step_then (parts_of c.args.s.now) c.args.accesses.now c.settle_turns.new.accesses
+    step_then (parts_of c.args.network.s.now) c.args.accesses.now c.settle_turns.new.accesses
     c.settle_turns-2.new.accesses c.args.waiting.now c.settle_turns.new.waiting
     c.settle_turns-2.new.waiting c.settle_turns.ensures.step c.settle_turns-2.ensures.step
 
 pub returns-clause-departures : goal.returns-clause-departures
 returns-clause-departures c =
-    let parts = parts_of c.args.s.now in
+    let parts = parts_of c.args.network.s.now in
     all_done parts c.settle_turns.new.accesses c.settle_turns-2.new.accesses
     c.settle_turns.new.waiting c.settle_turns-2.new.waiting
     (λ connection. connection.second ≡ c.args.flight) parts.connections
@@ -45,7 +45,7 @@ returns-clause-departures c =
 
 pub returns-clause-arrivals : goal.returns-clause-arrivals
 returns-clause-arrivals c =
-    let parts = parts_of c.args.s.now in
+    let parts = parts_of c.args.network.s.now in
     turns_done parts c.settle_turns-2.new.accesses c.settle_turns-2.new.waiting Arrival
     c.args.flight
     (subst (All (λ turn. IsDone parts c.settle_turns-2.new.accesses

@@ -11,12 +11,12 @@ no_turn = record { connection = 0; other = 0; turnaround = 0 }
 
 pub settle_turn-requires-clause-turn : goal.settle_turn-requires-clause-turn
 settle_turn-requires-clause-turn c =
-    subst (Contains (parts_of c.args.s.now).connections) (sym c.connection_at.ensures)
+    subst (Contains (parts_of c.args.network.s.now).connections) (sym c.connection_at.ensures)
     (c.requires.turns c.loop-turn.turn-index no_turn (omega (arith, c.loop-turn-test.true)))
 
 pub loop-turn-preserved : goal.loop-turn-preserved
 loop-turn-preserved c =
-    let parts = parts_of c.args.s.now in (
+    let parts = parts_of c.args.network.s.now in (
       step_then parts c.args.accesses.now c.loop-turn.accesses c.settle_turn.new.accesses
           c.args.waiting.now c.loop-turn.waiting c.settle_turn.new.waiting
           c.loop-turn.invariant.0 c.settle_turn.ensures.step,

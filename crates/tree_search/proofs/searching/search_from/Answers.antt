@@ -1,8 +1,40 @@
+use Rattle.std.proofs.Common.{Bool, sym, subst}
+use Rattle.branch_tree.specs.Paths.{top_box}
+use Rattle.time_windows.specs.Boxes.{Box}
+use Rattle.time_windows.specs.Held.{Held, box_of}
+use Rattle.tree_search.specs.declared.draft.RecordDraft.{RecordDraft}
+use Rattle.tree_search.specs.Searching.{IsSearched, IsStepped}
+use Rattle.time_windows.specs.Subproblems.{parts_in}
+use Rattle.tree_search.specs.Visits.{IsImproved}
+use Rattle.tree_search.proofs.ImproveFacts.{improved_on}
 use Rattle.tree_search.proofs.searching.search_from.Goals as goal
+use Rattle.tree_search.proofs.searching.search_from.Goals.{then-branch+in_ok-go_through, else-branch}
 
-pub run_first-requires-clause-searching : goal.run_first-requires-clause-searching
-run_first-requires-clause-searching c = λ pool.
-    c.in_ok-improve_again.ensures.improved pool c.args.budget
-    (c.in_ok-improve-2.ensures.improved pool c.args.budget
-    (c.in_ok-improve_further.ensures.improved pool c.args.budget
-    (c.in_ok-improve.ensures.improved pool c.args.budget (c.requires.searching pool))))
+pub step-requires-clause-searching : goal.step-requires-clause-searching
+step-requires-clause-searching c =
+    improved_on (parts_in c.args.start.whole) c.in_ok-pool.field-0.pool c.args.budget
+    c.args.walk.now c.prepare.new.draft c.climb_on.new.draft
+    (subst (λ (h : Held). IsImproved (parts_in c.args.start.whole) (box_of h) c.prepare.new.draft
+    c.climb_on.new.draft) c.boxes.ensures c.in_ok-climbed.ensures.improved)
+    (c.in_ok-bound.ensures.improved c.in_ok-pool.field-0.pool c.args.budget c.args.walk.now
+    c.requires.whole (c.requires.searching c.in_ok-pool.field-0.pool))
+
+pub returns-clause-searched : goal.returns-clause-searched
+returns-clause-searched c = elim c.if-branch.branch [
+  | then-branch+in_ok-go_through w ↦
+      let gone = subst stepped w.if-branch.true c.in_ok-step.ensures.stepped in
+      subst searched (sym w.draft-is)
+      (subst (λ (top : Box). IsSearched (parts_in c.args.start.whole) c.in_ok-pool.field-0.pool
+      c.args.budget top w.go_through.new.draft) gone.same w.in_ok-go_through.ensures)
+  | else-branch w ↦
+      subst searched (sym w.draft-is)
+      (subst stepped w.if-branch.false c.in_ok-step.ensures.stepped)
+]
+  where
+    stepped : Bool → Type 0
+    stepped = IsStepped (parts_in c.args.start.whole) c.in_ok-pool.field-0.pool c.args.budget
+        c.args.walk.now c.climb_on.new.draft c.step.new.walk c.step.new.draft
+
+    searched : RecordDraft → Type 0
+    searched draft = IsSearched (parts_in c.args.start.whole) c.in_ok-pool.field-0.pool
+        c.args.budget (top_box c.args.walk.now) draft

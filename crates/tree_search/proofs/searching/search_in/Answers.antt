@@ -1,4 +1,7 @@
+use Rattle.std.proofs.Common.{subst}
 use Rattle.flow_types.specs.Scenario.{parts_of}
+use Rattle.time_windows.specs.Held.{Held, box_of}
+use Rattle.tree_search.specs.Visits.{IsVisited}
 use Rattle.tree_search.proofs.BeginFacts.{begun_at}
 use Rattle.tree_search.proofs.searching.search_in.Goals as goal
 
@@ -6,7 +9,8 @@ pub search_from-requires-clause-searching : goal.search_from-requires-clause-sea
 search_from-requires-clause-searching c = λ pool.
     let blank = c.requires.blank in
     begun_at (parts_of c.args.s.now) pool c.args.budget c.args.boxes c.args.draft.now
-    c.visit.new.draft c.args.s.now.valid c.requires.nodes c.requires.made c.requires.tight
+    c.begin.new.draft c.args.s.now.valid c.requires.nodes c.requires.made c.requires.tight
     blank.plans blank.nodes blank.counts blank.bounds blank.best
-    c.in_ok-visit.ensures.visited c.in_ok-walk.walk c.in_ok-walk.ensures.present
+    (subst (λ (h : Held). IsVisited (parts_of c.args.s.now) (box_of h) c.args.draft.now
+    c.begin.new.draft) c.in_ok-first.ensures c.in_ok-plan.ensures.visited) c.in_ok-walk.walk c.in_ok-walk.ensures.present
     c.in_ok-walk.ensures.above c.in_ok-walk.ensures.steps

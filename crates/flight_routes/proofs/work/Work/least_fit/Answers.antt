@@ -1,10 +1,10 @@
 use Rattle.std.proofs.Common.{◌≡◌, ◌<◌, ◌∙◌, [], length, refl, arith, subst, sym}
 use Rattle.std.proofs.lemmas.Option.{slice_get_read}
 use Rattle.flow_types.specs.Costs.{trip_cost_at}
-use Rattle.flow_types.specs.Scenario.{flight_at, parts_of}
+use Rattle.flow_types.specs.Scenario.{flight_at}
 use Rattle.plan_rules.proofs.CountFacts.{AreTripsOrNone-length}
 use Rattle.time_windows.specs.declared.access.Window.{Window}
-use Rattle.time_windows.specs.Held.{box_of}
+use Rattle.time_windows.specs.Subproblems.{box_in, parts_in}
 use Rattle.flight_routes.specs.Fits.{IsTripThatFits}
 use Rattle.flight_routes.specs.RateLists.{rates_of}
 use Rattle.flight_routes.specs.Rates.{AreClear, IsWay, whole_cost}
@@ -15,7 +15,7 @@ use Rattle.flight_routes.proofs.work.Work.least_fit.Goals as goal
 
 pub set_fit_rates-requires-clause-windows : goal.set_fit_rates-requires-clause-windows
 set_fit_rates-requires-clause-windows c =
-    let parts = parts_of c.args.s.now in
+    let parts = parts_in c.args.problem in
     let read = written c.self.inside.accesses.len c.take_row-span.new.accesses
     c.self.inside.accesses.items c.deref-row.result.now c.deref-row.ensures.value
     (c.take_row-span.ensures.length ∙ sym c.self.invariant.2) in
@@ -24,12 +24,12 @@ set_fit_rates-requires-clause-windows c =
 
 pub set_fit_rates-requires-clause-day : goal.set_fit_rates-requires-clause-day
 set_fit_rates-requires-clause-day c =
-    subst (λ (span : Window). span.hi < (parts_of c.args.s.now).day.periods)
+    subst (λ (span : Window). span.hi < (parts_in c.args.problem).day.periods)
     (sym c.begin.ensures.span) c.take_row-span.ensures.day
 
-pub least_way-requires-clause-ready : goal.least_way-requires-clause-ready
-least_way-requires-clause-ready c =
-    let parts = parts_of c.args.s.now in
+pub invariant_of-ways-clause-ready : goal.invariant_of-ways-clause-ready
+invariant_of-ways-clause-ready c =
+    let parts = parts_in c.args.problem in
     let read = written c.self.inside.accesses.len c.take_row-span.new.accesses
     c.self.inside.accesses.items c.deref-row.result.now c.deref-row.ensures.value
     (c.take_row-span.ensures.length ∙ sym c.self.invariant.2) in
@@ -38,13 +38,13 @@ least_way-requires-clause-ready c =
     (rw c.flights.ensures at c.index-flights-flight.is) in
     let row = row_of c.deref-row.result.now in
     let same = row_written c.deref-row.result.now c.take_row-span.new.accesses
-    (box_of c.args.boxes.now c.args.flight) read c.take_row-span.ensures.row in
-    fit_ready parts c.args.s.now.valid (box_of c.args.boxes.now) c.requires.boxes.inside
+    (box_in c.args.problem c.args.flight) read c.take_row-span.ensures.row in
+    fit_ready parts c.args.problem.s.now.valid (box_in c.args.problem) c.args.problem.made.inside
     c.args.flight c.index-flights-flight.result here row same c.set_fit_rates.new.table
     c.take_row-span.result (c.set_fit_rates.ensures.span ∙ c.begin.ensures.span)
     (windows_written c.deref-row.result.now c.take_row-span.new.accesses c.take_row-span.result
     c.take_row-span.result read refl c.take_row-span.ensures.windows)
-    (omega (arith, c.take_row-span.ensures.day, c.args.s.now.valid.day.periods_to))
+    (omega (arith, c.take_row-span.ensures.day, c.args.problem.s.now.valid.day.periods_to))
     (subst (λ (span : Window). AreClear c.index-flights-flight.result span
     (rates_of c.set_fit_rates.new.table)) c.begin.ensures.span
     (c.set_fit_rates.ensures.clear c.index-flights-flight.result here))
@@ -57,7 +57,7 @@ least_way-requires-clause-rising c =
 
 pub returns-clause-least : goal.returns-clause-least
 returns-clause-least c = λ trips are.
-    let parts = parts_of c.args.s.now in
+    let parts = parts_in c.args.problem in
     let read = written c.self.inside.accesses.len c.take_row-span.new.accesses
     c.self.inside.accesses.items c.deref-row.result.now c.deref-row.ensures.value
     (c.take_row-span.ensures.length ∙ sym c.self.invariant.2) in
@@ -66,7 +66,7 @@ returns-clause-least c = λ trips are.
     (rw c.flights.ensures at c.index-flights-flight.is) in
     let row = row_of c.deref-row.result.now in
     let same = row_written c.deref-row.result.now c.take_row-span.new.accesses
-    (box_of c.args.boxes.now c.args.flight) read c.take_row-span.ensures.row in
+    (box_in c.args.problem c.args.flight) read c.take_row-span.ensures.row in
     let long : c.args.flight < length trips =
     omega (
       arith,
@@ -76,7 +76,7 @@ returns-clause-least c = λ trips are.
     let windows = windows_written c.deref-row.result.now c.take_row-span.new.accesses c.begin.new.self.span
     c.take_row-span.result read c.begin.ensures.span c.take_row-span.ensures.windows in
     rw c.get.ensures
-    (fit_least parts c.args.s.now.valid (box_of c.args.boxes.now) c.requires.boxes.inside
+    (fit_least parts c.args.problem.s.now.valid (box_in c.args.problem) c.args.problem.made.inside
     c.args.flight c.index-flights-flight.result here row same trips long c.begin.new.self.span
     windows.within (rates_of c.set_fit_rates.new.table)
     (c.set_fit_rates.ensures.rates trips c.index-flights-flight.result are here)
@@ -84,7 +84,7 @@ returns-clause-least c = λ trips are.
 
 pub returns-clause-first : goal.returns-clause-first
 returns-clause-first c = λ trips are.
-    let parts = parts_of c.args.s.now in
+    let parts = parts_in c.args.problem in
     let read = written c.self.inside.accesses.len c.take_row-span.new.accesses
     c.self.inside.accesses.items c.deref-row.result.now c.deref-row.ensures.value
     (c.take_row-span.ensures.length ∙ sym c.self.invariant.2) in
@@ -93,7 +93,7 @@ returns-clause-first c = λ trips are.
     (rw c.flights.ensures at c.index-flights-flight.is) in
     let row = row_of c.deref-row.result.now in
     let same = row_written c.deref-row.result.now c.take_row-span.new.accesses
-    (box_of c.args.boxes.now c.args.flight) read c.take_row-span.ensures.row in
+    (box_in c.args.problem c.args.flight) read c.take_row-span.ensures.row in
     let long : c.args.flight < length trips =
     omega (
       arith,
@@ -105,11 +105,11 @@ returns-clause-first c = λ trips are.
     rw c.get.ensures
     (match_first
     (IsWay c.index-flights-flight.result row (rates_of c.set_fit_rates.new.table))
-    (IsTripThatFits parts (box_of c.args.boxes.now) trips c.args.flight)
+    (IsTripThatFits parts (box_in c.args.problem) trips c.args.flight)
     (whole_cost (rates_of c.set_fit_rates.new.table))
-    (trip_cost_at parts.tables (flight_at c.args.s.now c.args.flight)) IsNoLater
+    (trip_cost_at parts.tables (flight_at c.args.problem.s.now c.args.flight)) IsNoLater
     c.least_way.result (c.least_way.new.stops.items ≡ []) c.least_way.new.stops.items
-    (fit_first parts c.args.s.now.valid (box_of c.args.boxes.now) c.requires.boxes.inside
+    (fit_first parts c.args.problem.s.now.valid (box_in c.args.problem) c.args.problem.made.inside
     c.args.flight c.index-flights-flight.result here row same trips long c.begin.new.self.span
     windows.within (rates_of c.set_fit_rates.new.table)
     (c.set_fit_rates.ensures.rates trips c.index-flights-flight.result are here))

@@ -1,8 +1,7 @@
 use Rattle.std.proofs.Common.{◌≡◌, ◌∙◌, ◌<◌, [], length, refl, arith, subst, sym}
 use Rattle.std.proofs.lemmas.Option.{slice_get_read}
-use Rattle.flow_types.specs.Scenario.{parts_of}
 use Rattle.time_windows.specs.declared.access.Window.{Window}
-use Rattle.time_windows.specs.Held.{box_of}
+use Rattle.time_windows.specs.Subproblems.{box_in, parts_in}
 use Rattle.flight_routes.specs.Inside.{IsTripIn}
 use Rattle.flight_routes.specs.Prices.{priced_cost}
 use Rattle.flight_routes.specs.RateLists.{rates_of}
@@ -14,7 +13,7 @@ use Rattle.flight_routes.proofs.work.Work.least_trip.Goals as goal
 
 pub set_price_rates-requires-clause-windows : goal.set_price_rates-requires-clause-windows
 set_price_rates-requires-clause-windows c =
-    let parts = parts_of c.args.s.now in
+    let parts = parts_in c.args.problem in
     let read = written c.self.inside.accesses.len c.take_row-span.new.accesses
     c.self.inside.accesses.items c.deref-row.result.now c.deref-row.ensures.value
     (c.take_row-span.ensures.length ∙ sym c.self.invariant.2) in
@@ -23,12 +22,12 @@ set_price_rates-requires-clause-windows c =
 
 pub set_price_rates-requires-clause-day : goal.set_price_rates-requires-clause-day
 set_price_rates-requires-clause-day c =
-    subst (λ (span : Window). span.hi < (parts_of c.args.s.now).day.periods)
+    subst (λ (span : Window). span.hi < (parts_in c.args.problem).day.periods)
     (sym c.begin.ensures.span) c.take_row-span.ensures.day
 
-pub least_way-requires-clause-ready : goal.least_way-requires-clause-ready
-least_way-requires-clause-ready c =
-    let parts = parts_of c.args.s.now in
+pub invariant_of-ways-clause-ready : goal.invariant_of-ways-clause-ready
+invariant_of-ways-clause-ready c =
+    let parts = parts_in c.args.problem in
     let read = written c.self.inside.accesses.len c.take_row-span.new.accesses
     c.self.inside.accesses.items c.deref-row.result.now c.deref-row.ensures.value
     (c.take_row-span.ensures.length ∙ sym c.self.invariant.2) in
@@ -37,18 +36,18 @@ least_way-requires-clause-ready c =
     (rw c.flights.ensures at c.index-flights-flight.is) in
     let row = row_of c.deref-row.result.now in
     let same = row_written c.deref-row.result.now c.take_row-span.new.accesses
-    (box_of c.args.boxes.now c.args.flight) read c.take_row-span.ensures.row in
-    price_ready parts c.args.s.now.valid (box_of c.args.boxes.now) c.requires.boxes.inside
+    (box_in c.args.problem c.args.flight) read c.take_row-span.ensures.row in
+    price_ready parts c.args.problem.s.now.valid (box_in c.args.problem) c.args.problem.made.inside
     c.args.flight c.index-flights-flight.result here row same c.set_price_rates.new.table
     c.take_row-span.result (c.set_price_rates.ensures.span ∙ c.begin.ensures.span)
     (windows_written c.deref-row.result.now c.take_row-span.new.accesses c.take_row-span.result
     c.take_row-span.result read refl c.take_row-span.ensures.windows)
-    (omega (arith, c.take_row-span.ensures.day, c.args.s.now.valid.day.periods_to))
+    (omega (arith, c.take_row-span.ensures.day, c.args.problem.s.now.valid.day.periods_to))
     c.set_price_rates.ensures.table
 
 pub least_way-requires-clause-rising : goal.least_way-requires-clause-rising
 least_way-requires-clause-rising c =
-    let parts = parts_of c.args.s.now in
+    let parts = parts_in c.args.problem in
     let here = slice_get_read parts.flights (length parts.flights) c.args.flight
     c.index-flights-flight.result refl c.requires.flight
     (rw c.flights.ensures at c.index-flights-flight.is) in
@@ -63,7 +62,7 @@ least_way-requires-clause-rising c =
 
 pub returns-clause-least : goal.returns-clause-least
 returns-clause-least c =
-    let parts = parts_of c.args.s.now in
+    let parts = parts_in c.args.problem in
     let read = written c.self.inside.accesses.len c.take_row-span.new.accesses
     c.self.inside.accesses.items c.deref-row.result.now c.deref-row.ensures.value
     (c.take_row-span.ensures.length ∙ sym c.self.invariant.2) in
@@ -72,11 +71,11 @@ returns-clause-least c =
     (rw c.flights.ensures at c.index-flights-flight.is) in
     let row = row_of c.deref-row.result.now in
     let same = row_written c.deref-row.result.now c.take_row-span.new.accesses
-    (box_of c.args.boxes.now c.args.flight) read c.take_row-span.ensures.row in
+    (box_in c.args.problem c.args.flight) read c.take_row-span.ensures.row in
     let windows = windows_written c.deref-row.result.now c.take_row-span.new.accesses c.begin.new.self.span
     c.take_row-span.result read c.begin.ensures.span c.take_row-span.ensures.windows in
     rw c.get.ensures
-    (priced_least parts c.args.s.now.valid (box_of c.args.boxes.now) c.requires.boxes.inside
+    (priced_least parts c.args.problem.s.now.valid (box_in c.args.problem) c.args.problem.made.inside
     c.args.flight c.index-flights-flight.result here row same c.args.weight c.args.prices.now
     c.begin.new.self.span windows.within (rates_of c.set_price_rates.new.table)
     (c.set_price_rates.ensures.rates c.index-flights-flight.result here)
@@ -84,7 +83,7 @@ returns-clause-least c =
 
 pub returns-clause-first : goal.returns-clause-first
 returns-clause-first c =
-    let parts = parts_of c.args.s.now in
+    let parts = parts_in c.args.problem in
     let read = written c.self.inside.accesses.len c.take_row-span.new.accesses
     c.self.inside.accesses.items c.deref-row.result.now c.deref-row.ensures.value
     (c.take_row-span.ensures.length ∙ sym c.self.invariant.2) in
@@ -93,17 +92,17 @@ returns-clause-first c =
     (rw c.flights.ensures at c.index-flights-flight.is) in
     let row = row_of c.deref-row.result.now in
     let same = row_written c.deref-row.result.now c.take_row-span.new.accesses
-    (box_of c.args.boxes.now c.args.flight) read c.take_row-span.ensures.row in
+    (box_in c.args.problem c.args.flight) read c.take_row-span.ensures.row in
     let windows = windows_written c.deref-row.result.now c.take_row-span.new.accesses c.begin.new.self.span
     c.take_row-span.result read c.begin.ensures.span c.take_row-span.ensures.windows in
     rw c.get.ensures
     (match_first
     (IsWay c.index-flights-flight.result row (rates_of c.set_price_rates.new.table))
-    (IsTripIn parts (box_of c.args.boxes.now) c.args.flight)
+    (IsTripIn parts (box_in c.args.problem) c.args.flight)
     (whole_cost (rates_of c.set_price_rates.new.table))
     (priced_cost c.args.weight c.args.prices.now parts c.args.flight) IsNoLater
     c.least_way.result (c.least_way.new.stops.items ≡ []) c.least_way.new.stops.items
-    (priced_first parts c.args.s.now.valid (box_of c.args.boxes.now) c.requires.boxes.inside
+    (priced_first parts c.args.problem.s.now.valid (box_in c.args.problem) c.args.problem.made.inside
     c.args.flight c.index-flights-flight.result here row same c.args.weight c.args.prices.now
     c.begin.new.self.span windows.within (rates_of c.set_price_rates.new.table)
     (c.set_price_rates.ensures.rates c.index-flights-flight.result here))

@@ -7,4 +7,4 @@ pub returns-clause-placed : goal.returns-clause-placed
 returns-clause-placed c =
     let one = c.play_rounds.ensures.kept.one in
     round_placed (parts_of c.args.s.now) (box_of c.args.boxes.now) one.round
-    c.play_rounds.new.best one.after
+    c.play_rounds.new.tables.best one.after

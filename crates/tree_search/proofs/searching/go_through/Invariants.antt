@@ -1,15 +1,15 @@
 use Rattle.std.proofs.Common.{◌≡◌, ◌-◌, ◌<◌, length}
-use Rattle.flow_types.specs.Scenario.{parts_of}
 use Rattle.tree_search.specs.Rooms.{AreRoomsFor}
 use Rattle.tree_search.specs.Searching.{IsSearching}
 use Rattle.branch_tree.specs.Paths.{top_box}
-use Rattle.tree_search.proofs.searching.run.Given as goal
+use Rattle.time_windows.specs.Subproblems.{parts_in}
+use Rattle.tree_search.proofs.searching.go_through.Given as goal
 
 abbrev pub invariant-loop-number : goal.invariant-loop-number
 invariant-loop-number l = record {
-  searching : IsSearching (parts_of l.s) l.setting.pool.now l.setting.budget l.walk l.draft;
+  searching : IsSearching (parts_in l.start.whole) l.setting.pool.now l.setting.budget l.walk l.draft;
   same : top_box l.walk ≡ top_box l.fn.walk;
-  rooms : AreRoomsFor (parts_of l.s) l.rooms;
+  rooms : AreRoomsFor (parts_in l.start.whole) l.rooms;
   begun : 0 < length l.draft.nodes;
 }
 
