@@ -44,7 +44,7 @@
 //! price of each box of which a side waits, some 50 bytes for each of at most 10,000 cuts, and what
 //! one run takes, one leaf, rounds of prices, climbs, the search for cheaper plans, and a copy of
 //! the box while a branch is chosen. Time: for each node a greedy plan, a run, the rounds, a climb
-//! of as many steps, and where it is split by prices eight climbs of ten steps; at the begin a
+//! of as many steps, and where it is split by prices up to ten climbs of ten steps; at the begin a
 //! climb of sixteen times as many steps as rounds, the search for a cheaper plan, bids, and up to
 //! six climbs of half as many steps that lean on the best plan; and after every sixteen boxes, up
 //! to 1,024, a third of the search for a plan once more. In the first box no more is done once a

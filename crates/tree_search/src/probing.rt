@@ -16,7 +16,7 @@ use flow_types::OutOfMemory;
 use price_ascent::WEIGHT;
 use time_windows::{Boxes, Side, Subproblem, Tight};
 
-// How many branches are tried.
+// How many branches are tried beside the one that is near.
 const CANDIDATES: usize = 4;
 
 // How many steps a climb has in a side of one.

@@ -139,8 +139,8 @@ fn split(
     walk.split(s, branch)
 }
 
-// Sees the present box, writes down what is seen, and goes to the next one, if there is one. Each
-// plan that is known is in the first box, with which the pool goes.
+// Sees the present box, writes down what is seen, and goes to the next one, if there is one. Only
+// at the first box is it known that the best plan is in it.
 fn go_on(
     s: &Scenario,
     setting: Setting<'_>,
@@ -215,7 +215,7 @@ fn plan_of_climb(
 fn climb_in(
     problem: Subproblem<'_>,
     rooms: &mut Rooms,
-    rounds: u32,
+    steps: u32,
     cutoff: Option<i64>,
 ) -> Result<Climbed, OutOfMemory>
     requires rooms { AreRoomsFor (parts_in problem) rooms.old }
@@ -226,7 +226,7 @@ fn climb_in(
     ensures rooms { AreRoomsFor (parts_in problem.entry) rooms.new }
 {
     let Subproblem { s, boxes } = problem;
-    if rounds == 0 || boxes.is_empty() || first_choice(problem).is_none() {
+    if steps == 0 || boxes.is_empty() || first_choice(problem).is_none() {
         return Ok(Climbed {
             bound: None,
             plan: None,
@@ -235,7 +235,7 @@ fn climb_in(
     let bound = rooms
         .prices
         .ascent
-        .climb(s, boxes, cutoff, LEAD_PART, rounds);
+        .climb(s, boxes, cutoff, LEAD_PART, steps);
     let plan = plan_of_climb(problem, rooms, cutoff)?;
     Ok(Climbed {
         bound: Some(bound),
@@ -248,7 +248,7 @@ fn climb_on(
     problem: Subproblem<'_>,
     rooms: &mut Rooms,
     draft: &mut RecordDraft,
-    rounds: u32,
+    steps: u32,
 ) -> Result<Option<Bound>, OutOfMemory>
     requires rooms { AreRoomsFor (parts_in problem) rooms.old }
     ensures climbed { IfOk result (λ climbed. IfSome climbed (IsClimbed (parts_in problem.entry)
@@ -257,12 +257,12 @@ fn climb_on(
         (box_in problem.entry) draft.old draft.new) }
     ensures rooms { AreRoomsFor (parts_in problem.entry) rooms.new }
 {
-    let Climbed { bound, plan } = climb_in(problem, rooms, rounds, draft.best)?;
+    let Climbed { bound, plan } = climb_in(problem, rooms, steps, draft.best)?;
     offer_found(problem, draft, plan)?;
     Ok(bound)
 }
 
-// Goes on to the next box, if one waits, and offers its greedy plan.
+// Sees the present box, goes on to the next one, if one waits, and offers that one's greedy plan.
 fn step(
     s: &Scenario,
     setting: Setting<'_>,
@@ -297,7 +297,7 @@ fn step(
     Ok(true)
 }
 
-// Goes on to the next box after a climb in the present one, which isn't the first.
+// Climbs in the present box, which isn't the first, and sees it and goes on so.
 fn advance(
     s: &Scenario,
     setting: Setting<'_>,
@@ -347,7 +347,6 @@ fn go_through(
         setting.entry.budget (top_box walk.old) draft.new) }
 {
     let mut number = 1u32;
-    seek(start, rooms, draft, bound, number)?;
     while advance(start.whole.s, setting, rooms, walk, draft)? {
         number = number.saturating_add(1);
         seek(start, rooms, draft, bound, number)?;
@@ -431,8 +430,8 @@ fn prepare(
     Ok(bound)
 }
 
-// Searches from the tight box on, which is the path's first one, until no box waits. The pool goes
-// with it.
+// Searches from the tight box on, which is the path's first one, until no box waits. Answers the
+// pool that its leaves name.
 fn search_from(
     start: Start<'_>,
     budget: Budget,

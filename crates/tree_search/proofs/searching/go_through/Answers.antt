@@ -6,16 +6,10 @@ use Rattle.tree_search.proofs.searching.go_through.Goals as goal
 
 pub loop-number-init : goal.loop-number-init
 loop-number-init c = record {
-  searching =
-      improved_top (parts_in c.args.start.whole) c.args.setting.pool.now c.args.setting.budget
-      c.args.walk.now (box_in c.args.start.whole) c.args.draft.now c.seek.new.draft
-      c.requires.whole c.in_ok-seek.ensures.improved c.requires.searching;
+  searching = c.requires.searching;
   same = refl;
-  rooms = c.seek.ensures.rooms;
-  begun =
-      let same = improved_nodes (parts_in c.args.start.whole) (box_in c.args.start.whole)
-      c.args.draft.now c.seek.new.draft c.in_ok-seek.ensures.improved in
-      omega (arith, c.requires.begun, ap length same);
+  rooms = c.requires.rooms;
+  begun = c.requires.begun;
 }
 
 pub loop-number-preserved : goal.loop-number-preserved
@@ -27,13 +21,13 @@ loop-number-preserved c =
       searching =
           improved_top (parts_in c.args.start.whole) c.args.setting.pool.now c.args.setting.budget
           c.advance.new.walk (box_in c.args.start.whole) c.advance.new.draft
-          c.seek-in-loop-number.new.draft
+          c.seek.new.draft
           (c.requires.whole ∙ sym (gone.same ∙ c.loop-number.invariant.same))
-          c.in_ok-seek-2.ensures.improved gone.searching;
+          c.in_ok-seek.ensures.improved gone.searching;
       same = gone.same ∙ c.loop-number.invariant.same;
-      rooms = c.seek-in-loop-number.ensures.rooms;
+      rooms = c.seek.ensures.rooms;
       begun = let long = gone.longer in
           let same = improved_nodes (parts_in c.args.start.whole) (box_in c.args.start.whole)
-          c.advance.new.draft c.seek-in-loop-number.new.draft c.in_ok-seek-2.ensures.improved in
+          c.advance.new.draft c.seek.new.draft c.in_ok-seek.ensures.improved in
           omega (arith, long, ap length same);
     }
