@@ -1,9 +1,9 @@
 -- The cost row's value at a plan is the plan's cost.
-use Rattle.std.proofs.Common.{◌≡◌, All, ℕ, zero, suc, ◌+◌, ◌-◌, ◌<◌, ◌≤◌, ◌==◌, Bool, true, false, min, max, List, [], ◌∷◌, ◌++◌, length, slice_get, Option, Some, ◌*◌, ◌^◌, get_or, take, take_all, if◌then◌else◌, ℤ, pos, neg_ℤ, ◌+ℤ◌, ◌-ℤ◌, ◌*ℤ◌, refl, sym, ◌∙◌, ap, ap₂, subst, arith, inl, inr}
+use Rattle.std.proofs.Common.{◌≡◌, All, ℕ, zero, suc, ◌+◌, ◌-◌, ◌<◌, ◌≤◌, ◌==◌, Bool, true, false, min, max, List, [], ◌∷◌, ◌++◌, length, slice_get, Option, Some, ◌*◌, ◌^◌, get_or, take, if◌then◌else◌, ℤ, pos, neg_ℤ, ◌+ℤ◌, ◌-ℤ◌, ◌*ℤ◌, refl, sym, ◌∙◌, ap, ap₂, subst, arith, inl, inr}
 use Rattle.std.proofs.lemmas.Bool.{cases_lt, eq-eqb, ne_eqb}
 use Rattle.std.proofs.lemmas.Bool.Decides.{Decides-int_eq}
 use Rattle.std.proofs.lemmas.Int.{ints}
-use Rattle.std.proofs.lemmas.List.{append_assoc, length-take}
+use Rattle.std.proofs.lemmas.List.{length-take}
 use Rattle.std.proofs.lemmas.List.Elements.{All-head, All-tail, All-take}
 use Rattle.std.specs.List.{flat_map, range_with_len}
 use Rattle.std.specs.Ordering.{int_eq}
@@ -22,14 +22,15 @@ use Rattle.bytime_model.specs.declared.variables.Var.{Var}
 use Rattle.bytime_model.specs.declared.variables.Var.TheVariants.{By}
 use Rattle.bytime_model.specs.CostRow.{constants, cost_row, flight_constant, flight_terms, late_step, late_terms, most_late, most_wait, priced_value, steps, unless_zero, wait_step, wait_terms}
 use Rattle.exact_sums.specs.Near.{IsNear}
-use Rattle.bytime_model.specs.Rows.{over_flights, term_of}
+use Rattle.bytime_model.specs.Rows.{term_of}
 use Rattle.bytime_model.specs.Values.{form_value, value_at}
-use Rattle.bytime_model.proofs.FillFacts.{over_more}
 use Rattle.bytime_model.proofs.FormFacts.{form-append}
 use Rattle.bytime_model.proofs.EntryFacts.{by_few}
-use Rattle.bytime_model.proofs.ListingFacts.{range_more}
 use Rattle.bytime_model.proofs.ValidFacts.{flown}
 use Rattle.bytime_model.proofs.UseFacts.{IsFlown, arrived_by, by_value, departed, departed_by, not_arrived_by}
+use Rattle.exact_sums.specs.Lists.{flat_map_from}
+use Rattle.exact_sums.proofs.LoopFacts.{next_number}
+use Rattle.exact_sums.proofs.SumFacts.{next_total}
 
 module _ (value : Var → ℕ) where
   -- a term of 0 is worth nothing
@@ -211,7 +212,7 @@ pub all_priced : (value : Var → ℕ) (tables : List CostTable) (periods k : �
     +ℤ form_value value (flight_terms tables periods (k + i) flight)
     ≡ trip_cost tables flight trip)
     → constants tables periods flights
-    +ℤ form_value value (over_flights (flight_terms tables periods) k flights)
+    +ℤ form_value value (flat_map_from (flight_terms tables periods) k flights)
     ≡ plan_cost tables flights plan
 all_priced value tables periods k [] plan trips each = omega (arith, ints)
 all_priced value tables periods k (flight ∷ flights) [] trips each = absurd trips
@@ -227,7 +228,7 @@ all_priced value tables periods k (flight ∷ flights) (trip ∷ plan) trips eac
     omega (
       arith,
       ints,
-      form-append value (part k flight) (over_flights part (k + 1) flights),
+      form-append value (part k flight) (flat_map_from part (k + 1) flights),
       same,
       here,
       rest,
@@ -261,43 +262,8 @@ steps_suc step variable count =
     let part : ℕ → List Term = λ d. unless_zero (step d) (variable d) in
     let next : count + 1 ≡ suc count = omega arith in
     let at : 0 + count ≡ count = omega arith in
-    ap (λ n. flat_map part (range_with_len 0 n)) next ∙ range_more part 0 count
+    ap (λ n. flat_map part (range_with_len 0 n)) next ∙ next_number part 0 count
     ∙ ap (λ n. steps step variable count ++ part n) at
-
-pub steps_more : (step : ℕ → ℤ) (variable : ℕ → Var) (count : ℕ) (factor : ℤ)
-    (start old new : List Term) → old ≡ start ++ steps step variable count
-    → factor ≡ step count → new ≡ old ++ unless_zero factor (variable count)
-    → new ≡ start ++ steps step variable (count + 1)
-steps_more step variable count factor start old new was is more =
-    more ∙ ap (λ terms. terms ++ unless_zero factor (variable count)) was
-    ∙ append_assoc start (steps step variable count) (unless_zero factor (variable count))
-    ∙ ap (λ f. start ++ (steps step variable count ++ unless_zero f (variable count))) is
-    ∙ ap (λ terms. start ++ terms) (sym (steps_suc step variable count))
-
--- the terms of all flights, one after the other
-pub terms_none : (parts : Parts) (flights : List Flight)
-    → [] ≡ over_flights (flight_terms parts.tables parts.day.periods) 0 (take 0 flights)
-terms_none parts flights = refl
-
-pub terms_more : (parts : Parts) (flights : List Flight) (number : ℕ) (flight : Flight)
-    (old new : List Term) → number < length flights → flight ≡ get_or flights number flight
-    → old ≡ over_flights (flight_terms parts.tables parts.day.periods) 0 (take number flights)
-    → new ≡ old ++ flight_terms parts.tables parts.day.periods number flight
-    → new ≡ over_flights (flight_terms parts.tables parts.day.periods) 0
-    (take (number + 1) flights)
-terms_more parts flights number flight old new within is was more =
-    let part = flight_terms parts.tables parts.day.periods in
-    more ∙ ap (λ terms. terms ++ part number flight) was
-    ∙ ap (λ f. over_flights part 0 (take number flights) ++ part number f) is
-    ∙ sym (over_more part flights number flight within)
-
-pub terms_all : (parts : Parts) (flights : List Flight) (number : ℕ) (terms : List Term)
-    → length flights ≤ number
-    → terms ≡ over_flights (flight_terms parts.tables parts.day.periods) 0 (take number flights)
-    → terms ≡ over_flights (flight_terms parts.tables parts.day.periods) 0 flights
-terms_all parts flights number terms past are =
-    are ∙ ap (over_flights (flight_terms parts.tables parts.day.periods) 0)
-    (take_all number flights past)
 
 -- how far from 0 a flight's constant may be
 flight_constant_near : (parts : Parts) (flight : Flight) → IsScenario parts
@@ -331,16 +297,6 @@ constants_near parts (flight ∷ flights) valid all =
     }
 
 -- the constants of the flights so far
-constants_suc : (tables : List CostTable) (periods : ℕ) (flights : List Flight) (i : ℕ) (d : Flight)
-    → i < length flights
-    → constants tables periods (take (suc i) flights)
-    ≡ constants tables periods (take i flights)
-    +ℤ flight_constant tables periods (get_or flights i d)
-constants_suc tables periods [] i d within = absurd (omega (arith, within))
-constants_suc tables periods (flight ∷ flights) zero d within = omega (arith, ints)
-constants_suc tables periods (flight ∷ flights) (suc i) d within =
-    omega (arith, ints, constants_suc tables periods flights i d (omega (arith, within)))
-
 pub constant_more : (parts : Parts) (number : ℕ) (flight : Flight)
     → number < length parts.flights → flight ≡ get_or parts.flights number flight
     → constants parts.tables parts.day.periods (take (number + 1) parts.flights)
@@ -348,9 +304,7 @@ pub constant_more : (parts : Parts) (number : ℕ) (flight : Flight)
     +ℤ flight_constant parts.tables parts.day.periods flight
 constant_more parts number flight below is =
     let sum = constants parts.tables parts.day.periods in
-    let step : number + 1 ≡ suc number = omega arith in
-    ap (λ n. sum (take n parts.flights)) step
-    ∙ constants_suc parts.tables parts.day.periods parts.flights number flight below
+    next_total (flight_constant parts.tables parts.day.periods) parts.flights number flight below
     ∙ ap (λ f. sum (take number parts.flights)
     +ℤ flight_constant parts.tables parts.day.periods f) (sym is)
 

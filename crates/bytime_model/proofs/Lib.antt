@@ -9,7 +9,6 @@ pub mod KindLaws
 pub mod LandFacts
 pub mod LeftFacts
 pub mod LinkFacts
-pub mod ListingFacts
 pub mod NameLists
 pub mod NodeFacts
 pub mod NumberFacts

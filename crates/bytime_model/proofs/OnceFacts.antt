@@ -21,10 +21,11 @@ use Rattle.bytime_model.specs.declared.variables.Term.{Term}
 use Rattle.bytime_model.specs.declared.variables.Var.{Var}
 use Rattle.bytime_model.specs.declared.variables.Var.TheVariants.{By, Inside}
 use Rattle.bytime_model.specs.CostRow.{cost_row, flight_terms, late_step, late_terms, most_late, most_wait, steps, unless_zero, wait_step, wait_terms}
-use Rattle.bytime_model.specs.Rows.{AreCollected, AreOther, back_term, by_before, connect_terms, enter_terms, enters_in, last_node, leave_terms, minus_one, node_from, occupy_terms, of_connection, of_flight, on_term, on_terms, one, over_flights, stay_terms, stay_terms_at, term_of, turn_terms, use_terms}
+use Rattle.bytime_model.specs.Rows.{AreCollected, AreOther, back_term, by_before, connect_terms, enter_terms, enters_in, last_node, leave_terms, minus_one, node_from, occupy_terms, of_connection, of_flight, on_term, on_terms, one, stay_terms, stay_terms_at, term_of, turn_terms, use_terms}
 use Rattle.bytime_model.specs.Values.{is_plain}
 use Rattle.bytime_model.proofs.SmallFacts.{all_over}
 use Rattle.bytime_model.proofs.NameLists.{Ascending, Each, ascending_append, ascending_flat, ascending_if, ascending_pairs, each_all, each_append, each_if, each_weaker}
+use Rattle.exact_sums.specs.Lists.{flat_map_from}
 
 -- what a variable is of
 abbrev flight_of : Var → ℕ
@@ -268,21 +269,21 @@ record IsFrom (k : ℕ) (term : Term) : Type 0 where
 module _ (part : ℕ → Flight → List Term)
     (of : (f : ℕ) (flight : Flight) → Each (HasFlight f) (part f flight)) where
   over_from : (from k : ℕ) (flights : List Flight) → from ≤ k
-      → Each (IsFrom from) (over_flights part k flights)
+      → Each (IsFrom from) (flat_map_from part k flights)
   over_from from k [] past = tt
   over_from from k (flight ∷ flights) past =
-      each_append (IsFrom from) (part k flight) (over_flights part (k + 1) flights)
+      each_append (IsFrom from) (part k flight) (flat_map_from part (k + 1) flights)
       (each_weaker (HasFlight k) (IsFrom from) (part k flight)
       (λ term has. record { from = omega (arith, past, has) }) (of k flight))
       (over_from from (k + 1) flights (omega (arith, past)))
 
   over_once : (P : Flight → Type 0) (k : ℕ) (flights : List Flight) → All P flights
       → ((f : ℕ) (flight : Flight) → P flight → Once (part f flight))
-      → Once (over_flights part k flights)
+      → Once (flat_map_from part k flights)
   over_once P k [] all each = tt
   over_once P k (flight ∷ flights) all each =
       ascending_append AreOther (HasFlight k) (IsFrom (k + 1)) (part k flight)
-      (over_flights part (k + 1) flights)
+      (flat_map_from part (k + 1) flights)
       (λ a b here later same.
       let past = later.from in
       let flight : flight_of a.variable ≡ flight_of b.variable = ap flight_of same in
@@ -428,7 +429,7 @@ module _ (parts : Parts) where
         is)
 
     pub capacity_once : (k : CapKind) (place t : ℕ)
-        → Once (over_flights (use_terms k place t) 0 parts.flights)
+        → Once (flat_map_from (use_terms k place t) 0 parts.flights)
     capacity_once k place t =
         over_once (use_terms k place t) (λ f flight. use_flight f k place t flight)
         (IsFlight parts.day.periods parts.places parts.tables) 0 parts.flights scenario.flights.each

@@ -24,10 +24,11 @@ use Rattle.bytime_model.specs.declared.variables.Var.{Var}
 use Rattle.bytime_model.specs.declared.variables.Var.TheVariants.{By, Inside}
 use Rattle.bytime_model.specs.CostRow.{cost_row, flight_terms, late_step, late_step_at, late_terms, most_late, most_wait, unless_zero, wait_step, wait_step_at, wait_terms}
 use Rattle.exact_sums.specs.Near.{IsNear}
-use Rattle.bytime_model.specs.Rows.{back_term, back_terms, by_before, connect_terms, enters_in, last_node, minus_one, most_terms, node_from, of_connection, of_flight, on_term, on_terms, one, over_flights, stay_terms, stay_terms_at, term_of, use_terms}
+use Rattle.bytime_model.specs.Rows.{back_term, back_terms, by_before, connect_terms, enters_in, last_node, minus_one, most_terms, node_from, of_connection, of_flight, on_term, on_terms, one, stay_terms, stay_terms_at, term_of, use_terms}
 use Rattle.bytime_model.specs.Values.{is_plain}
 use Rattle.bytime_model.proofs.CostFacts.{constants_near}
 use Rattle.bytime_model.proofs.FillFacts.{before_few, use_few}
+use Rattle.exact_sums.specs.Lists.{flat_map_from}
 
 -- the factor is 1 or -1
 abbrev pub IsUnit : Term → Type 0
@@ -42,10 +43,10 @@ module _ (P : Term → Type 0) where
       All-append P (part x) (flat_map part xs) (each x) (all_flat part xs each)
 
   pub all_over : (part : ℕ → Flight → List Term) (k : ℕ) (flights : List Flight)
-      → ((i : ℕ) (flight : Flight) → All P (part i flight)) → All P (over_flights part k flights)
+      → ((i : ℕ) (flight : Flight) → All P (part i flight)) → All P (flat_map_from part k flights)
   all_over part k [] each = All-nil P
   all_over part k (flight ∷ flights) each =
-      All-append P (part k flight) (over_flights part (k + 1) flights) (each k flight)
+      All-append P (part k flight) (flat_map_from part (k + 1) flights) (each k flight)
       (all_over part (k + 1) flights each)
 
   pub all_if : (b : Bool) (xs : List Term) → All P xs → All P (if b then xs else [])
@@ -115,7 +116,7 @@ use_units kind.Sector place time number flight =
     stay_at_units number flight time (node_from place 0 flight.nodes)
 
 pub capacity_units : (parts : Parts) (kind : CapKind) (place time : ℕ)
-    → All IsUnit (over_flights (use_terms kind place time) 0 parts.flights)
+    → All IsUnit (flat_map_from (use_terms kind place time) 0 parts.flights)
 capacity_units parts kind place time =
     all_over IsUnit (use_terms kind place time) 0 parts.flights
     (λ i flight. use_units kind place time i flight)
@@ -153,19 +154,19 @@ caps_small kind.Sector parts place period (Some found) valid is =
 
 -- two terms a flight
 over_few : (kind : CapKind) (place time k : ℕ) (flights : List Flight)
-    → length (over_flights (use_terms kind place time) k flights) ≤ 2 * length flights
+    → length (flat_map_from (use_terms kind place time) k flights) ≤ 2 * length flights
 over_few kind place time k [] = omega arith
 over_few kind place time k (flight ∷ flights) =
     omega (
       arith,
       length-append (use_terms kind place time k flight)
-          (over_flights (use_terms kind place time) (k + 1) flights),
+          (flat_map_from (use_terms kind place time) (k + 1) flights),
       use_few kind place time k flight,
       over_few kind place time (k + 1) flights,
     )
 
 pub capacity_few : (parts : Parts) (kind : CapKind) (place time : ℕ) → IsScenario parts
-    → length (over_flights (use_terms kind place time) 0 parts.flights) ≤ most_terms
+    → length (flat_map_from (use_terms kind place time) 0 parts.flights) ≤ most_terms
 capacity_few parts kind place time valid =
     omega (arith, over_few kind place time 0 parts.flights, valid.flights.few)
 
@@ -259,12 +260,12 @@ flight_near parts number flight valid is =
 flights_near : (parts : Parts) (k : ℕ) (flights : List Flight) → IsScenario parts
     → ((i : ℕ) (flight : Flight) → slice_get flights i ≡ Some flight
     → slice_get parts.flights (k + i) ≡ Some flight)
-    → All IsSmallTerm (over_flights (flight_terms parts.tables parts.day.periods) k flights)
+    → All IsSmallTerm (flat_map_from (flight_terms parts.tables parts.day.periods) k flights)
 flights_near parts k [] valid there = All-nil IsSmallTerm
 flights_near parts k (flight ∷ flights) valid there =
     let part = flight_terms parts.tables parts.day.periods in
     let first : k + 0 ≡ k = omega arith in
-    All-append IsSmallTerm (part k flight) (over_flights part (k + 1) flights)
+    All-append IsSmallTerm (part k flight) (flat_map_from part (k + 1) flights)
     (flight_near parts k flight valid
     (subst (λ n. slice_get parts.flights n ≡ Some flight) first (there 0 flight refl)))
     (flights_near parts (k + 1) flights valid

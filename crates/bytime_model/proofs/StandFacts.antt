@@ -1,7 +1,7 @@
 -- The nodes of all flights with their places, and those at one place.
-use Rattle.std.proofs.Common.{◌≡◌, ◌≢◌, ◌⊎◌, ℕ, zero, suc, ◌+◌, ◌-◌, ◌^◌, ◌<◌, ◌≤◌, ◌==◌, Bool, true, false, List, [], ◌∷◌, ◌++◌, length, get_or, take, take_all, slice_index, All, AllPairs, sum_by, if◌then◌else◌, refl, sym, ap, ap₂, ◌∙◌, subst, inl, inr, arith}
+use Rattle.std.proofs.Common.{◌≡◌, ◌≢◌, ◌⊎◌, ℕ, suc, ◌+◌, ◌-◌, ◌^◌, ◌<◌, ◌≤◌, ◌==◌, Bool, true, false, List, [], ◌∷◌, ◌++◌, length, get_or, slice_index, All, AllPairs, sum_by, if◌then◌else◌, refl, sym, ap, ap₂, ◌∙◌, subst, inl, inr, arith}
 use Rattle.std.proofs.lemmas.Bool.{cases_eq, cases_lt, eq-eqb, ne_eqb}
-use Rattle.std.proofs.lemmas.List.{append-nil, append_assoc, get_or_default, get_or_past, length-append}
+use Rattle.std.proofs.lemmas.List.{get_or_default, get_or_past, length-append}
 use Rattle.std.proofs.lemmas.List.Elements.{All-append, All-cons, All-head, All-nil, All-tail}
 use Rattle.std.proofs.lemmas.List.Sums.{sum_by-cons}
 use Rattle.flow_types.specs.declared.flight.Flight.{Flight}
@@ -11,73 +11,9 @@ use Rattle.flow_types.specs.Valid.{IsFlight, IsScenario}
 use Rattle.flow_types.proofs.PlaceFacts.{has_kind-within}
 use Rattle.bytime_model.specs.declared.visits.Stand.{Stand}
 use Rattle.bytime_model.specs.declared.visits.Visit.{Visit}
-use Rattle.bytime_model.specs.Rows.{node_from, over_flights}
+use Rattle.bytime_model.specs.Rows.{node_from}
 use Rattle.bytime_model.specs.Visits.{AreVisitsOf, all_stands, stands_from, stands_of, visit_by, visit_with, visits_in}
-use Rattle.bytime_model.proofs.FillFacts.{over_more}
-
--- one node more
-stands_suc : (number k n : ℕ) (nodes : List ℕ) (i d : ℕ) → i < length nodes → n ≡ k + i
-    → stands_from number k (take (suc i) nodes)
-    ≡ stands_from number k (take i nodes) ++ record {
-      place = get_or nodes i d;
-      visit = record { flight = number; node = n };
-    } ∷ []
-stands_suc number k n [] i d within is = absurd (omega (arith, within))
-stands_suc number k n (place ∷ nodes) zero d within is =
-    let same : k ≡ n = omega (arith, is) in
-    ap (λ m. record { place = place; visit = record { flight = number; node = m } } ∷ []) same
-stands_suc number k n (place ∷ nodes) (suc i) d within is =
-    ap (λ stands. record { place = place; visit = record { flight = number; node = k } } ∷ stands)
-    (stands_suc number (k + 1) n nodes i d (omega (arith, within)) (omega (arith, is)))
-
-pub added_none : (number : ℕ) (nodes : List ℕ) (start : List Stand)
-    → start ≡ start ++ stands_from number 0 (take 0 nodes)
-added_none number nodes start = sym (append-nil start)
-
-pub added_more : (number : ℕ) (nodes : List ℕ) (k d place : ℕ) (start old new : List Stand)
-    → k < length nodes → place ≡ get_or nodes k d
-    → old ≡ start ++ stands_from number 0 (take k nodes)
-    → new ≡ old ++ record {
-      place = place;
-      visit = record { flight = number; node = k };
-    } ∷ []
-    → new ≡ start ++ stands_from number 0 (take (k + 1) nodes)
-added_more number nodes k d place start old new within is was more =
-    let next : suc k ≡ k + 1 = omega arith in
-    let count : k ≡ 0 + k = omega arith in
-    let one : ℕ → List Stand =
-    λ p. record { place = p; visit = record { flight = number; node = k } } ∷ [] in
-    more ∙ ap (λ stands. stands ++ one place) was
-    ∙ append_assoc start (stands_from number 0 (take k nodes)) (one place)
-    ∙ ap (λ p. start ++ (stands_from number 0 (take k nodes) ++ one p)) is
-    ∙ ap (λ stands. start ++ stands) (sym (stands_suc number 0 k nodes k d within count)
-    ∙ ap (λ n. stands_from number 0 (take n nodes)) next)
-
-pub added_all : (number : ℕ) (nodes : List ℕ) (k : ℕ) (start now : List Stand)
-    → length nodes ≤ k → now ≡ start ++ stands_from number 0 (take k nodes)
-    → now ≡ start ++ stands_from number 0 nodes
-added_all number nodes k start now past are =
-    are ∙ ap (λ all. start ++ stands_from number 0 all) (take_all k nodes past)
-
--- one flight more
-pub stands_none : (flights : List Flight) → [] ≡ over_flights stands_of 0 (take 0 flights)
-stands_none flights = refl
-
-pub stands_more : (flights : List Flight) (number : ℕ) (d flight : Flight) (nodes : List ℕ)
-    (old new : List Stand) → number < length flights → flight ≡ get_or flights number d
-    → nodes ≡ flight.nodes → old ≡ over_flights stands_of 0 (take number flights)
-    → new ≡ old ++ stands_from number 0 nodes
-    → new ≡ over_flights stands_of 0 (take (number + 1) flights)
-stands_more flights number d flight nodes old new within is of was more =
-    more ∙ ap (λ stands. stands ++ stands_from number 0 nodes) was
-    ∙ ap (λ all. over_flights stands_of 0 (take number flights) ++ stands_from number 0 all)
-    (of ∙ ap (λ (f : Flight). f.nodes) is)
-    ∙ sym (over_more stands_of flights number d within)
-
-pub stands_all : (flights : List Flight) (number : ℕ) (now : List Stand) → length flights ≤ number
-    → now ≡ over_flights stands_of 0 (take number flights) → now ≡ over_flights stands_of 0 flights
-stands_all flights number now past are =
-    are ∙ ap (over_flights stands_of 0) (take_all number flights past)
+use Rattle.exact_sums.specs.Lists.{flat_map_from}
 
 -- there are as many as nodes
 stands_count : (number k : ℕ) (nodes : List ℕ)
@@ -86,13 +22,13 @@ stands_count number k [] = refl
 stands_count number k (place ∷ nodes) = omega (arith, stands_count number (k + 1) nodes)
 
 over_count : (k : ℕ) (flights : List Flight)
-    → length (over_flights stands_of k flights)
+    → length (flat_map_from stands_of k flights)
     ≡ sum_by (λ (flight : Flight). length flight.nodes) flights
 over_count k [] = refl
 over_count k (flight ∷ flights) =
     omega (
       arith,
-      length-append (stands_of k flight) (over_flights stands_of (k + 1) flights),
+      length-append (stands_of k flight) (flat_map_from stands_of (k + 1) flights),
       stands_count k 0 flight.nodes,
       over_count (k + 1) flights,
       sum_by-cons (λ (f : Flight). length f.nodes) flight flights,
@@ -139,12 +75,12 @@ flight_there periods parts flight valid k d within =
 over_there : (periods k : ℕ) (parts : Parts) (flights : List Flight)
     → All (IsFlight periods parts.places parts.tables) flights
     → All (λ (stand : Stand). stand.place < length parts.places)
-    (over_flights stands_of k flights)
+    (flat_map_from stands_of k flights)
 over_there periods k parts [] all =
     All-nil (λ (stand : Stand). stand.place < length parts.places)
 over_there periods k parts (flight ∷ flights) all =
     All-append (λ (stand : Stand). stand.place < length parts.places) (stands_of k flight)
-    (over_flights stands_of (k + 1) flights)
+    (flat_map_from stands_of (k + 1) flights)
     (nodes_there (length parts.places) k 0 flight.nodes (flight_there periods parts flight
     (All-head (IsFlight periods parts.places parts.tables) flight flights all)))
     (over_there periods (k + 1) parts flights
@@ -198,10 +134,10 @@ in-append place (stand ∷ xs) ys =
 
 flights_in : (place k : ℕ) (flights : List Flight)
     → All (λ (flight : Flight). AllPairs (λ a b. a ≢ b) flight.nodes) flights
-    → visits_in place (over_flights stands_of k flights) ≡ over_flights (visit_by place) k flights
+    → visits_in place (flat_map_from stands_of k flights) ≡ flat_map_from (visit_by place) k flights
 flights_in place k [] apart = refl
 flights_in place k (flight ∷ flights) apart =
-    in-append place (stands_of k flight) (over_flights stands_of (k + 1) flights)
+    in-append place (stands_of k flight) (flat_map_from stands_of (k + 1) flights)
     ∙ ap₂ (λ a b. a ++ b) (flight_in place k 0 flight.nodes
     (All-head (λ (f : Flight). AllPairs (λ a b. a ≢ b) f.nodes) flight flights apart))
     (flights_in place (k + 1) flights

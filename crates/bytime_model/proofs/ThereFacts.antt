@@ -14,11 +14,12 @@ use Rattle.flow_types.specs.Valid.{IsFlight, IsScenario}
 use Rattle.time_windows.proofs.RootFacts.{flight_in}
 use Rattle.bytime_model.specs.declared.variables.Term.{Term}
 use Rattle.bytime_model.specs.declared.variables.Var.TheVariants.{By, Inside}
-use Rattle.bytime_model.specs.Rows.{back_term, back_terms, by_before, connect_terms, enters_in, last_node, minus_one, node_from, of_connection, on_term, on_terms, one, over_flights, stay_terms, stay_terms_at, term_of, use_terms}
+use Rattle.bytime_model.specs.Rows.{back_term, back_terms, by_before, connect_terms, enters_in, last_node, minus_one, node_from, of_connection, on_term, on_terms, one, stay_terms, stay_terms_at, term_of, use_terms}
 use Rattle.bytime_model.specs.Values.{has_inside, is_plain}
 use Rattle.bytime_model.proofs.NodeFacts.{node_found}
 use Rattle.bytime_model.proofs.SmallFacts.{all_flat, all_if}
 use Rattle.bytime_model.specs.Columns.{IsThere}
+use Rattle.exact_sums.specs.Lists.{flat_map_from}
 
 -- not both
 not_both : (found : Option Place) → IsTrue (is_airport found) → IsTrue (is_sector found) → ⊥
@@ -72,10 +73,10 @@ module _ (flights : List Flight) where
 
   over_there : (part : ℕ → Flight → List Term) (k : ℕ) (some : List Flight)
       → ((i : ℕ) (flight : Flight) → slice_get some i ≡ Some flight → All Has (part (k + i) flight))
-      → All Has (over_flights part k some)
+      → All Has (flat_map_from part k some)
   over_there part k [] each = All-nil Has
   over_there part k (flight ∷ some) each =
-      All-append Has (part k flight) (over_flights part (k + 1) some)
+      All-append Has (part k flight) (flat_map_from part (k + 1) some)
       (subst (λ n. All Has (part n flight)) (plus_zero k) (each 0 flight refl))
       (over_there part (k + 1) some
       (λ i f is. subst (λ n. All Has (part n f)) (next k i) (each (suc i) f is)))
@@ -162,7 +163,7 @@ module _ (parts : Parts) (scenario : IsScenario parts) where
 
   pub capacity_there : (k : CapKind) (place time : ℕ)
       → (k ≡ kind.Sector → IsTrue (is_sector (slice_get parts.places place)))
-      → All (Has parts.flights) (over_flights (use_terms k place time) 0 parts.flights)
+      → All (Has parts.flights) (flat_map_from (use_terms k place time) 0 parts.flights)
   capacity_there k place time sector =
       over_there parts.flights (use_terms k place time) 0 parts.flights
       (λ i flight here. subst (λ n. All (Has parts.flights) (use_terms k place time n flight))

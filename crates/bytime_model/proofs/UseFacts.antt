@@ -14,12 +14,13 @@ use Rattle.flow_types.specs.Trips.{IsTrip, arrival_from, place_at}
 use Rattle.bytime_model.specs.declared.variables.Term.{Term}
 use Rattle.bytime_model.specs.declared.variables.Var.{Var}
 use Rattle.bytime_model.specs.declared.variables.Var.TheVariants.{By, Inside}
-use Rattle.bytime_model.specs.Rows.{by_before, enters_in, minus_one, node_from, on_terms, one, over_flights, stay_terms_at, term_of, use_terms}
+use Rattle.bytime_model.specs.Rows.{by_before, enters_in, minus_one, node_from, on_terms, one, stay_terms_at, term_of, use_terms}
 use Rattle.bytime_model.specs.Values.{by_at, by_of, form_value, has_inside, inside_at, is_plain, value_at}
 use Rattle.bytime_model.proofs.FormFacts.{form-append, form-before, form-on, form-one}
 use Rattle.bytime_model.proofs.EntryFacts.{by_here, by_skip}
 use Rattle.bytime_model.proofs.NodeFacts.{node_found}
 use Rattle.bytime_model.proofs.TripFacts.{arrived, arrives, before, before_le, departs, is_by_at, no_origin, not_arrived, not_by, occupied, on_le, on_sum}
+use Rattle.exact_sums.specs.Lists.{flat_map_from}
 
 -- a flight with its trip in a plan, and what is known of its network
 pub record IsFlown (flights : List Flight) (plan : List (List Stop)) (periods f : ℕ)
@@ -238,7 +239,7 @@ pub over_le : (value : Var → ℕ) (part : ℕ → Flight → List Term) (count
     → ((i : ℕ) (flight : Flight) (trip : List Stop) → slice_get flights i ≡ Some flight
     → slice_get plan i ≡ Some trip
     → form_value value (part (k + i) flight) ≤ℤ pos (count flight trip))
-    → form_value value (over_flights part k flights) ≤ℤ pos (counted count flights plan)
+    → form_value value (flat_map_from part k flights) ≤ℤ pos (counted count flights plan)
 over_le value part count periods k [] plan trips each = omega (arith, ints)
 over_le value part count periods k (flight ∷ flights) [] trips each = absurd trips
 over_le value part count periods k (flight ∷ flights) (trip ∷ plan) trips each =
@@ -250,7 +251,7 @@ over_le value part count periods k (flight ∷ flights) (trip ∷ plan) trips ea
     omega (
       arith,
       ints,
-      form-append value (part k flight) (over_flights part (k + 1) flights),
+      form-append value (part k flight) (flat_map_from part (k + 1) flights),
       subst (λ terms. form_value value terms ≤ℤ pos (count flight trip)) same here,
       rest,
     )

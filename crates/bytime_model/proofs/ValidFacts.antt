@@ -17,12 +17,13 @@ use Rattle.time_windows.proofs.RootFacts.{flight_in}
 use Rattle.bytime_model.specs.declared.variables.Term.{Term}
 use Rattle.bytime_model.specs.declared.variables.Var.{Var}
 use Rattle.bytime_model.specs.declared.variables.Var.TheVariants.{By, Inside}
-use Rattle.bytime_model.specs.Rows.{back_terms, by_before, connect_terms, enter_terms, last_node, leave_terms, minus_one, occupy_terms, of_flight, on_terms, one, over_flights, term_of, use_terms}
+use Rattle.bytime_model.specs.Rows.{back_terms, by_before, connect_terms, enter_terms, last_node, leave_terms, minus_one, occupy_terms, of_flight, on_terms, one, term_of, use_terms}
 use Rattle.bytime_model.specs.Values.{by_at, by_of, form_value, has_inside, value_at}
 use Rattle.bytime_model.proofs.EntryFacts.{by_few, by_later, by_skip}
 use Rattle.bytime_model.proofs.FormFacts.{form-append, form-back, form-before, form-minus, form-on, form-one}
 use Rattle.bytime_model.proofs.TripFacts.{back_le, back_sum, before, before_in, before_le, entered, left, not_by, on_le, on_sum}
 use Rattle.bytime_model.proofs.UseFacts.{IsFlown, arrived_by, by_value, departed, count_of, inside_value, over_le, stay_le, use_le}
+use Rattle.exact_sums.specs.Lists.{flat_map_from}
 
 module _ (parts : Parts) (plan : List (List Stop)) (scenario : IsScenario parts)
     (trips : AreTrips parts.day.periods parts.flights plan) where
@@ -49,7 +50,7 @@ module _ (parts : Parts) (plan : List (List Stop)) (scenario : IsScenario parts)
 
   -- what all flights take of a capacity is what is counted
   pub uses_le : (kind : CapKind) (place time : ℕ)
-      → form_value value (over_flights (use_terms kind place time) 0 parts.flights)
+      → form_value value (flat_map_from (use_terms kind place time) 0 parts.flights)
       ≤ℤ pos (counted (count_of kind place time) parts.flights plan)
   uses_le kind place time =
       over_le value (use_terms kind place time) (count_of kind place time) parts.day.periods 0
@@ -253,7 +254,7 @@ module _ (parts : Parts) (plan : List (List Stop)) (scenario : IsScenario parts)
   -- a capacity is kept where its count is
   pub within_capacity : (kind : CapKind) (place time capacity : ℕ)
       → counted (count_of kind place time) parts.flights plan ≤ capacity
-      → form_value at_plan (over_flights (use_terms kind place time) 0 parts.flights)
+      → form_value at_plan (flat_map_from (use_terms kind place time) 0 parts.flights)
       ≤ℤ pos capacity
   within_capacity kind place time capacity le =
       omega (arith, ints, uses_le parts plan scenario feasible.trips kind place time, le)

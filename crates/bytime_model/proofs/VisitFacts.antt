@@ -1,5 +1,5 @@
 -- What the visits to a place take of its capacity is what all flights take of it.
-use Rattle.std.proofs.Common.{◌≡◌, ℕ, suc, ◌+◌, ◌-◌, ◌*◌, ◌<◌, ◌≤◌, ◌==◌, List, [], ◌∷◌, ◌++◌, length, get_or, take, take_all, slice_get, Option, None, Some, All, refl, sym, ap, ap₂, ◌∙◌, subst, arith}
+use Rattle.std.proofs.Common.{◌≡◌, ℕ, suc, ◌+◌, ◌-◌, ◌≤◌, ◌==◌, List, [], ◌∷◌, ◌++◌, length, slice_get, Option, None, Some, All, refl, sym, ap, ap₂, ◌∙◌, subst, arith}
 use Rattle.std.proofs.lemmas.Grind.{flat_map-append}
 use Rattle.std.proofs.lemmas.List.{append-nil, length-append}
 use Rattle.std.proofs.lemmas.List.Elements.{All-head, All-tail}
@@ -13,10 +13,11 @@ use Rattle.flow_types.specs.Valid.{IsFlight, IsScenario}
 use Rattle.bytime_model.specs.declared.variables.Term.{Term}
 use Rattle.bytime_model.specs.declared.visits.Visit.{Visit}
 use Rattle.bytime_model.specs.Filling.{Adds, visit_terms, visit_terms_in}
-use Rattle.bytime_model.specs.Rows.{AtMost, capacity_terms, enters_in, node_from, of_flight, over_flights, use_terms}
+use Rattle.bytime_model.specs.Rows.{AtMost, capacity_terms, enters_in, node_from, of_flight, use_terms}
 use Rattle.bytime_model.specs.Visits.{visit_by, visit_with, visits_at}
-use Rattle.bytime_model.proofs.FillFacts.{adds_length, adds_more, adds_none, entry_few, if_few, stay_few}
+use Rattle.bytime_model.proofs.FillFacts.{adds_none, entry_few, if_few, stay_few}
 use Rattle.bytime_model.proofs.NodeFacts.{end_found, end_terms}
+use Rattle.exact_sums.specs.Lists.{flat_map_from}
 
 -- a visit takes two terms at the most
 visit_few : (kind : CapKind) (time : ℕ) (visit : Visit) (flight : Flight)
@@ -34,7 +35,7 @@ of_few : (terms : Flight → List Term) (n : ℕ) → ((flight : Flight) → len
 of_few terms n few None = omega arith
 of_few terms n few (Some flight) = few flight
 
-in_few : (kind : CapKind) (time : ℕ) (flights : List Flight) (visit : Visit)
+pub in_few : (kind : CapKind) (time : ℕ) (flights : List Flight) (visit : Visit)
     → length (visit_terms_in kind time flights visit) ≤ 2
 in_few kind time flights visit =
     of_few (visit_terms kind time visit) 2 (visit_few kind time visit)
@@ -54,40 +55,6 @@ pub some_takes : (kind : CapKind) (time : ℕ) (flights : List Flight) (visit : 
     → Adds (visit_terms_in kind time flights visit) old new
 some_takes kind time flights visit flight old new is adds =
     subst (λ o. Adds (of_flight (visit_terms kind time visit) o) old new) (sym is) adds
-
--- a loop over the visits to a place
-pub record AreVisited (kind : CapKind) (time : ℕ) (flights : List Flight) (visits : List Visit)
-    (i : ℕ) (start now : AtMost) : Type 0 where
-  pub adds : Adds (flat_map (visit_terms_in kind time flights) (take i visits)) start now
-  pub few : length now.terms ≤ length start.terms + 2 * i
-
-pub visited_none : (kind : CapKind) (time : ℕ) (flights : List Flight) (visits : List Visit)
-    (row : AtMost) → AreVisited kind time flights visits 0 row row
-visited_none kind time flights visits row = record { adds = adds_none row; few = omega arith }
-
-pub visited_more : (kind : CapKind) (time : ℕ) (flights : List Flight) (visits : List Visit)
-    (i : ℕ) (d visit : Visit) (start old new : AtMost) → i < length visits
-    → visit ≡ get_or visits i d → AreVisited kind time flights visits i start old
-    → Adds (visit_terms_in kind time flights visit) old new
-    → AreVisited kind time flights visits (i + 1) start new
-visited_more kind time flights visits i d visit start old new within is filled adds = record {
-  adds = adds_more (visit_terms_in kind time flights) visits i d start old new within filled.adds
-      (subst (λ v. Adds (visit_terms_in kind time flights v) old new) is adds);
-  few = omega (
-    arith,
-    adds_length (visit_terms_in kind time flights visit) old new adds,
-    in_few kind time flights visit,
-    filled.few,
-  );
-}
-
-pub visited_all : (kind : CapKind) (time : ℕ) (flights : List Flight) (visits : List Visit)
-    (i : ℕ) (start now : AtMost) → length visits ≤ i
-    → AreVisited kind time flights visits i start now
-    → Adds (flat_map (visit_terms_in kind time flights) visits) start now
-visited_all kind time flights visits i start now past filled =
-    subst (λ all. Adds (flat_map (visit_terms_in kind time flights) all) start now)
-    (take_all i visits past) filled.adds
 
 -- what a flight takes, by the node that it has at the place
 abbrev terms_at : CapKind → ℕ → ℕ → Flight → Option ℕ → List Term
@@ -141,8 +108,8 @@ over_visits : (kind : CapKind) (place time k periods : ℕ) (parts : Parts) (all
     List Flight) → All (IsFlight periods parts.places parts.tables) flights
     → ((i : ℕ) (flight : Flight) → slice_get flights i ≡ Some flight
     → slice_get all (k + i) ≡ Some flight)
-    → flat_map (visit_terms_in kind time all) (over_flights (visit_by place) k flights)
-    ≡ over_flights (use_terms kind place time) k flights
+    → flat_map (visit_terms_in kind time all) (flat_map_from (visit_by place) k flights)
+    ≡ flat_map_from (use_terms kind place time) k flights
 over_visits kind place time k periods parts all [] valid there = refl
 over_visits kind place time k periods parts all (flight ∷ flights) valid there =
     let one = node_from place 0 flight.nodes in
@@ -150,7 +117,7 @@ over_visits kind place time k periods parts all (flight ∷ flights) valid there
     let here : slice_get all k ≡ Some flight =
     subst (λ n. slice_get all n ≡ Some flight) number (there 0 flight refl) in
     flat_map-append (visit_terms_in kind time all) (visit_by place k flight)
-    (over_flights (visit_by place) (k + 1) flights)
+    (flat_map_from (visit_by place) (k + 1) flights)
     ∙ ap₂ (λ a b. a ++ b)
     (visit_found kind time k all flight here one
     ∙ sym (uses_found kind place time k periods parts flight
@@ -173,12 +140,12 @@ with_few number None = omega arith
 with_few number (Some node) = omega arith
 
 over_few : (place k : ℕ) (flights : List Flight)
-    → length (over_flights (visit_by place) k flights) ≤ length flights
+    → length (flat_map_from (visit_by place) k flights) ≤ length flights
 over_few place k [] = omega arith
 over_few place k (flight ∷ flights) =
     omega (
       arith,
-      length-append (visit_by place k flight) (over_flights (visit_by place) (k + 1) flights),
+      length-append (visit_by place k flight) (flat_map_from (visit_by place) (k + 1) flights),
       with_few k (node_from place 0 flight.nodes),
       over_few place (k + 1) flights,
     )

@@ -10,8 +10,10 @@ use Rattle.flow_types.specs.Costs.{credit_of, total_of}
 use Rattle.bytime_model.specs.declared.variables.Term.{Term}
 use Rattle.bytime_model.specs.declared.variables.Var.{Var}
 use Rattle.bytime_model.specs.declared.variables.Var.TheVariants.{By}
-use Rattle.bytime_model.specs.Rows.{over_flights, term_of}
+use Rattle.bytime_model.specs.Rows.{term_of}
 use Rattle.bytime_model.specs.Values.{form_value}
+use Rattle.exact_sums.specs.Lists.{flat_map_from}
+use Rattle.exact_sums.specs.Sums.{total}
 
 -- a sum of terms and a constant
 pub record Priced : Type 0 where
@@ -66,14 +68,12 @@ flight_terms tables periods number flight =
     late_terms tables periods number flight ++ wait_terms tables periods number flight
 
 abbrev pub constants : List CostTable → ℕ → List Flight → ℤ
-constants tables periods [] = pos 0
-constants tables periods (flight ∷ flights) =
-    flight_constant tables periods flight +ℤ constants tables periods flights
+constants tables periods flights = total (flight_constant tables periods) flights
 
 abbrev pub cost_row : Parts → Priced
 cost_row parts = record {
   constant = constants parts.tables parts.day.periods parts.flights;
-  terms = over_flights (flight_terms parts.tables parts.day.periods) 0 parts.flights;
+  terms = flat_map_from (flight_terms parts.tables parts.day.periods) 0 parts.flights;
 }
 
 -- its value where variables have these values

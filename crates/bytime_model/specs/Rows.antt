@@ -16,6 +16,7 @@ use Rattle.bytime_model.specs.declared.variables.Term.{Term}
 use Rattle.bytime_model.specs.declared.variables.Var.{Var}
 use Rattle.bytime_model.specs.declared.variables.Var.TheVariants.{By, Inside}
 use Rattle.bytime_model.specs.Values.{form_value, has_inside, is_plain, value_at}
+use Rattle.exact_sums.specs.Lists.{flat_map_from}
 
 abbrev pub one : ℤ
 one = pos 1
@@ -36,11 +37,6 @@ by_before factor flight node time wait =
 abbrev pub enters_in : ℕ → ℕ → ℕ → List Term
 enters_in flight node time =
     term_of one (By flight node time) ∷ by_before minus_one flight node time 1
-
--- a part of each flight, by its number
-abbrev pub over_flights : {X : Type 0} → (ℕ → Flight → List X) → ℕ → List Flight → List X
-over_flights part k [] = []
-over_flights part k (flight ∷ flights) = part k flight ++ over_flights part (k + 1) flights
 
 -- less having entered what the legs from a node lead to
 abbrev pub on_term : ℕ → ℕ → ℕ → Leg → List Term
@@ -86,7 +82,7 @@ use_terms kind.Sector place time number flight =
 
 -- what all flights take of it
 abbrev pub capacity_terms : Parts → CapKind → ℕ → ℕ → List Term
-capacity_terms parts kind place time = over_flights (use_terms kind place time) 0 parts.flights
+capacity_terms parts kind place time = flat_map_from (use_terms kind place time) 0 parts.flights
 
 -- there is such a capacity
 abbrev pub is_capacity : Parts → CapKind → ℕ → ℕ → Bool

@@ -4,7 +4,8 @@ use Rattle.flow_types.specs.declared.flight.Flight.{Flight}
 use Rattle.flow_types.specs.declared.parts.Parts.{Parts}
 use Rattle.bytime_model.specs.declared.visits.Stand.{Stand}
 use Rattle.bytime_model.specs.declared.visits.Visit.{Visit}
-use Rattle.bytime_model.specs.Rows.{node_from, over_flights}
+use Rattle.bytime_model.specs.Rows.{node_from}
+use Rattle.exact_sums.specs.Lists.{flat_map_from}
 
 -- a flight with its node at the place, where it has one
 abbrev pub visit_with : ℕ → Option ℕ → List Visit
@@ -16,26 +17,27 @@ visit_by place number flight = visit_with number (node_from place 0 flight.nodes
 
 -- all flights that have a node at the place, each with it
 abbrev pub visits_at : ℕ → List Flight → List Visit
-visits_at place flights = over_flights (visit_by place) 0 flights
+visits_at place flights = flat_map_from (visit_by place) 0 flights
 
 -- the lists of all places: there is none at any other
 abbrev pub AreVisitsOf : Parts → List (List Visit) → Type 0
 AreVisitsOf parts lists = (place : ℕ) → get_or lists place [] ≡ visits_at place parts.flights
 
+-- a node of a flight, with its place
+abbrev pub stand_of : ℕ → ℕ → ℕ → Stand
+stand_of number node place =
+    record { place = place; visit = record { flight = number; node = node } }
+
 -- The nodes of a flight from one on, each with its place, and those of all flights: of these the
 -- lists are made.
 abbrev pub stands_from : ℕ → ℕ → List ℕ → List Stand
-stands_from number k [] = []
-stands_from number k (place ∷ nodes) = record {
-  place = place;
-  visit = record { flight = number; node = k };
-} ∷ stands_from number (k + 1) nodes
+stands_from number = flat_map_from (λ node place. stand_of number node place ∷ [])
 
 abbrev pub stands_of : ℕ → Flight → List Stand
 stands_of number flight = stands_from number 0 flight.nodes
 
 abbrev pub all_stands : List Flight → List Stand
-all_stands flights = over_flights stands_of 0 flights
+all_stands flights = flat_map_from stands_of 0 flights
 
 -- those at a place
 abbrev pub visits_in : ℕ → List Stand → List Visit

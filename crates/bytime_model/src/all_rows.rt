@@ -55,7 +55,7 @@ fn add_all(names: &mut RowNames, s: &Scenario) -> Result<(), OutOfMemory>
 }
 
 // Adds those of these kinds, one after the other.
-#[tactic(auto, using(crate::proofs::ListingFacts::taken_none, crate::proofs::ListingFacts::taken_all))]
+#[tactic(auto, using(exact_sums::proofs::LoopFacts::items_none, exact_sums::proofs::LoopFacts::items_more, exact_sums::proofs::LoopFacts::items_all))]
 fn add_kinds(names: &mut RowNames, s: &Scenario, kinds: &[RowKind]) -> Result<(), OutOfMemory>
     ensures { OnOk result (names.new ≡ names.old ++ kinds_rows (parts_of s.now) kinds.now) }
 {
@@ -66,7 +66,7 @@ fn add_kinds(names: &mut RowNames, s: &Scenario, kinds: &[RowKind]) -> Result<()
 }
 
 // Adds those of this kind.
-#[tactic(auto, using(crate::proofs::ListingFacts::listed_none))]
+#[tactic(auto, using(exact_sums::proofs::LoopFacts::numbers_none, exact_sums::proofs::LoopFacts::numbers_all))]
 fn add_kind(names: &mut RowNames, s: &Scenario, kind: RowKind) -> Result<(), OutOfMemory>
     ensures { OnOk result (names.new ≡ names.old ++ kind_rows (parts_of s.now) kind) }
 {
@@ -77,7 +77,7 @@ fn add_kind(names: &mut RowNames, s: &Scenario, kind: RowKind) -> Result<(), Out
 }
 
 // Adds those of this kind that are of the flight, place or connection at the position.
-#[tactic(auto, using(crate::proofs::ListingFacts::listed_none))]
+#[tactic(auto, using(exact_sums::proofs::LoopFacts::numbers_none, exact_sums::proofs::LoopFacts::numbers_all))]
 fn add_part(
     names: &mut RowNames,
     s: &Scenario,
@@ -93,7 +93,7 @@ fn add_part(
 }
 
 // Adds those of them that have this second number.
-#[tactic(auto, using(crate::proofs::ListingFacts::mapped_none))]
+#[tactic(auto, using(exact_sums::proofs::LoopFacts::numbers_none, exact_sums::proofs::LoopFacts::numbers_mapped))]
 fn add_thirds(
     names: &mut RowNames,
     s: &Scenario,

@@ -194,6 +194,7 @@ fn add_unless_zero(terms: &mut Terms, term: Term) -> Result<(), OutOfMemory>
 }
 
 // A term for each period by which the flight may have arrived.
+#[tactic(auto, using(exact_sums::proofs::LoopFacts::numbers_none, exact_sums::proofs::LoopFacts::numbers_all))]
 fn add_late_terms(
     terms: &mut Terms,
     s: &Scenario,
@@ -211,6 +212,7 @@ fn add_late_terms(
 }
 
 // A term for each period by which it may have departed.
+#[tactic(auto, using(exact_sums::proofs::LoopFacts::numbers_none, exact_sums::proofs::LoopFacts::numbers_all))]
 fn add_wait_terms(
     terms: &mut Terms,
     s: &Scenario,
@@ -257,7 +259,7 @@ fn room_for_terms(alloc: Global, s: &Scenario) -> Result<Terms, OutOfMemory>
 }
 
 // The terms of all flights.
-#[tactic(auto, using(crate::proofs::CostFacts::terms_none, crate::proofs::CostFacts::terms_more, crate::proofs::CostFacts::terms_all))]
+#[tactic(auto, using(exact_sums::proofs::LoopFacts::numbered_none, exact_sums::proofs::LoopFacts::numbered_all))]
 fn cost_terms(alloc: Global, s: &Scenario) -> Result<Terms, OutOfMemory>
     ensures { IfOk result (λ terms. terms ≡ (cost_row (parts_of s.now)).terms) }
 {

@@ -42,7 +42,7 @@ fn put_on(buffer: &mut RowBuffer, flight: u32, node: u16, time: u16, leg: Leg)
 }
 
 // Less having entered what each leg from the node leads to.
-#[tactic(auto, using(crate::proofs::FillFacts::on_few, crate::proofs::FillFacts::filled_none, crate::proofs::FillFacts::filled_more, crate::proofs::FillFacts::filled_all))]
+#[tactic(auto, using(crate::proofs::FillFacts::on_few, crate::proofs::FillFacts::filled_none, crate::proofs::FillFacts::filled_more, crate::proofs::FillFacts::filled_all, exact_sums::proofs::LoopFacts::next_item))]
 fn put_all_on(buffer: &mut RowBuffer, number: u32, flight: &Flight, node: u16, time: u16)
     requires { length buffer.old.terms + length flight.now.legs ≤ most_terms }
     ensures { Adds (on_terms number flight.now node time) buffer.old buffer.new }
@@ -64,7 +64,7 @@ fn put_back(buffer: &mut RowBuffer, flight: u32, node: u16, time: u16, leg: Leg)
 }
 
 // Less having left where each leg to the node comes from in time for it.
-#[tactic(auto, using(crate::proofs::FillFacts::back_few, crate::proofs::FillFacts::filled_none, crate::proofs::FillFacts::filled_more, crate::proofs::FillFacts::filled_all))]
+#[tactic(auto, using(crate::proofs::FillFacts::back_few, crate::proofs::FillFacts::filled_none, crate::proofs::FillFacts::filled_more, crate::proofs::FillFacts::filled_all, exact_sums::proofs::LoopFacts::next_item))]
 fn put_all_back(buffer: &mut RowBuffer, number: u32, flight: &Flight, node: u16, time: u16)
     requires { length buffer.old.terms + length flight.now.legs ≤ most_terms }
     ensures { Adds (back_terms number flight.now node time) buffer.old buffer.new }
@@ -176,7 +176,7 @@ fn put_use(
 }
 
 /// What all flights take of it.
-#[tactic(auto, using(crate::proofs::FillFacts::used_none, crate::proofs::FillFacts::used_more, crate::proofs::FillFacts::used_all))]
+#[tactic(auto, using(crate::proofs::FillFacts::filled_none, crate::proofs::FillFacts::filled_all))]
 pub fn put_uses(buffer: &mut RowBuffer, s: &Scenario, kind: CapKind, place: u32, time: u16)
     requires { buffer.old.terms ≡ [] }
     ensures { Adds (capacity_terms (parts_of s.now) kind place time) buffer.old buffer.new }

@@ -49,7 +49,7 @@ fn put_visit_in(buffer: &mut RowBuffer, s: &Scenario, kind: CapKind, time: u16, 
 }
 
 // What all of these visits take.
-#[tactic(auto, using(crate::proofs::VisitFacts::visited_none, crate::proofs::VisitFacts::visited_all))]
+#[tactic(auto, using(crate::proofs::FillFacts::filled_none, crate::proofs::FillFacts::filled_all))]
 fn put_visits(buffer: &mut RowBuffer, s: &Scenario, visits: &[Visit], kind: CapKind, time: u16)
     requires few { length visits.now ≤ most_flights }
     requires none { buffer.old.terms ≡ [] }

@@ -67,7 +67,7 @@ pub struct Stand {
 }
 
 // The nodes of all flights, each with its place.
-#[tactic(auto, using(crate::proofs::StandFacts::stands_none, crate::proofs::StandFacts::stands_all))]
+#[tactic(auto, using(exact_sums::proofs::LoopFacts::numbered_none, exact_sums::proofs::LoopFacts::numbered_all))]
 fn all_stands(alloc: Global, s: &Scenario) -> Result<Sequence<Stand>, OutOfMemory>
     ensures { IfOk result (λ stands. stands ≡ all_stands (parts_of s.now).flights) }
 {
@@ -80,7 +80,7 @@ fn all_stands(alloc: Global, s: &Scenario) -> Result<Sequence<Stand>, OutOfMemor
 }
 
 // Adds those of a flight.
-#[tactic(auto, using(crate::proofs::StandFacts::added_none, crate::proofs::StandFacts::added_all))]
+#[tactic(auto, using(exact_sums::proofs::LoopFacts::numbered_none, exact_sums::proofs::LoopFacts::numbered_all))]
 fn add_stands(stands: &mut Sequence<Stand>, flight: u32, nodes: &[u32]) -> Result<(), OutOfMemory>
     requires { length nodes.now ≤ most_nodes }
     ensures { OnOk result (stands.new ≡ stands.old ++ stands_from flight 0 nodes.now) }

@@ -10,7 +10,7 @@ use Rattle.command_words.specs.Lines.{count_rule, flow_app, name_rule}
 use Rattle.command_words.specs.Reading.{asked_in, count_in, number_read, told_by}
 use Rattle.command_words.specs.Words.{Asked, Checked, Judged, Made, MayBeAsked, Tried, is_word_for_name, one_count, two_names}
 use Rattle.command_words.proofs.NumberFacts.{IsNumberWord, no_value, number_word, some_if, some_is}
-use Rattle.command_words.proofs.StepFacts.{Ends, IsPlainWord, IsSingle, ends_after_name, ends_here, given_row, level_is, more_rows, plain_name, rows_are}
+use Rattle.command_words.proofs.StepFacts.{Ends, IsPlainWord, IsSingle, ends_after_name, ends_here, given_row, level_is, more_rows, plain_name, rows_are, single}
 use Rattle.command_words.proofs.TopFacts.{Enters, line_matched, line_taken}
 
 abbrev pub line_of : Text → Shape
@@ -96,24 +96,8 @@ judge_enters = record { met = refl; found = refl; no_help = refl; defaults = ref
 
 check_takes : TakesNames check_sub first_name (second_name (codes "cert"))
 check_takes = record {
-  a_single = record {
-    known = refl;
-    same = refl;
-    action = refl;
-    reading = refl;
-    least = refl;
-    most
-        = refl;
-  };
-  b_single = record {
-    known = refl;
-    same = refl;
-    action = refl;
-    reading = refl;
-    least = refl;
-    most
-        = refl;
-  };
+  a_single = single check_sub.rules first_name refl refl refl refl refl refl;
+  b_single = single check_sub.rules (second_name (codes "cert")) refl refl refl refl refl refl;
   a_found = refl;
   b_found = refl;
   a_short = refl;
@@ -127,24 +111,8 @@ check_takes = record {
 
 explain_takes : TakesNames explain_sub first_name (second_name (codes "cert"))
 explain_takes = record {
-  a_single = record {
-    known = refl;
-    same = refl;
-    action = refl;
-    reading = refl;
-    least = refl;
-    most
-        = refl;
-  };
-  b_single = record {
-    known = refl;
-    same = refl;
-    action = refl;
-    reading = refl;
-    least = refl;
-    most
-        = refl;
-  };
+  a_single = single explain_sub.rules first_name refl refl refl refl refl refl;
+  b_single = single explain_sub.rules (second_name (codes "cert")) refl refl refl refl refl refl;
   a_found = refl;
   b_found = refl;
   a_short = refl;
@@ -158,24 +126,8 @@ explain_takes = record {
 
 judge_takes : TakesNames judge_sub first_name (second_name (codes "plan"))
 judge_takes = record {
-  a_single = record {
-    known = refl;
-    same = refl;
-    action = refl;
-    reading = refl;
-    least = refl;
-    most
-        = refl;
-  };
-  b_single = record {
-    known = refl;
-    same = refl;
-    action = refl;
-    reading = refl;
-    least = refl;
-    most
-        = refl;
-  };
+  a_single = single judge_sub.rules first_name refl refl refl refl refl refl;
+  b_single = single judge_sub.rules (second_name (codes "plan")) refl refl refl refl refl refl;
   a_found = refl;
   b_found = refl;
   a_short = refl;
@@ -273,15 +225,7 @@ pub record TakesCount (s : Shape) : Type 0 where
 
 make_takes : TakesCount make_sub
 make_takes = record {
-  single = record {
-    known = refl;
-    same = refl;
-    action = refl;
-    reading = refl;
-    least = refl;
-    most =
-        refl;
-  };
+  single = single make_sub.rules count refl refl refl refl refl refl;
   found = refl;
   defaults = refl;
   valid = λ v. refl;
@@ -290,15 +234,7 @@ make_takes = record {
 
 trial_takes : TakesCount trial_sub
 trial_takes = record {
-  single = record {
-    known = refl;
-    same = refl;
-    action = refl;
-    reading = refl;
-    least = refl;
-    most =
-        refl;
-  };
+  single = single trial_sub.rules count refl refl refl refl refl refl;
   found = refl;
   defaults = refl;
   valid = λ v. refl;

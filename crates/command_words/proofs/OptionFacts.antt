@@ -14,7 +14,7 @@ use Rattle.command_words.specs.Words.{Given, Wanted, is_given, is_word_for_name,
 use Rattle.command_words.proofs.LineFacts.{line_of}
 use Rattle.command_words.proofs.NumberFacts.{IsNumberWord, no_some, no_value, number_word, some_if, some_is}
 use Rattle.command_words.proofs.RowFacts.{new_row, no_row, old_row, row_in, same_text}
-use Rattle.command_words.proofs.StepFacts.{IsPlainWord, IsSingle, given_row, plain_name}
+use Rattle.command_words.proofs.StepFacts.{IsPlainWord, IsSingle, given_row, plain_name, single}
 use Rattle.command_words.proofs.TopFacts.{Enters}
 
 abbrev pub plan_sub : Shape
@@ -52,29 +52,25 @@ names_limit Nodes = record {
   other = refl;
   long = refl;
   found = refl;
-  single = record
-      { known = refl; same = refl; action = refl; reading = refl; least = refl; most = refl };
+  single = single plan_sub.rules (limit_arg Nodes) refl refl refl refl refl refl;
 }
 names_limit Pivots = record {
   other = refl;
   long = refl;
   found = refl;
-  single = record
-      { known = refl; same = refl; action = refl; reading = refl; least = refl; most = refl };
+  single = single plan_sub.rules (limit_arg Pivots) refl refl refl refl refl refl;
 }
 names_limit Cells = record {
   other = refl;
   long = refl;
   found = refl;
-  single = record
-      { known = refl; same = refl; action = refl; reading = refl; least = refl; most = refl };
+  single = single plan_sub.rules (limit_arg Cells) refl refl refl refl refl refl;
 }
 names_limit Rounds = record {
   other = refl;
   long = refl;
   found = refl;
-  single = record
-      { known = refl; same = refl; action = refl; reading = refl; least = refl; most = refl };
+  single = single plan_sub.rules (limit_arg Rounds) refl refl refl refl refl refl;
 }
 
 names_cert : Names (codes "--cert") cert_arg
@@ -82,8 +78,7 @@ names_cert = record {
   other = refl;
   long = refl;
   found = refl;
-  single = record
-      { known = refl; same = refl; action = refl; reading = refl; least = refl; most = refl };
+  single = single plan_sub.rules cert_arg refl refl refl refl refl refl;
 }
 
 limit_passes : (l : Limit) (word : Text)

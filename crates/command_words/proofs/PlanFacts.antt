@@ -13,7 +13,7 @@ use Rattle.command_words.specs.Words.{Asked, IsNodeCount, MayBeAsked, Planned, W
 use Rattle.command_words.proofs.LineFacts.{IsLine, first_name, line_is}
 use Rattle.command_words.proofs.NumberFacts.{no_value, some_if, some_is}
 use Rattle.command_words.proofs.RowFacts.{found_by_default, kept_by_defaults, new_row, no_row, old_row, row_by_default, row_in}
-use Rattle.command_words.proofs.StepFacts.{Ends, HasRows, IsSingle, ends_after_name, ends_after_option, ends_here, given_row, level_is, more_rows, plain_name, rows_are, stands}
+use Rattle.command_words.proofs.StepFacts.{Ends, HasRows, IsSingle, ends_after_name, ends_after_option, ends_here, given_row, level_is, more_rows, plain_name, rows_are, stands, single}
 use Rattle.command_words.proofs.OptionFacts.{IsNumberOf, TakesOption, Tells, TellsNumber, given_of, numbers_beside, option_step, plan_enters, plan_sub}
 
 -- the walk takes the words, and its rows tell what they give
@@ -98,16 +98,8 @@ name_read : (word : Text) (words : List Text) (rows : List Row)
 name_read word words rows pending before wanted a has tells is_name is =
     go (with_options wanted words) refl is
   where
-    single : IsSingle plan_sub.rules first_name
-    single = record {
-      known = refl;
-      same = refl;
-      action = refl;
-      reading = refl;
-      least = refl;
-      most
-          = refl;
-    }
+    one : IsSingle plan_sub.rules first_name
+    one = single plan_sub.rules first_name refl refl refl refl refl refl
 
     named : Tells wanted (Some word) (before ++ given_row (codes "name") word ∷ [])
     named = record {
@@ -123,7 +115,7 @@ name_read word words rows pending before wanted a has tells is_name is =
         → IsPlan rows pending (word ∷ words) a
     go None e is = absurd (no_value is)
     go (Some more) e is =
-        let next = more_rows plan_sub before word first_name single
+        let next = more_rows plan_sub before word first_name one
         (no_row (codes "name") before tells.name_row) refl in
         let rest = options_read words before (Some (codes "name", word ∷ [])) 2
         (before ++ given_row (codes "name") word ∷ []) wanted more (Some word) next named e in
@@ -133,7 +125,7 @@ name_read word words rows pending before wanted a has tells is_name is =
           reads = record {
             all = rest.all;
             ends = ends_after_name plan_sub rows pending 1 before word words first_name rest.all
-                has (plain_name word is_name) single refl refl rest.ends;
+                has (plain_name word is_name) one refl refl rest.ends;
             tells = rest.tells;
           };
           asked = some_is a (planned_by word more) a is;

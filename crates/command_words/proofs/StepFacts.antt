@@ -47,6 +47,19 @@ pub record IsSingle (rules : List Rule) (a : Rule) : Type 0 where
   pub least : (unwrap_or_range a.range).start_inclusive ≡ 1
   pub most : most_values a ≡ 1
 
+-- by these facts, in this order
+pub single : (rules : List Rule) (a : Rule) → arg_by_id rules a.id ≡ Some a
+    → bytes_eq a.id a.id ≡ true → action_of a ≡ Set → reading_by a ≡ AsWritten
+    → (unwrap_or_range a.range).start_inclusive ≡ 1 → most_values a ≡ 1 → IsSingle rules a
+single rules a known same action reading least most = record {
+  known = known;
+  same = same;
+  action = action;
+  reading = reading;
+  least = least;
+  most = most;
+}
+
 -- where the walk stands between two words
 abbrev pub held_with : List Row → Option (Text × List Text) → Held
 held_with rows pending = record { rows = rows; pending = pending; skip = 0 }

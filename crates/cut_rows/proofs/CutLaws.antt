@@ -3,7 +3,7 @@ use Rattle.std.proofs.Common.{◌≡◌, ℕ, zero, suc, ◌+◌, ◌-◌, ◌<�
 use Rattle.std.specs.List.{Contains, list_all}
 use Rattle.std.proofs.lemmas.Bool.{and_parts, leb-true, ltb-true}
 use Rattle.std.proofs.lemmas.Int.{ints}
-use Rattle.std.proofs.lemmas.List.Elements.{All-append, All-cons, All-nil}
+use Rattle.std.proofs.lemmas.List.Elements.{All-append, All-cons, All-nil, All-map}
 use Rattle.flow_types.specs.declared.flight.Flight.{Flight}
 use Rattle.flow_types.specs.declared.flight.Leg.{Leg}
 use Rattle.flow_types.specs.declared.parts.Parts.{Parts}
@@ -294,10 +294,10 @@ mapped_once part is low (node ∷ nodes) up =
       mapped_once part is (node + 1) nodes both.1,
     )
 
-mapped_units : (part : ℕ → Term) → IsPart part → (nodes : List ℕ) → All IsUnit (map part nodes)
-mapped_units part is [] = All-nil IsUnit
-mapped_units part is (node ∷ nodes) =
-    All-cons IsUnit (part node) (map part nodes) (inl (is node).1) (mapped_units part is nodes)
+-- what holds of the term of each node
+pub all_mapped : (P : Term → Type 0) (part : ℕ → Term) → ((node : ℕ) → P (part node))
+    → (nodes : List ℕ) → All P (map part nodes)
+all_mapped P part each nodes = All-map P part nodes (λ k d within. each (get_or nodes k d))
 
 unit_minus : (variable : Var) → All IsUnit (term_of minus_one variable ∷ [])
 unit_minus variable =
@@ -331,7 +331,7 @@ module _ (parts : Parts) where
       (refl, tt)
       (mapped_once part (λ node. (refl, refl)) 0 heads own.up)
       (tt, tt))
-      (All-append IsUnit (map part heads) (last ∷ []) (mapped_units part (λ node. (refl, refl))
+      (All-append IsUnit (map part heads) (last ∷ []) (all_mapped IsUnit part (λ node. inl refl)
       heads) (unit_minus (By f n t)))
 
   apart_collected : (f t : ℕ) (nodes : List ℕ) (found : Option Flight)
@@ -340,7 +340,7 @@ module _ (parts : Parts) where
       let own = nodes_apart found nodes are in
       collected (apart_terms f t nodes)
       (mapped_once (apart_term f t) (λ node. (refl, refl)) 0 nodes own.up)
-      (mapped_units (apart_term f t) (λ node. (refl, refl)) nodes)
+      (all_mapped IsUnit (apart_term f t) (λ node. inl refl) nodes)
 
   departed_collected : (f n t : ℕ) (legs : List Leg) → 0 < n
       → AreCollected (departed_terms legs f n t)

@@ -3,7 +3,6 @@ pub mod PoolRows
 pub mod RelaxationFacts
 pub mod RouteFacts
 pub mod NodeFacts
-pub mod FillFacts
 pub mod SumFacts
 pub mod TightFacts
 pub mod WayFacts

@@ -1,15 +1,10 @@
 -- Pools that are in order.
-use Rattle.std.proofs.Common.{◌≡◌, ◌⊎◌, ◌∙◌, ℕ, ◌+◌, ◌-◌, ◌<◌, ◌≤◌, ◌==◌, ◌&&◌, false, true, nat_lt, List, [], ◌∷◌, ◌++◌, All, AllPairs, Option, None, Some, length, map, get_or, slice_get, inl, inr, refl, sym, ap, subst, arith}
+use Rattle.std.proofs.Common.{◌≡◌, ◌⊎◌, ◌∙◌, ℕ, ◌-◌, ◌<◌, ◌==◌, ◌&&◌, false, true, nat_lt, List, [], ◌∷◌, ◌++◌, All, AllPairs, Option, None, Some, length, get_or, slice_get, inl, inr, refl, sym, ap, subst, arith}
 use Rattle.std.proofs.lemmas.Bool.{and_from, and_parts, cases_lt, eq-eqb, eqb-true, lt-ltb, ltb-true, or_cases, or_left, or_right}
 use Rattle.std.proofs.lemmas.Option.{get_or_from_slice_get, slice_get_cases}
-use Rattle.std.specs.List.{range_with_len}
-use Rattle.std.proofs.lemmas.List.FromFn.{map-range_with_len_more}
 use Rattle.std.proofs.lemmas.List.Quantifiers.{all_pairs_push}
-use Rattle.bytime_model.specs.declared.names.RowName.{RowName}
-use Rattle.bytime_model.specs.declared.names.RowName.TheVariants.{Cut}
 use Rattle.cut_rows.specs.declared.names.CutName.{CutName}
 use Rattle.cut_rows.specs.Order.{IsBefore, comes_before, follows, follows_last, numbers_of}
-use Rattle.cut_rows.specs.Pools.{cut_names}
 
 pub none_ascend : AllPairs IsBefore []
 none_ascend i j d less within = absurd (omega (arith, within))
@@ -83,25 +78,3 @@ all_before pool cut up is k d within =
               subst (λ one. IsBefore one cut) (sym (ap (λ n. get_or pool n d) same ∙ there))
               is
         ]
-
--- the names of the first so many cuts
-pub record AreNamed (count : ℕ) (names : List RowName) : Type 0 where
-  pub are : names ≡ map Cut (range_with_len 0 count)
-
-pub names_none : AreNamed 0 []
-names_none = record { are = refl }
-
-pub names_more : (count : ℕ) (old new : List RowName) → AreNamed count old
-    → new ≡ old ++ Cut count ∷ [] → AreNamed (count + 1) new
-names_more count old new before one = record {
-  are = one ∙ ap (λ names. names ++ Cut count ∷ []) before.are
-      ∙ sym (map-range_with_len_more Cut 0 count count (omega arith));
-}
-
-pub names_all : (pool : List CutName) (count : ℕ) (names : List RowName) → AreNamed count names
-    → length pool ≤ count → count ≤ length pool → names ≡ cut_names pool
-names_all pool count names named past upto =
-    named.are ∙ ap (λ n. map Cut (range_with_len 0 n)) same
-  where
-    same : count ≡ length pool
-    same = omega (arith, past, upto)

@@ -25,22 +25,16 @@ use Rattle.cut_rows.specs.declared.names.CutName.{CutName}
 use Rattle.cut_rows.specs.declared.names.CutName.TheVariants.{Apart, Departed, Heads}
 use Rattle.cut_rows.specs.Cuts.{apart_term, are_apart, are_heads, cut_limit, cut_terms, head_term, is_cut}
 use Rattle.cut_rows.specs.Pools.{cut_names, cut_row_at, is_cut_at, is_row_with, row_with}
-use Rattle.cut_rows.proofs.CutLaws.{cut_kept}
+use Rattle.cut_rows.proofs.CutLaws.{cut_kept, all_mapped}
 use Rattle.cut_rows.proofs.NodeFacts.{heads_few, nodes_few}
 
 -- the terms of a cut: entered nodes, each once
-mapped_units : (part : ℕ → Term) → ((n : ℕ) → IsUnit (part n)) → (nodes : List ℕ)
-    → All IsUnit (map part nodes)
-mapped_units part each [] = All-nil IsUnit
-mapped_units part each (node ∷ nodes) =
-    All-cons IsUnit (part node) (map part nodes) (each node) (mapped_units part each nodes)
-
 pub cut_units : (parts : Parts) (cut : CutName) → All IsUnit (cut_terms parts cut)
 cut_units parts (Heads f n t heads) =
     let part = head_term parts.day.periods (legs_of (slice_get parts.flights f)) f n t in
     All-append IsUnit (map part heads) (term_of minus_one (By f n t) ∷ [])
-    (mapped_units part (λ head. inl refl) heads) (minus (By f n t))
-cut_units parts (Apart f t nodes) = mapped_units (apart_term f t) (λ node. inl refl) nodes
+    (all_mapped IsUnit part (λ head. inl refl) heads) (minus (By f n t))
+cut_units parts (Apart f t nodes) = all_mapped IsUnit (apart_term f t) (λ node. inl refl) nodes
 cut_units parts (Departed f n t) =
     let wait = shortest_of (legs_of (slice_get parts.flights f)) n in
     with_one (By f n t) (by_before minus_one f 0 t wait)
@@ -50,13 +44,6 @@ cut_units parts (Departed f n t) =
 -- whatever flights there are
 abbrev pub Has : List Flight → Term → Type 0
 Has flights term = IsThere flights term.variable
-
-mapped_there : (flights : List Flight) (part : ℕ → Term) → ((n : ℕ) → Has flights (part n))
-    → (nodes : List ℕ) → All (Has flights) (map part nodes)
-mapped_there flights part each [] = All-nil (Has flights)
-mapped_there flights part each (node ∷ nodes) =
-    All-cons (Has flights) (part node) (map part nodes) (each node)
-    (mapped_there flights part each nodes)
 
 before_there : (flights : List Flight) (b : Bool) (f n t : ℕ)
     → All (Has flights) (if b then term_of minus_one (By f n t) ∷ [] else [])
@@ -69,9 +56,9 @@ cut_there parts (Heads f n t heads) =
     let flights = parts.flights in
     let part = head_term parts.day.periods (legs_of (slice_get flights f)) f n t in
     All-append (Has flights) (map part heads) (term_of minus_one (By f n t) ∷ [])
-    (mapped_there flights part (λ head. tt) heads) (before_there flights true f n t)
+    (all_mapped (Has flights) part (λ head. tt) heads) (before_there flights true f n t)
 cut_there parts (Apart f t nodes) =
-    mapped_there parts.flights (apart_term f t) (λ node. tt) nodes
+    all_mapped (Has parts.flights) (apart_term f t) (λ node. tt) nodes
 cut_there parts (Departed f n t) =
     let wait = shortest_of (legs_of (slice_get parts.flights f)) n in
     All-cons (Has parts.flights) (term_of one (By f n t)) (by_before minus_one f 0 t wait) tt

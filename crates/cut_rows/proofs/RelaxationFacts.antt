@@ -6,7 +6,8 @@ use Rattle.bytime_model.proofs.NumberFacts.{ready_box}
 use Rattle.cut_rows.specs.Relaxations.{box_under, parts_under}
 use Rattle.cut_rows.proofs.TightFacts.{some_tight}
 
-pub tight_under : (relaxation : Relaxation) → IsTight (parts_under relaxation) (box_under relaxation)
+pub tight_under : (relaxation : Relaxation) → IsTight (parts_under relaxation)
+    (box_under relaxation)
 tight_under relaxation =
     some_tight (parts_under relaxation) (box_under relaxation) relaxation.tight
 

@@ -67,7 +67,7 @@ pub fn is_apart_cut(s: &Scenario, routes: &Routes, flight: u32, time: u16, nodes
 }
 
 // Having entered one of the nodes by the period.
-#[tactic(auto, using(crate::proofs::FillFacts::mapped_none, crate::proofs::FillFacts::mapped_all))]
+#[tactic(auto, using(bytime_model::proofs::FillFacts::filled_none, bytime_model::proofs::FillFacts::filled_more, bytime_model::proofs::FillFacts::filled_mapped, exact_sums::proofs::LoopFacts::next_item))]
 fn put_apart(buffer: &mut RowBuffer, flight: u32, time: u16, nodes: &[u16])
     requires none { buffer.old ≡ no_row }
     requires few { length nodes.now ≤ most_nodes }

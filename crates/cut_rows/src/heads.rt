@@ -104,7 +104,7 @@ fn put_head(buffer: &mut RowBuffer, s: &Scenario, flight: u32, node: u16, time: 
 }
 
 // Having entered one of the heads by then, and not the node.
-#[tactic(auto, using(crate::proofs::FillFacts::mapped_none, crate::proofs::FillFacts::mapped_all))]
+#[tactic(auto, using(bytime_model::proofs::FillFacts::filled_none, bytime_model::proofs::FillFacts::filled_more, bytime_model::proofs::FillFacts::filled_mapped, exact_sums::proofs::LoopFacts::next_item))]
 fn put_heads(buffer: &mut RowBuffer, s: &Scenario, flight: u32, node: u16, time: u16, heads: &[u16])
     requires none { buffer.old ≡ no_row }
     requires few { length heads.now ≤ most_nodes }

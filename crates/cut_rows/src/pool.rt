@@ -87,7 +87,7 @@ impl Pool {
 
 /// The names of the pool's rows: the positions of its cuts. It takes 12 bytes a cut, or up to twice
 /// that, since the list grows.
-#[tactic(auto, using(crate::proofs::PoolFacts::names_none, crate::proofs::PoolFacts::names_all))]
+#[tactic(auto, using(exact_sums::proofs::LoopFacts::numbers_none, exact_sums::proofs::LoopFacts::numbers_mapped))]
 pub fn cut_names(alloc: Global, pool: &Pool) -> Result<RowNames, OutOfMemory>
     requires few { length pool.now < 2 ^ 32 }
     ensures { IfOk result (λ names. names ≡ cut_names pool.now) }

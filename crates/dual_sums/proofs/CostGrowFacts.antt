@@ -8,8 +8,6 @@ use Rattle.flow_types.specs.declared.parts.Parts.{Parts}
 use Rattle.flow_types.specs.Valid.{IsScenario}
 use Rattle.bytime_model.specs.declared.variables.Term.{Term}
 use Rattle.bytime_model.specs.declared.variables.Var.{Var}
-use Rattle.bytime_model.specs.Rows.{over_flights}
-use Rattle.bytime_model.proofs.FillFacts.{over_more}
 use Rattle.exact_sums.proofs.ItemFacts.{item_there}
 use Rattle.std.proofs.lemmas.Option.{get_or_from_slice_get}
 use Rattle.bytime_model.specs.CostRow.{cost_row, flight_terms, late_step_at, late_variable, most_late_at, most_wait_at, priced_value, steps, unless_zero, wait_step_at, wait_variable}
@@ -24,6 +22,8 @@ use Rattle.dual_sums.proofs.CostSizeFacts.{constant_near, late_near, wait_near}
 use Rattle.dual_sums.proofs.GrowFacts.{grows_as, grows_then}
 use Rattle.dual_sums.proofs.SumsFacts.{abs_le}
 use Rattle.dual_sums.proofs.TimesFacts.{times-plus}
+use Rattle.exact_sums.proofs.LoopFacts.{next_numbered}
+use Rattle.exact_sums.specs.Lists.{flat_map_from}
 
 near_abs : (v : ℤ) → IsNear 2000000000 v → unsigned_abs v ≤ 2000000000
 near_abs v near = abs_le v 2000000000 near.high near.low
@@ -148,7 +148,7 @@ constant_within parts weight valid small =
 abbrev pub part_cost : Parts → ℕ → ℕ → (Var → ℕ) → ℤ
 part_cost parts weight count value =
     pos weight *ℤ ((cost_row parts).constant +ℤ form_value value
-    (over_flights (flight_terms parts.tables parts.day.periods) 0 (take count parts.flights)))
+    (flat_map_from (flight_terms parts.tables parts.day.periods) 0 (take count parts.flights)))
 
 module _ (parts : Parts) (at : (ℕ → ℕ) → Var → ℕ) (weight : ℕ) where
   pub flights_none : (share : ℤ) (old new : Summed)
@@ -193,7 +193,7 @@ module _ (parts : Parts) (at : (ℕ → ℕ) → Var → ℕ) (weight : ℕ) whe
       part = flight_terms parts.tables parts.day.periods
 
       so_far : ℕ → List Term
-      so_far n = over_flights part 0 (take n parts.flights)
+      so_far n = flat_map_from part 0 (take n parts.flights)
 
       whole : (value : Var → ℕ) (d : Flight)
           → form_value value (terms_at parts k (slice_get parts.flights k))
@@ -202,7 +202,7 @@ module _ (parts : Parts) (at : (ℕ → ℕ) → Var → ℕ) (weight : ℕ) whe
           ≡ (cost_row parts).constant +ℤ form_value value (so_far k)
           +ℤ form_value value (terms_at parts k (slice_get parts.flights k))
       whole value d own =
-          let more = ap (form_value value) (over_more part parts.flights k d within)
+          let more = ap (form_value value) (next_numbered part parts.flights k d within)
           ∙ form-append value (so_far k) (part k (get_or parts.flights k d)) in
           omega (arith, ints, more, own)
 
@@ -215,6 +215,6 @@ module _ (parts : Parts) (at : (ℕ → ℕ) → Var → ℕ) (weight : ℕ) whe
       (λ value. pos weight *ℤ priced_value value (cost_row parts)) (2 ^ 104 + k * 2 ^ 103)
       (2 ^ 114) start new grows
       (λ value. ap (λ flights. pos weight *ℤ ((cost_row parts).constant +ℤ form_value value
-      (over_flights (flight_terms parts.tables parts.day.periods) 0 flights)))
+      (flat_map_from (flight_terms parts.tables parts.day.periods) 0 flights)))
       (sym (take_all k parts.flights past)))
       (let most = valid.flights.few in omega (arith, most, upto))

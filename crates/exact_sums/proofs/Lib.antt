@@ -3,4 +3,5 @@ pub mod ShortLists
 pub mod SumFacts
 pub mod ProductFacts
 pub mod LeastFacts
+pub mod LoopFacts
 pub mod NearFacts

@@ -1,5 +1,6 @@
 -- Laws of sums over the integers.
-use Rattle.std.proofs.Common.{◌≡◌, ℕ, suc, List, [], ◌∷◌, ◌++◌, ℤ, pos, ◌+ℤ◌, ◌≤ℤ◌, All, sum_by, refl, arith}
+use Rattle.std.proofs.Common.{◌≡◌, ℕ, suc, ◌+◌, ◌<◌, List, [], ◌∷◌, ◌++◌, length, get_or, take, ℤ, pos, ◌+ℤ◌, ◌≤ℤ◌, All, sum_by, refl, ap, ◌∙◌, arith}
+use Rattle.std.proofs.lemmas.List.{take_more}
 use Rattle.std.proofs.lemmas.Int.{ints}
 use Rattle.std.proofs.lemmas.List.Sums.{sum_by-cons}
 use Rattle.exact_sums.specs.Sums.{total}
@@ -13,6 +14,12 @@ module _ {A : Type 0} where
   pub total-push : (value : A → ℤ) (xs : List A) (x : A)
       → total value (xs ++ x ∷ []) ≡ total value xs +ℤ value x
   total-push value xs x = omega (arith, ints, total-append value xs (x ∷ []))
+
+  -- the sum over one item more of a list
+  pub next_total : (value : A → ℤ) (xs : List A) (i : ℕ) (d : A) → i < length xs
+      → total value (take (i + 1) xs) ≡ total value (take i xs) +ℤ value (get_or xs i d)
+  next_total value xs i d within =
+      ap (total value) (take_more xs i d within) ∙ total-push value (take i xs) (get_or xs i d)
 
   pub total-both : (f g : A → ℤ) (xs : List A)
       → total (λ x. f x +ℤ g x) xs ≡ total f xs +ℤ total g xs

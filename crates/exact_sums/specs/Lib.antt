@@ -1,3 +1,4 @@
 pub mod Leasts
+pub mod Lists
 pub mod Near
 pub mod Sums

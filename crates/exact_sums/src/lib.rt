@@ -4,10 +4,10 @@
 //! that may be missing.
 //!
 //! `specs/Leasts.antt` says what the least of a set is, and the first of those that reach it.
-//! `specs/Sums.antt` has the sums, `specs/Near.antt` what isn't far from 0. The range of the
-//! numbers from `first` on, `count` of them, is the list `range_with_len first count` of std, so
-//! that a sum over a range is one over a list. A caller calls a law as a statement to have it in
-//! its own proof:
+//! `specs/Sums.antt` has the sums, `specs/Lists.antt` what items give by their numbers, and
+//! `specs/Near.antt` what isn't far from 0. The range of the numbers from `first` on, `count` of
+//! them, is the list `range_with_len first count` of std, so that a sum over a range is one over a
+//! list. A caller calls a law as a statement to have it in its own proof:
 //!
 //!     pub fn cost_of(first: &[u32], second: &[u32]) -> i128
 //!         ensures { result ≡ total pos (first.now ++ second.now) }
@@ -17,8 +17,9 @@
 //!     }
 //!
 //! `proofs/` has the laws of the least (`LeastFacts`: of a union, along a correspondence, of the
-//! same set said otherwise) and lemmas that std lacks: `SumFacts`, `ProductFacts`, `ItemFacts` (an
-//! item by its position, what a filter keeps) and `ShortLists` (lists that are written out).
+//! same set said otherwise), those of loops that append what each number, item or numbered item
+//! gives (`LoopFacts`), and lemmas that std lacks: `SumFacts`, `ProductFacts`, `ItemFacts` (an item
+//! by its position, what a filter keeps) and `ShortLists` (lists that are written out).
 #![tactic(auto)]
 
 mod laws;

@@ -46,8 +46,8 @@ summed_more price from n low =
       summed_none price (n + 1) (n + 1) (omega arith),
     )
 
--- The sums of the periods from one on are told, as far as they are in a window, and the others there
--- are as they were.
+-- The sums of the periods from one on are told, as far as they are in a window, and the others
+-- there are as they were.
 pub record AddsLater (price : ℕ → ℕ) (lo hi shift periods time sum : ℕ) (old new : List ℕ)
     : Type 0 where
   pub long : length new ≡ length old

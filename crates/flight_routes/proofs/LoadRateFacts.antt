@@ -45,6 +45,10 @@ at_trip time none [] k = sym none
 at_trip time none (trip ∷ trips) zero = refl
 at_trip time none (trip ∷ trips) (suc k) = at_trip time none trips k
 
+both_all : (P Q : Connection → Type 0) (cs : List Connection) → All P cs → All Q cs
+    → All (λ c. P c × Q c) cs
+both_all P Q cs one two k d within = (one k d within, two k d within)
+
 module _ (parts : Parts) (valid : IsScenario parts) (trips : List (List Stop)) (loads : Tally)
     (are : AreLoads parts trips loads) (number : ℕ) where
   arrived : (k : ℕ) → k < length parts.flights
@@ -69,13 +73,9 @@ module _ (parts : Parts) (valid : IsScenario parts) (trips : List (List Stop)) (
   waits_after time waits =
       all_turns (IsAfter loads time)
       (λ c. IsConnection parts.flights c × WaitsFor trips number time c) Departure number 0
-      parts.connections (both_all parts.connections valid.connections.each waits)
+      parts.connections (both_all (IsConnection parts.flights)
+      (WaitsFor trips number time) parts.connections valid.connections.each waits)
       (λ i c is low high own arrives at. is.1 own arrives (sym (arrived c.first is.0.first) ∙ at))
-    where
-      both_all : (cs : List Connection) → All (IsConnection parts.flights) cs
-          → All (WaitsFor trips number time) cs
-          → All (λ c. IsConnection parts.flights c × WaitsFor trips number time c) cs
-      both_all cs one two k d within = (one k d within, two k d within)
 
   in_time_leaves : (time : ℕ)
       → All (IsInTime loads time) (turns_in Arrival number 0 parts.connections)
@@ -91,13 +91,9 @@ module _ (parts : Parts) (valid : IsScenario parts) (trips : List (List Stop)) (
   leaves_in_time time leaves_time =
       all_turns (IsInTime loads time)
       (λ c. IsConnection parts.flights c × LeavesTimeFor trips number time c) Arrival number 0
-      parts.connections (both_all parts.connections valid.connections.each leaves_time)
+      parts.connections (both_all (IsConnection parts.flights)
+      (LeavesTimeFor trips number time) parts.connections valid.connections.each leaves_time)
       (λ i c is low high own leaves at. is.1 own leaves (sym (left c.second is.0.second) ∙ at))
-    where
-      both_all : (cs : List Connection) → All (IsConnection parts.flights) cs
-          → All (LeavesTimeFor trips number time) cs
-          → All (λ c. IsConnection parts.flights c × LeavesTimeFor trips number time c) cs
-      both_all cs one two k d within = (one k d within, two k d within)
 
 -- an airport, or a sector, is one of the places
 airport_within : (places : List Place) (k : ℕ) → IsTrue (is_airport (slice_get places k))

@@ -1,5 +1,5 @@
 -- Ways at the rates of a flight are its trips in the box.
-use Rattle.std.proofs.Common.{◌≡◌, ◌⊎◌, ◌*◌, ℕ, zero, suc, ◌+◌, ◌<◌, ◌≤◌, ◌^◌, List, [], ◌∷◌, ◌++◌, take, drop, length, get_or, replicate, slice_get, Option, Some, None, IfSome, MatchOption, ℤ, pos, ◌≤ℤ◌, sym, ap, ◌∙◌, subst, inl, inr, arith}
+use Rattle.std.proofs.Common.{◌≡◌, ◌⊎◌, ◌*◌, ℕ, zero, suc, ◌+◌, ◌<◌, ◌≤◌, ◌^◌, List, [], ◌∷◌, ◌++◌, take, drop, length, get_or, replicate, slice_get, Option, Some, None, IfSome, MatchOption, ℤ, pos, ◌≤ℤ◌, sym, ap, ◌∙◌, subst, inl, inr, arith, refl}
 use Rattle.std.proofs.lemmas.Bool.{cases_lt}
 use Rattle.std.proofs.Math.Seq.{take-append_seam}
 use Rattle.std.proofs.lemmas.Int.{ints}
@@ -28,36 +28,63 @@ use Rattle.flight_routes.specs.Prices.{PriceTable, priced_cost, priced_cost_of}
 use Rattle.flight_routes.specs.RateLists.{IsBlank, RateLists, place_of, rates_of}
 use Rattle.flight_routes.specs.Rates.{AreClear, IsWay, Rates, whole_cost}
 use Rattle.exact_sums.specs.Near.{IsNear}
-use Rattle.flight_routes.specs.Ready.{AreRising, AreSmall, AreWindows, IsInSpan, IsReady, IsUpward, row_of}
+use Rattle.flight_routes.specs.Ready.{AreRising, AreSmall, AreWindows, IsReady, IsUpward, row_of, IsTaken}
 use Rattle.flight_routes.specs.TripOrder.{IsNoLater}
 use Rattle.flight_routes.specs.TripRates.{AreTripRates}
 use Rattle.flight_routes.proofs.FitFacts.{allowed_cost, allowed_fits, fits_allowed}
 use Rattle.flight_routes.proofs.PricedFitFacts.{fits_guide, priced_fit_cost, priced_fit_fits, there_if}
 use Rattle.flight_routes.proofs.TripFacts.{IsRowOf, in_day, in_hours, trip_way, way_trip}
 use Rattle.flight_routes.proofs.TripRateFacts.{all_allowed, priced_is}
+use Rattle.std.proofs.lemmas.Option.{slice_get_read}
+use Rattle.plan_rules.specs.Tally.{Tally}
+use Rattle.plan_rules.specs.Loads.{AreLoads}
+use Rattle.plan_rules.proofs.CountFacts.{AreTripsOrNone-length}
 
-module _ (parts : Parts) (valid : IsScenario parts) (box : Box) (of : IsBoxOf parts box)
-    (number : ℕ) (flight : Flight) (here : slice_get parts.flights number ≡ Some flight)
-    (row : ℕ → Access) (same : (n : ℕ) → row n ≡ box number n) where
+-- what a search for the least answers of ways, with the first of those that reach it, said of trips
+module _ {A : Type 0} (P Q : A → Type 0) (cost price : A → ℤ) (IsNoLater : A → A → Type 0)
+    (to : (x : A) → P x → Q x × (price x ≡ cost x)) (back : (x : A) → Q x → P x) where
+  first_if : (least : Option ℤ) (Empty : Type 0) (chosen : A)
+      → MatchOption least Empty (λ l. IsFirstLeast P cost IsNoLater chosen)
+      → MatchOption least Empty (λ l. IsFirstLeast Q price IsNoLater chosen)
+  first_if None Empty chosen is = is
+  first_if (Some l) Empty chosen is = first_said P Q cost price to back IsNoLater chosen is
+
+-- what a box says of each node of a flight
+pub record IsRowIn (parts : Parts) (box : Box) (number : ℕ) (flight : Flight) (row : ℕ → Access)
+    : Type 0 where
+  pub valid : IsScenario parts
+  pub of : IsBoxOf parts box
+  pub here : slice_get parts.flights number ≡ Some flight
+  pub same : (n : ℕ) → row n ≡ box number n
+
+-- and within a span of the day's periods
+pub record IsRead (parts : Parts) (box : Box) (number : ℕ) (flight : Flight) (span : Window)
+    (row : ℕ → Access) : Type 0 where
+  pub own : IsRowIn parts box number flight row
+  pub windows : AreWindows span row
+  pub day : span.hi < parts.day.periods
+
+module _ {parts : Parts} {box : Box} {number : ℕ} {flight : Flight} {row : ℕ → Access}
+    (own : IsRowIn parts box number flight row) where
   the_flight : IsFlight parts.day.periods parts.places parts.tables flight
   the_flight = All-item (IsFlight parts.day.periods parts.places parts.tables) parts.flights number
-      flight valid.flights.each here
+      flight own.valid.flights.each own.here
 
   root_is : (n : ℕ) → root_box parts number n ≡ root_access parts.day.periods flight n
-  root_is n = ap (λ f. root_row parts.day.periods f n) here
+  root_is n = ap (λ f. root_row parts.day.periods f n) own.here
 
   row_of_box : IsRowOf parts.day.periods flight row
   row_of_box = record {
     windows = λ n.
         subst (λ (a : Access). IsWindowWithin (row n).window a.window) (root_is n)
         (subst (λ (a : Access). IsWindowWithin a.window (root_box parts number n).window)
-        (sym (same n)) (of.windows number n));
+        (sym (own.same n)) (own.of.windows number n));
     marks = λ n must.
-        ap (λ (a : Access). a.must) (same n)
-        ∙ of.marks number n (ap (λ (a : Access). a.must) (root_is n) ∙ must);
+        ap (λ (a : Access). a.must) (own.same n)
+        ∙ own.of.marks number n (ap (λ (a : Access). a.must) (root_is n) ∙ must);
     nodes = λ n none.
-        ap (λ (a : Access). a.must) (same n)
-        ∙ of.nodes number n (ap (λ (a : Access). a.window) (root_is n) ∙ none);
+        ap (λ (a : Access). a.must) (own.same n)
+        ∙ own.of.nodes number n (ap (λ (a : Access). a.window) (root_is n) ∙ none);
   }
 
   inside_row : (stops : List Stop) → IsTripIn parts box number stops
@@ -65,21 +92,21 @@ module _ (parts : Parts) (valid : IsScenario parts) (box : Box) (of : IsBoxOf pa
   inside_row stops is =
       let e : is.flight ≡ flight = cc in (
         subst (λ (f : Flight). IsTrip parts.day.periods f stops) e is.trip,
-        trip_in_same (box number) row stops (λ n. sym (same n)) is.inside,
+        trip_in_same (box number) row stops (λ n. sym (own.same n)) is.inside,
       )
 
   row_inside : (stops : List Stop) → IsTrip parts.day.periods flight stops → IsTripInBox row stops
       → IsTripIn parts box number stops
   row_inside stops trip inside = record {
     flight = flight;
-    there = here;
+    there = own.here;
     trip = trip;
-    inside = trip_in_same row (box number) stops same inside;
+    inside = trip_in_same row (box number) stops own.same inside;
   }
 
   -- at the rates of prices
-  module _ (weight : ℕ) (table : PriceTable) (span : Window)
-      (within : (n t : ℕ) → IsInWindow (row n).window t → IsInSpan span t) (rates : Rates)
+  module _ {weight : ℕ} {table : PriceTable} {span : Window} {rates : Rates}
+      (windows : AreWindows span row)
       (are : AreTripRates weight table parts number flight row span rates) where
     priced_to : (stops : List Stop) → IsWay flight row rates stops
         → IsTripIn parts box number stops
@@ -89,9 +116,9 @@ module _ (parts : Parts) (valid : IsScenario parts) (box : Box) (of : IsBoxOf pa
         let trip = way_trip parts.day.periods flight row the_flight.route.each_leg row_of_box rates
         (stop ∷ rest) way in (
           row_inside (stop ∷ rest) trip.0 trip.1,
-          ap (λ f. priced_cost_of weight table parts number f (stop ∷ rest)) here
+          ap (λ f. priced_cost_of weight table parts number f (stop ∷ rest)) own.here
               ∙ sym (priced_is weight table parts number flight the_flight.route.each_leg
-              valid.day.periods_from row span within rates are stop rest trip.0 trip.1),
+              own.valid.day.periods_from row span windows.within rates are stop rest trip.0 trip.1),
         )
 
     priced_back : (stops : List Stop) → IsTripIn parts box number stops
@@ -102,24 +129,27 @@ module _ (parts : Parts) (valid : IsScenario parts) (box : Box) (of : IsBoxOf pa
         trip_way parts.day.periods flight row the_flight.route.each_leg row_of_box rates
         (stop ∷ rest) trip.0 trip.1
         (all_allowed weight table parts number flight the_flight.route.each_leg
-        valid.day.periods_from row span within rates are stop rest trip.0 trip.1)
+        own.valid.day.periods_from row span windows.within rates are stop rest trip.0 trip.1)
 
     pub priced_least : (least : Option ℤ)
         → IsLeast (IsWay flight row rates) (whole_cost rates) least
         → IsLeast (IsTripIn parts box number) (priced_cost weight table parts number) least
-    priced_least = least_said (IsWay flight row rates) (IsTripIn parts box number)
-        (whole_cost rates) (priced_cost weight table parts number) priced_to priced_back
+    priced_least least = least_said (IsWay flight row rates) (IsTripIn parts box number)
+        (whole_cost rates) (priced_cost weight table parts number) priced_to priced_back least
 
-    pub priced_first : (stops : List Stop)
-        → IsFirstLeast (IsWay flight row rates) (whole_cost rates) IsNoLater stops
-        → IsFirstLeast (IsTripIn parts box number) (priced_cost weight table parts number)
-        IsNoLater stops
-    priced_first = first_said (IsWay flight row rates) (IsTripIn parts box number)
-        (whole_cost rates) (priced_cost weight table parts number) priced_to priced_back IsNoLater
+    pub priced_first : (least : Option ℤ) (stops : List Stop)
+        → MatchOption least (stops ≡ [])
+        (λ l. IsFirstLeast (IsWay flight row rates) (whole_cost rates) IsNoLater stops)
+        → MatchOption least (stops ≡ []) (λ l. IsFirstLeast (IsTripIn parts box number)
+        (priced_cost weight table parts number) IsNoLater stops)
+    priced_first least stops =
+        first_if (IsWay flight row rates) (IsTripIn parts box number) (whole_cost rates)
+        (priced_cost weight table parts number) IsNoLater priced_to priced_back
+        least (stops ≡ []) stops
 
   -- beside the loads
-  module _ (trips : List (List Stop)) (long : number < length trips) (span : Window)
-      (within : (n t : ℕ) → IsInWindow (row n).window t → IsInSpan span t) (rates : Rates)
+  module _ {trips : List (List Stop)} {span : Window} {rates : Rates}
+      (long : number < length trips) (windows : AreWindows span row)
       (are : AreFitRates parts trips number flight row span rates) where
     fit_to : (stops : List Stop) → IsWay flight row rates stops
         → IsTripThatFits parts box trips number stops
@@ -134,12 +164,12 @@ module _ (parts : Parts) (valid : IsScenario parts) (box : Box) (of : IsBoxOf pa
             fits = λ f there.
                 let e : flight ≡ f = cc in
                 subst (λ (g : Flight). FitsAs parts trips number g (stop ∷ rest)) e
-                (allowed_fits parts valid trips number flight here long row span within rates are
-                stop rest trip.0 trip.1 trip.2);
+                (allowed_fits parts own.valid trips number flight own.here long row span
+                windows.within rates are stop rest trip.0 trip.1 trip.2);
           },
-          ap (λ f. trip_cost_at parts.tables f (stop ∷ rest)) here
-              ∙ sym (allowed_cost parts valid trips number flight here long row span within rates
-              are stop rest trip.0 trip.1 trip.2),
+          ap (λ f. trip_cost_at parts.tables f (stop ∷ rest)) own.here
+              ∙ sym (allowed_cost parts own.valid trips number flight own.here long row span
+              windows.within rates are stop rest trip.0 trip.1 trip.2),
         )
 
     fit_back : (stops : List Stop)
@@ -150,42 +180,42 @@ module _ (parts : Parts) (valid : IsScenario parts) (box : Box) (of : IsBoxOf pa
         let trip = inside_row (stop ∷ rest) is.inside in
         trip_way parts.day.periods flight row the_flight.route.each_leg row_of_box rates
         (stop ∷ rest) trip.0 trip.1
-        (fits_allowed parts valid trips number flight here long row span within rates are stop rest
-        trip.0 trip.1 (is.fits flight here))
+        (fits_allowed parts own.valid trips number flight own.here long row span windows.within
+        rates are stop rest trip.0 trip.1 (is.fits flight own.here))
 
     pub fit_least : (least : Option ℤ)
         → IsLeast (IsWay flight row rates) (whole_cost rates) least
         → IsLeast (IsTripThatFits parts box trips number)
         (trip_cost_at parts.tables (slice_get parts.flights number)) least
-    fit_least = least_said (IsWay flight row rates)
+    fit_least least = least_said (IsWay flight row rates)
         (IsTripThatFits parts box trips number)
         (whole_cost rates) (trip_cost_at parts.tables (slice_get parts.flights number)) fit_to
-        fit_back
+        fit_back least
 
-    pub fit_first : (stops : List Stop)
-        → IsFirstLeast (IsWay flight row rates) (whole_cost rates) IsNoLater stops
-        → IsFirstLeast (IsTripThatFits parts box trips number)
-        (trip_cost_at parts.tables (slice_get parts.flights number)) IsNoLater stops
-    fit_first = first_said (IsWay flight row rates)
-        (IsTripThatFits parts box trips number)
-        (whole_cost rates) (trip_cost_at parts.tables (slice_get parts.flights number)) fit_to
-        fit_back IsNoLater
+    pub fit_first : (least : Option ℤ) (stops : List Stop)
+        → MatchOption least (stops ≡ [])
+        (λ l. IsFirstLeast (IsWay flight row rates) (whole_cost rates) IsNoLater stops)
+        → MatchOption least (stops ≡ []) (λ l. IsFirstLeast (IsTripThatFits parts box trips number)
+        (trip_cost_at parts.tables (slice_get parts.flights number)) IsNoLater stops)
+    fit_first least stops =
+        first_if (IsWay flight row rates) (IsTripThatFits parts box trips number) (whole_cost rates)
+        (trip_cost_at parts.tables (slice_get parts.flights number)) IsNoLater fit_to fit_back
+        least (stops ≡ []) stops
 
   -- under prices, beside the loads
-  module _ (weight : ℕ) (table : PriceTable) (trips : List (List Stop))
-      (long : number < length trips) (span : Window)
-      (within : (n t : ℕ) → IsInWindow (row n).window t → IsInSpan span t)
-      (fit price rates : Rates) (fit_are : AreFitRates parts trips number flight row span fit)
+  module _ {weight : ℕ} {table : PriceTable} {trips : List (List Stop)} {span : Window}
+      {fit price rates : Rates} (long : number < length trips) (windows : AreWindows span row)
+      (fit_are : AreFitRates parts trips number flight row span fit)
       (price_are : AreTripRates weight table parts number flight row span price)
       (priced_fit_are : ArePricedFitRates flight row fit price rates) where
     priced_fit_to : (stops : List Stop) → IsWay flight row rates stops
         → IsTripThatFits parts box trips number stops
         × (priced_cost weight table parts number stops ≡ whole_cost rates stops)
     priced_fit_to stops way =
-        let fits = (fit_to trips long span within fit fit_are stops
+        let fits = (fit_to long windows fit_are stops
         (priced_fit_fits flight row fit price rates priced_fit_are stops way)).0 in
-        let cost = (priced_to weight table span within price price_are stops
-        (priced_back weight table span within price price_are stops fits.inside)).1 in
+        let cost = (priced_to windows price_are stops
+        (priced_back windows price_are stops fits.inside)).1 in
         (fits, cost ∙ sym (priced_fit_cost flight row fit price rates priced_fit_are stops way))
 
     priced_fit_back : (stops : List Stop) → IsTripThatFits parts box trips number stops
@@ -194,21 +224,25 @@ module _ (parts : Parts) (valid : IsScenario parts) (box : Box) (of : IsBoxOf pa
         fits_guide flight row fit price rates priced_fit_are
         (λ t window. there_if (price.leaves t) _ (price_are.leaves t window))
         (λ n t last window. there_if (price.arrives t) _ (price_are.arrives n t last window))
-        stops (fit_back trips long span within fit fit_are stops is)
+        stops (fit_back long windows fit_are stops is)
 
     pub priced_fit_least : (least : Option ℤ)
         → IsLeast (IsWay flight row rates) (whole_cost rates) least
         → IsLeast (IsTripThatFits parts box trips number)
         (priced_cost weight table parts number) least
-    priced_fit_least = least_said (IsWay flight row rates) (IsTripThatFits parts box trips number)
-        (whole_cost rates) (priced_cost weight table parts number) priced_fit_to priced_fit_back
+    priced_fit_least least = least_said (IsWay flight row rates)
+        (IsTripThatFits parts box trips number) (whole_cost rates)
+        (priced_cost weight table parts number) priced_fit_to priced_fit_back least
 
-    pub priced_fit_first : (stops : List Stop)
-        → IsFirstLeast (IsWay flight row rates) (whole_cost rates) IsNoLater stops
-        → IsFirstLeast (IsTripThatFits parts box trips number)
-        (priced_cost weight table parts number) IsNoLater stops
-    priced_fit_first = first_said (IsWay flight row rates) (IsTripThatFits parts box trips number)
-        (whole_cost rates) (priced_cost weight table parts number) priced_fit_to priced_fit_back IsNoLater
+    pub priced_fit_first : (least : Option ℤ) (stops : List Stop)
+        → MatchOption least (stops ≡ [])
+        (λ l. IsFirstLeast (IsWay flight row rates) (whole_cost rates) IsNoLater stops)
+        → MatchOption least (stops ≡ []) (λ l. IsFirstLeast (IsTripThatFits parts box trips number)
+        (priced_cost weight table parts number) IsNoLater stops)
+    priced_fit_first least stops =
+        first_if (IsWay flight row rates) (IsTripThatFits parts box trips number) (whole_cost rates)
+        (priced_cost weight table parts number) IsNoLater priced_fit_to priced_fit_back
+        least (stops ≡ []) stops
 
 -- what is read of a list of one number
 read_replicate : {X : Type 0} (n k : ℕ) (x : X) → (k < n) ⊎ (n ≤ k) → get_or (replicate n x) k x ≡ x
@@ -247,59 +281,61 @@ pub fit_rising : (flight : Flight) (span : Window) (lists : RateLists) → IsFit
 fit_rising flight span lists table n t u inside from later to =
     omega (arith, ints, free_is lists table n t, free_is lists table n u)
 
-pub price_rising : (weight : ℕ) (table : PriceTable) (parts : Parts) (number : ℕ)
-    (flight : Flight) (row : ℕ → Access) (span : Window) (rates : Rates)
-    → span.hi < parts.day.periods → AreTripRates weight table parts number flight row span rates
+pub price_rising : {weight : ℕ} {table : PriceTable} {parts : Parts} {number : ℕ}
+    {flight : Flight} {row : ℕ → Access} {span : Window} {rates : Rates}
+    → AreTripRates weight table parts number flight row span rates → span.hi < parts.day.periods
     → AreRising flight span rates
-price_rising weight table parts number flight row span rates day are zero t u inside from later to =
+price_rising are day zero t u inside from later to =
     omega (arith, ints, are.unpaid t u later (omega (arith, to, day)))
-price_rising weight table parts number flight row span rates day are (suc n) t u inside from later
-    to =
+price_rising are day (suc n) t u inside from later to =
     omega (arith, ints, are.paid (suc n) t u (omega arith) inside from later to)
 
-module _ (parts : Parts) (valid : IsScenario parts) (box : Box) (of : IsBoxOf parts box)
-    (number : ℕ) (flight : Flight) (here : slice_get parts.flights number ≡ Some flight)
-    (row : ℕ → Access) (same : (n : ℕ) → row n ≡ box number n) where
+module _ {parts : Parts} {box : Box} {number : ℕ} {flight : Flight} {row : ℕ → Access}
+    (own : IsRowIn parts box number flight row) where
   -- windows within the day
   pub day_windows : (n t : ℕ) → IsInWindow (row n).window t → t < parts.day.periods
   day_windows n t window =
-      in_day parts.day.periods flight (record { node = n; time = t }) valid.day.periods_from
+      in_day parts.day.periods flight (record { node = n; time = t }) own.valid.day.periods_from
       (in_hours parts.day.periods flight (record { node = n; time = t }) (row n).window
-      ((row_of_box parts valid box of number flight here row same).windows n) window)
+      ((row_of_box own).windows n) window)
 
   network : IsUpward flight
   network =
-      let route = (the_flight parts valid box of number flight here row same).route in
+      let route = (the_flight own).route in
       record {
         nodes_from = omega (arith, route.nodes_from);
         nodes_to = route.nodes_to;
         legs = route.each_leg;
       }
 
-  -- what a table is ready for, told of the span that it was filled for
-  pub ready : (lists : RateLists) (span : Window) → lists.span ≡ span → AreWindows span row
-      → span.hi < most_periods → AreClear flight span (rates_of lists)
+module _ {parts : Parts} {box : Box} {number : ℕ} {flight : Flight} {span : Window}
+    {row : ℕ → Access} (is : IsRead parts box number flight span row) where
+  few : span.hi < most_periods
+  few = let day = is.day in let most = is.own.valid.day.periods_to in omega (arith, day, most)
+
+-- what a table is ready for, told of the span that it was filled for
+module _ {parts : Parts} {box : Box} {number : ℕ} {flight : Flight} {span : Window}
+    {row : ℕ → Access} (is : IsRead parts box number flight span row) (lists : RateLists) where
+  pub ready : lists.span ≡ span → AreClear flight span (rates_of lists)
       → AreSmall (rates_of lists) → IsReady flight row lists.span (rates_of lists)
-  ready lists span is windows few clear small =
-      subst (λ s. IsReady flight row s (rates_of lists)) (sym is) (record {
-        day = record { few = few; small = small };
+  ready at clear small =
+      subst (λ s. IsReady flight row s (rates_of lists)) (sym at) (record {
+        day = record { few = few is; small = small };
         clear = clear;
-        windows = windows;
-        network = network;
+        windows = is.windows;
+        network = network is.own;
       })
 
-  pub price_ready : (lists : RateLists) (span : Window) → lists.span ≡ span → AreWindows span row
-      → span.hi < most_periods → IsPriceTable lists
+  pub price_ready : lists.span ≡ span → IsPriceTable lists
       → IsReady flight row lists.span (rates_of lists)
-  price_ready lists span is windows few table =
-      ready lists span is windows few (price_clear flight lists span few table)
+  price_ready at table =
+      ready at (price_clear flight lists span (few is) table)
       (record { leaves = table.leaves; arrives = table.arrives; paid = table.paid })
 
-  pub fit_ready : (lists : RateLists) (span : Window) → lists.span ≡ span → AreWindows span row
-      → span.hi < most_periods → AreClear flight span (rates_of lists) → IsFitTable lists
+  pub fit_ready : lists.span ≡ span → AreClear flight span (rates_of lists) → IsFitTable lists
       → IsReady flight row lists.span (rates_of lists)
-  fit_ready lists span is windows few clear table =
-      ready lists span is windows few clear (record {
+  fit_ready at clear table =
+      ready at clear (record {
         leaves = table.leaves;
         arrives = table.arrives;
         paid = free_small lists table;
@@ -307,8 +343,7 @@ module _ (parts : Parts) (valid : IsScenario parts) (box : Box) (of : IsBoxOf pa
 
 -- The rates of prices where trips fit: the departures, then the arrivals are closed, and then what
 -- is clear is taken from the table beside the loads.
-module _ (flight : Flight) (row : ℕ → Access) (last : ℕ) (end_is : last + 1 ≡ length flight.nodes)
-    (first closed_one closed_both fits guide other : RateLists)
+module _ {first closed_one closed_both fits guide other : RateLists}
     (one : OnlyEnd Departure first closed_one) (two : OnlyEnd Arrival closed_one closed_both)
     (exchanged : AreExchanged closed_both fits guide other) where
   paid_same : guide.paid ≡ first.paid
@@ -317,14 +352,16 @@ module _ (flight : Flight) (row : ℕ → Access) (last : ℕ) (end_is : last + 
   leaves_same : guide.leaves ≡ closed_one.leaves
   leaves_same = exchanged.leaves ∙ two.leaves
 
-  pub priced_fit_rates : ((t : ℕ) → IsInWindow (row 0).window t
+  pub priced_fit_rates : (flight : Flight) (row : ℕ → Access) (last : ℕ)
+      → last + 1 ≡ length flight.nodes
+      → ((t : ℕ) → IsInWindow (row 0).window t
       → (rates_of closed_one).leaves t
       ≡ if_both ((rates_of fits).leaves t) ((rates_of first).leaves t))
       → ((t : ℕ) → IsInWindow (row last).window t
       → (rates_of closed_both).arrives t
       ≡ if_both ((rates_of fits).arrives t) ((rates_of closed_one).arrives t))
       → ArePricedFitRates flight row (rates_of fits) (rates_of first) (rates_of guide)
-  priced_fit_rates leaving arriving = record {
+  priced_fit_rates flight row last end_is leaving arriving = record {
     leaves = λ t window.
         ap (λ (xs : List (Option ℤ)). get_or xs t None) leaves_same ∙ leaving t window;
     arrives = λ n t at_last window.
@@ -338,18 +375,20 @@ module _ (flight : Flight) (row : ℕ → Access) (last : ℕ) (end_is : last + 
         ap (λ (xs : List ℕ). get_or xs (place_of n t) most_periods) exchanged.clear;
   }
 
-  pub priced_fit_rising : (span : Window) → AreRising flight span (rates_of first)
+  pub priced_fit_rising : (flight : Flight) (span : Window) → AreRising flight span (rates_of first)
       → AreRising flight span (rates_of guide)
-  priced_fit_rising span rising =
+  priced_fit_rising flight span rising =
       subst (λ (paid : List ℤ). (n t u : ℕ) → n + 1 < length flight.nodes → span.lo ≤ t → t ≤ u
       → u ≤ span.hi → get_or paid (place_of n t) (pos 0) ≤ℤ get_or paid (place_of n u) (pos 0))
       (sym paid_same) rising
 
-  pub priced_fit_small : IsPriceTable first → (AreSmallAt Departure first → AreSmallAt Departure closed_one)
+  pub priced_fit_small : IsPriceTable first
+      → (AreSmallAt Departure first → AreSmallAt Departure closed_one)
       → (AreSmallAt Arrival closed_one → AreSmallAt Arrival closed_both)
       → AreSmall (rates_of guide)
   priced_fit_small table within within_too = record {
-    leaves = subst (λ (xs : List (Option ℤ)). (t : ℕ) → IfSome (get_or xs t None) (IsNear (2 ^ 110)))
+    leaves = subst (λ (xs : List (Option ℤ)). (t : ℕ)
+        → IfSome (get_or xs t None) (IsNear (2 ^ 110)))
         (sym leaves_same) (within table.leaves);
     arrives = subst
         (λ (xs : List (Option ℤ)). (t : ℕ) → IfSome (get_or xs t None) (IsNear (2 ^ 110)))
@@ -363,7 +402,7 @@ module _ (flight : Flight) (row : ℕ → Access) (last : ℕ) (end_is : last + 
   }
 
   -- both tables, when what is clear is given back
-  module _ (final rest : RateLists) (again : AreExchanged guide other final rest) where
+  module _ {final rest : RateLists} (again : AreExchanged guide other final rest) where
     pub price_table_back : IsPriceTable first
         → (AreSmallAt Departure first → AreSmallAt Departure closed_one)
         → (AreSmallAt Arrival closed_one → AreSmallAt Arrival closed_both) → IsPriceTable final
@@ -398,9 +437,9 @@ module _ (flight : Flight) (row : ℕ → Access) (last : ℕ) (end_is : last + 
               (sym (again.other_arrives ∙ exchanged.other_arrives)) table.arrives;
         }
 
-  pub priced_fit_clear : (span : Window) → AreClear flight span (rates_of fits)
+  pub priced_fit_clear : (flight : Flight) (span : Window) → AreClear flight span (rates_of fits)
       → AreClear flight span (rates_of guide)
-  priced_fit_clear span clear =
+  priced_fit_clear flight span clear =
       subst (λ (xs : List ℕ). (n : ℕ) → n + 1 < length flight.nodes → (t : ℕ) → span.lo ≤ t
       → t < span.hi → (get_or xs (place_of n t) most_periods ≡ t)
       ⊎ ((t < get_or xs (place_of n t) most_periods)
@@ -408,31 +447,45 @@ module _ (flight : Flight) (row : ℕ → Access) (last : ℕ) (end_is : last + 
       ≡ get_or xs (place_of n (t + 1)) most_periods)))
       (sym exchanged.clear) clear
 
--- a whole vector that was written through a slice
-pub written : {X : Type 0} (len : ℕ) (news items read : List X)
-    → read ≡ take len (news ++ drop (length news) items) → length news ≡ len → read ≡ news
-written len news items read is long =
-    is ∙ ap (λ n. take n (news ++ drop (length news) items)) (sym long)
-    ∙ take-append_seam news (drop (length news) items)
+-- What is read of a whole block that was written through a slice: the row that was taken, with the
+-- span of its windows, which a table has too.
+module _ {parts : Parts} {box : Box} {number : ℕ} {span : Window} {news : List Access}
+    (taken : IsTaken parts box number span news) where
+  pub read_windows : (at : Window) → at ≡ span → (len : ℕ) (items read : List Access)
+      → read ≡ take len (news ++ drop (length news) items) → len ≡ most_nodes
+      → (read ≡ news) × AreWindows at (row_of read)
+  read_windows at same len items read is long =
+      let whole : read ≡ news =
+      is ∙ ap (λ n. take n (news ++ drop (length news) items)) (long ∙ sym taken.long)
+      ∙ take-append_seam news (drop (length news) items) in (
+        whole,
+        subst (λ (s : Window). AreWindows s (row_of read)) (sym same)
+            (subst (λ xs. AreWindows span (row_of xs)) (sym whole) taken.windows),
+      )
 
-pub row_written : (read news : List Access) (row : ℕ → Access) → read ≡ news
-    → ((n : ℕ) → row_of news n ≡ row n) → (n : ℕ) → row_of read n ≡ row n
-row_written read news row is same n = ap (λ xs. row_of xs n) is ∙ same n
+  pub is_read : (at : Window) → at ≡ span → (len : ℕ) (items read : List Access)
+      → read ≡ take len (news ++ drop (length news) items) → len ≡ most_nodes → IsScenario parts
+      → IsBoxOf parts box → number < length parts.flights → (flight : Flight)
+      → flight ≡ get_or parts.flights number flight
+      → IsRead parts box number flight at (row_of read)
+  is_read at same len items read is long valid of within flight here =
+      let back = read_windows at same len items read is long in
+      record {
+        own = record {
+          valid = valid;
+          of = of;
+          here = slice_get_read parts.flights (length parts.flights) number flight refl within here;
+          same = λ n. ap (λ xs. row_of xs n) back.0 ∙ taken.row n;
+        };
+        windows = back.1;
+        day = subst (λ (s : Window). s.hi < parts.day.periods) (sym same) taken.day;
+      }
 
-pub windows_written : (read news : List Access) (at span : Window) → read ≡ news → at ≡ span
-    → AreWindows span (row_of news) → AreWindows at (row_of read)
-windows_written read news at span is same windows =
-    subst (λ (s : Window). AreWindows s (row_of read)) (sym same)
-    (subst (λ xs. AreWindows span (row_of xs)) (sym is) windows)
-
--- what a search for the least answers, with the first of those that reach it
-pub match_first : {A : Type 0} (P Q : A → Type 0) (cost price : A → ℤ)
-    (IsNoLater : A → A → Type 0) (least : Option ℤ) (Empty : Type 0) (chosen : A)
-    → ((x : A) → IsFirstLeast P cost IsNoLater x → IsFirstLeast Q price IsNoLater x)
-    → MatchOption least Empty (λ l. IsFirstLeast P cost IsNoLater chosen)
-    → MatchOption least Empty (λ l. IsFirstLeast Q price IsNoLater chosen)
-match_first P Q cost price IsNoLater None Empty chosen said is = is
-match_first P Q cost price IsNoLater (Some l) Empty chosen said is = said chosen is
+-- a flight has a trip among those that are counted
+pub trip_there : {parts : Parts} {trips : List (List Stop)} {loads : Tally} {number : ℕ}
+    → AreLoads parts trips loads → number < length parts.flights → number < length trips
+trip_there {parts} {trips} are within =
+    omega (arith, within, AreTripsOrNone-length parts.day.periods parts.flights trips are.each)
 
 -- a new table serves for both
 blank_small : (costs : List (Option ℤ)) → costs ≡ replicate most_periods None → (t : ℕ)

@@ -1,13 +1,14 @@
 -- What the least ways of a flight are found under.
-use Rattle.std.specs.Prelude.{ℕ, ◌+◌, ◌^◌, ◌<◌, ◌≤◌, ◌≤ℤ◌, List, length, IfSome, slice_index_or, All}
+use Rattle.std.specs.Prelude.{ℕ, ◌+◌, ◌^◌, ◌<◌, ◌≤◌, ◌≤ℤ◌, List, length, IfSome, slice_index_or, All, ◌≡◌}
 use Rattle.flow_types.specs.declared.flight.Flight.{Flight}
 use Rattle.flow_types.specs.Limits.{most_nodes, most_periods}
 use Rattle.flow_types.specs.Routes.{IsLeg}
 use Rattle.time_windows.specs.declared.access.Access.{Access}
 use Rattle.time_windows.specs.declared.access.Window.{Window}
-use Rattle.time_windows.specs.Boxes.{IsInWindow, IsProper, closed}
+use Rattle.time_windows.specs.Boxes.{IsInWindow, IsProper, closed, Box}
 use Rattle.flight_routes.specs.Rates.{AreClear, Rates}
 use Rattle.exact_sums.specs.Near.{IsNear}
+use Rattle.flow_types.specs.declared.parts.Parts.{Parts}
 
 -- sums of them fit in 128 bits
 pub record AreSmall (rates : Rates) : Type 0 where
@@ -32,6 +33,15 @@ pub record AreRates (span : Window) (rates : Rates) : Type 0 where
 pub record AreWindows (span : Window) (row : ℕ → Access) : Type 0 where
   pub proper : (n : ℕ) → IsProper (row n).window
   pub within : (n t : ℕ) → IsInWindow (row n).window t → IsInSpan span t
+
+-- what a box says of each node of a flight, with the periods from the first to the last in which
+-- one is open
+pub record IsTaken (parts : Parts) (box : Box) (number : ℕ) (span : Window)
+    (accesses : List Access) : Type 0 where
+  pub long : length accesses ≡ most_nodes
+  pub row : (n : ℕ) → row_of accesses n ≡ box number n
+  pub windows : AreWindows span (row_of accesses)
+  pub day : span.hi < parts.day.periods
 
 -- the flight has few nodes, and legs that lead upward
 pub record IsUpward (flight : Flight) : Type 0 where

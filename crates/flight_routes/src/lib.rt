@@ -8,11 +8,12 @@
 //!     let mut prices = Prices::new(alloc, &s)?;
 //!     let kind = PriceKind::Capacity(CapKind::Dep);
 //!     prices.set(PriceKey { kind, row, period }, 40);
-//!     match work.least_trip(&s, &boxes, flight, 1, &prices) {
+//!     let problem = Subproblem { s: &s, boxes: &boxes };
+//!     match work.least_trip(problem, flight, 1, &prices) {
 //!         Some(least) => println!("{flight} pays {least}, over {} nodes", work.trip().len()),
 //!         None => println!("{flight} has no trip in the box"),
 //!     }
-//!     if work.least_fit(&s, &boxes, flight, &loads).is_some() {
+//!     if work.least_fit(problem, flight, &loads).is_some() {
 //!         loads.add(&s, flight, work.trip());
 //!     }
 //!

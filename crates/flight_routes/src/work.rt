@@ -5,7 +5,7 @@ ghost use Rattle.flow_types.specs.Limits.{most_nodes, most_periods};
 ghost use Rattle.time_windows.specs.Boxes.{IsProper};
 ghost use Rattle.time_windows.specs.Held.{box_of};
 ghost use Rattle.time_windows.specs.Subproblems.{box_in, parts_in};
-ghost use Rattle.flight_routes.specs.Ready.{AreWindows, row_of};
+ghost use Rattle.flight_routes.specs.Ready.{IsTaken, row_of};
 ghost use Rattle.flight_routes.specs.TripOrder.{IsNoLater};
 ghost use Rattle.flight_routes.specs.WayParts.{AreRisingIn, IsWayIn, cost_in};
 
@@ -309,10 +309,7 @@ fn copy_row(accesses: &mut [Access], boxes: &Boxes, flight: u32)
 fn take_row(accesses: &mut [Access], problem: Subproblem<'_>, flight: u32) -> Window
     requires accesses { length accesses.old ≡ most_nodes }
     requires flight { flight < length (parts_in problem).flights }
-    ensures length { length accesses.new ≡ most_nodes }
-    ensures row { (n : ℕ) → row_of accesses.new n ≡ box_in problem.entry flight n }
-    ensures windows { AreWindows result (row_of accesses.new) }
-    ensures day { result.hi < (parts_in problem.entry).day.periods }
+    ensures { IsTaken (parts_in problem.entry) (box_in problem.entry) flight result accesses.new }
 {
     copy_row(accesses, problem.boxes, flight);
     span_of(accesses, problem.s.day().periods)

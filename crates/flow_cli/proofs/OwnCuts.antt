@@ -195,7 +195,8 @@ module _ (parts : Parts) (valid : IsScenario parts) where
       (legs_of (slice_get parts.flights f)) n heads
       (network_of f (slice_get parts.flights f) refl) both.1) both.0
   small_cut (Apart f t nodes) is =
-      let both = and_parts (nat_lt t parts.day.periods) (are_apart (slice_get parts.flights f) nodes)
+      let both = and_parts (nat_lt t parts.day.periods) (are_apart (slice_get parts.flights f)
+      nodes)
       is in
       small_apart f t nodes both.1 both.0
   small_cut (Departed f n t) is =
@@ -250,7 +251,9 @@ module _ (parts : Parts) (valid : IsScenario parts) where
       let is : is_cut parts cut ≡ true = are 0 cut (omega arith) in
       let here = small_cut cut is in
       let more = cuts_from pool (Some cut) (next_of cut pool order)
-      (All-tail (λ cut. is_cut parts cut ≡ true) cut pool are) (λ i j d less within. order (suc i) (suc j) d (omega (arith, less)) (omega (arith, within))) in
+      (All-tail (λ cut. is_cut parts cut ≡ true) cut pool are)
+      (λ i j d less within. order (suc i) (suc j) d (omega (arith, less)) (omega (arith, within)))
+      in
       let line = cut_size cut here in
       let behind = more.short in
       let all = length-append (line_of (codes "cut") (cut_fields cut)) (pool_text pool) in

@@ -84,7 +84,8 @@ module _ (parts : Parts) (root : Box) (budget : Budget) (found : Found) (day : L
 
   is_one_tree : is_tree found.tree ≡ true
   is_one_tree =
-      lawful_tree parts (IsNodeOf parts found.pool budget found.plans found.counts) searched.tight found.tree
+      lawful_tree parts (IsNodeOf parts found.pool budget found.plans found.counts) searched.tight
+      found.tree
       found.bounds searched.tree
 
   last_in : (plan : List (List Stop)) → last_plan found ≡ Some plan → IsPlanIn parts root plan
@@ -102,7 +103,8 @@ module _ (parts : Parts) (root : Box) (budget : Budget) (found : Found) (day : L
       let nodes = searched.nodes in
       record {
         digest = is_digest day;
-        pool = (short_cuts parts valid found.pool searched.pool.cuts.cuts searched.pool.order).writable;
+        pool = (short_cuts parts valid found.pool searched.pool.cuts.cuts
+            searched.pool.order).writable;
         nodes = own_nodes.writable;
         tree = is_one_tree;
         plan = by (last_plan found) refl;
@@ -119,7 +121,8 @@ module _ (parts : Parts) (root : Box) (budget : Budget) (found : Found) (day : L
   pub own_short : length (cert_text parts own) ≤ most_bytes_of parts budget.nodes
   own_short =
       let head = head_size (sha256 day) (length-sha256 day) in
-      let cuts = (short_cuts parts valid found.pool searched.pool.cuts.cuts searched.pool.order).short in
+      let cuts = (short_cuts parts valid found.pool searched.pool.cuts.cuts
+      searched.pool.order).short in
       let pool_few = searched.pool.few in
       let nodes = own_nodes.short in
       let plan = plan_size parts valid own.plan own_writable.plan in

@@ -134,7 +134,8 @@ module _ (parts : Parts) (valid : IsScenario parts) where
               }
 
   module _ (pool : List CutName) (few : length pool ≤ 10000) (root : Box) (budget : Budget)
-      (plans : List (List (List Stop))) (counts : List ℕ) (in_root : All (IsPlanIn parts root) plans)
+      (plans : List (List (List Stop))) (counts : List ℕ)
+      (in_root : All (IsPlanIn parts root) plans)
       (bounds : List Bound) where
     cutoff_to : (count : ℕ) → IsWithinEither most_cost (cutoff_after parts plans count)
     cutoff_to zero = tt
@@ -161,12 +162,14 @@ module _ (parts : Parts) (valid : IsScenario parts) where
           short = leaf_size parts pool few (codes "dual") weight rows (omega arith) fit;
         }
       where
-        known : IsDualAnswer parts pool box weight rows (Ok bound) → AreListed parts valid pool few rows
+        known : IsDualAnswer parts pool box weight rows (Ok bound)
+            → AreListed parts valid pool few rows
         known (inl told) k multiplier at =
             listed parts valid pool few multiplier.row (told.known k multiplier at)
         known (inr none) k multiplier at = absurd none
     leaf_fit cutoff bound box (leaf.Lag weight rows) is =
-        let fit = fit_rows parts valid pool few weight rows is.range is.kind.positive is.kind.ascending
+        let fit = fit_rows parts valid pool few weight rows is.range is.kind.positive
+        is.kind.ascending
         (known is.bound_is) in
         record {
           writable = fit.writable;

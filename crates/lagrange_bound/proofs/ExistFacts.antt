@@ -232,7 +232,13 @@ module _ (parts : Parts) (valid : IsScenario parts) (box : Box) (of : IsBoxOf pa
       by table is (inl (trips, are)) =
           let new = moved_table table trips (step_of (suc before)) in
           let step : IsRoundStep parts box (suc before) table new =
-          inl (trips, record { least = are; moved = moved_there table trips (step_of (suc before)) })
+          inl (
+            trips,
+            record {
+              least = are;
+              moved = moved_there table trips (step_of (suc before));
+            },
+          )
           in
           (new, (table, is, step))
       by table is (inr lacks) =

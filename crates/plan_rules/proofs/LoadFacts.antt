@@ -1,5 +1,5 @@
--- Loads with no trips, with one trip more, and with one less.
-use Rattle.std.proofs.Common.{◌≡◌, ◌≢◌, ◌⊎◌, ℕ, ◌+◌, ◌-◌, ◌<◌, ◌≤◌, List, [], ◌∷◌, length, get_or, set, slice_get, Some, None, Option, refl, sym, ap, ◌∙◌, inl, inr, replicate, arith}
+-- Loads with no trips, and with one trip more or less.
+use Rattle.std.proofs.Common.{◌≡◌, ◌≢◌, ◌⊎◌, ℕ, ◌+◌, ◌^◌, ◌<◌, ◌≤◌, List, [], ◌∷◌, length, get_or, set, slice_get, Some, None, Option, refl, sym, ap, ◌∙◌, inl, inr, replicate, arith}
 use Rattle.std.proofs.lemmas.Bool.{cases_eq, cases_lt}
 use Rattle.std.proofs.lemmas.List.{get_or-set_same, get_or-set_other, get_or-replicate, get_or_past, length-replicate, length-set}
 use Rattle.flow_types.specs.declared.flight.Flight.{Flight}
@@ -8,9 +8,11 @@ use Rattle.flow_types.specs.declared.plan.Stop.{Stop}
 use Rattle.flow_types.specs.Counts.{departs_at, arrives_at, stays_at, counted}
 use Rattle.flow_types.specs.Limits.{most_flights}
 use Rattle.flow_types.specs.Trips.{IsTrip, departure_of, arrival_of}
-use Rattle.plan_rules.specs.Loads.{AddsTrip, AreLoads, AreTripsOrNone, HasSize, IsClear, IsMadeFor, IsTripOrNone, TakesTrip, no_trips}
+use Rattle.plan_rules.specs.Loads.{AreLoads, AreTripsOrNone, ChangesTrip, HasSize, IsClear, IsMadeFor, IsTripOrNone, no_trips, stops_after}
 use Rattle.plan_rules.specs.Tally.{CountGrid, Tally}
-use Rattle.plan_rules.specs.Grid.{Adds, IsEmpty, Takes, count_at}
+use Rattle.plan_rules.specs.Grid.{Changes, IsEmpty, changed, count_at}
+use Rattle.plan_rules.specs.declared.grid.Change.{Change}
+use Rattle.plan_rules.specs.declared.grid.Change.TheVariants as change
 use Rattle.plan_rules.proofs.CountFacts.{counted-none, counted-put, counted-le, departs_at-le, arrives_at-le, stays_at-le, AreTripsOrNone-set, AreTripsOrNone-none, AreTripsOrNone-length, none_at}
 
 -- an empty grid counts no trips
@@ -39,88 +41,76 @@ AreLoads-none parts loads made clear = record {
 }
 
 -- loads stay those of the scenario with a trip more, and with one less
-module _ {parts : Parts} {flight : Flight} {n : ℕ} {stops : List Stop} where
-  IsMadeFor-add : (old new : Tally) → IsMadeFor parts old → AddsTrip flight n stops old new
-      → IsMadeFor parts new
-  IsMadeFor-add old new made adds = record {
-    departures = record {
-      wide = adds.departures.places ∙ made.departures.wide;
-      long = adds.departures.periods ∙ made.departures.long;
-    };
-    arrivals = record {
-      wide = adds.arrivals.places ∙ made.arrivals.wide;
-      long = adds.arrivals.periods ∙ made.arrivals.long;
-    };
-    inside = record {
-      wide = adds.inside.places ∙ made.inside.wide;
-      long = adds.inside.periods ∙ made.inside.long;
-    };
-    leaves = ap length adds.leaves ∙ length-set old.leaves n (departure_of stops) ∙ made.leaves;
-    arrives = ap length adds.arrives ∙ length-set old.arrives n (arrival_of stops) ∙ made.arrives;
-  }
+IsMadeFor-change : (parts : Parts) (change : Change) (flight : Flight) (n : ℕ) (stops : List Stop)
+    (old new : Tally) → IsMadeFor parts old → ChangesTrip change flight n stops old new
+    → IsMadeFor parts new
+IsMadeFor-change parts change flight n stops old new made changes = record {
+  departures = record {
+    wide = changes.departures.places ∙ made.departures.wide;
+    long = changes.departures.periods ∙ made.departures.long;
+  };
+  arrivals = record {
+    wide = changes.arrivals.places ∙ made.arrivals.wide;
+    long = changes.arrivals.periods ∙ made.arrivals.long;
+  };
+  inside = record {
+    wide = changes.inside.places ∙ made.inside.wide;
+    long = changes.inside.periods ∙ made.inside.long;
+  };
+  leaves = ap length changes.leaves
+      ∙ length-set old.leaves n (departure_of (stops_after change stops)) ∙ made.leaves;
+  arrives = ap length changes.arrives
+      ∙ length-set old.arrives n (arrival_of (stops_after change stops)) ∙ made.arrives;
+}
 
-  IsMadeFor-take : (old new : Tally) → IsMadeFor parts old → TakesTrip flight n stops old new
-      → IsMadeFor parts new
-  IsMadeFor-take old new made takes = record {
-    departures = record {
-      wide = takes.departures.places ∙ made.departures.wide;
-      long = takes.departures.periods ∙ made.departures.long;
-    };
-    arrivals = record {
-      wide = takes.arrivals.places ∙ made.arrivals.wide;
-      long = takes.arrivals.periods ∙ made.arrivals.long;
-    };
-    inside = record {
-      wide = takes.inside.places ∙ made.inside.wide;
-      long = takes.inside.periods ∙ made.inside.long;
-    };
-    leaves = ap length takes.leaves ∙ length-set old.leaves n None ∙ made.leaves;
-    arrives = ap length takes.arrives ∙ length-set old.arrives n None ∙ made.arrives;
-  }
+-- what is there of a trip before the change
+abbrev pub stops_before : Change → List Stop → List Stop
+stops_before change.More stops = []
+stops_before change.Less stops = stops
 
--- the trips with another one of a flight in place of the one before
+-- a count changes by that of the trip, as the sum over all trips does
+sum_changed : (change : Change) (count : List Stop → ℕ) (moved : List Stop) (old new was now : ℕ)
+    → count [] ≡ 0 → old ≡ was → was ≤ most_flights
+    → now + count (stops_before change moved) ≡ was + count (stops_after change moved)
+    → count (stops_after change moved) ≤ 1
+    → (old + count moved < 2 ^ 32 → new ≡ changed change old (count moved)) → new ≡ now
+sum_changed change.More count moved old new was now none is few put once changes =
+    let grown = changes (omega (arith, is, few, once)) in
+    omega (arith, grown, put, none, is)
+sum_changed change.Less count moved old new was now none is few put once changes =
+    let shrunk = changes (omega (arith, is, few, put, none)) in
+    omega (arith, shrunk, put, none, is)
+
+-- the trips with one more, or one less
 module _ (parts : Parts) (few : length parts.flights ≤ most_flights) (trips : List (List Stop))
-    (each : AreTripsOrNone parts.day.periods parts.flights trips)
-    (n : ℕ) (flight : Flight) (before stops : List Stop)
-    (here : slice_get parts.flights n ≡ Some flight) (held : slice_get trips n ≡ Some before)
-    (trip : IsTripOrNone parts.day.periods flight stops) where
-  -- a grid counts one trip more
-  one_more_trip : before ≡ [] → (count : ℕ → ℕ → Flight → List Stop → ℕ)
+    (each : AreTripsOrNone parts.day.periods parts.flights trips) (change : Change)
+    (n : ℕ) (flight : Flight) (moved : List Stop)
+    (here : slice_get parts.flights n ≡ Some flight)
+    (held : slice_get trips n ≡ Some (stops_before change moved))
+    (trip : IsTripOrNone parts.day.periods flight (stops_after change moved)) where
+  abbrev stops : List Stop
+  stops = stops_after change moved
+
+  -- a grid counts them
+  trip_changed : (count : ℕ → ℕ → Flight → List Stop → ℕ)
       → ((k t : ℕ) (f : Flight) → count k t f [] ≡ 0)
       → ((k t : ℕ) (f : Flight) (s : List Stop) → IsTripOrNone parts.day.periods f s
       → count k t f s ≤ 1)
       → (old new : CountGrid) → HasSize (length parts.places) parts.day.periods old
-      → Adds (λ k t. count k t flight stops) old new
+      → Changes change (λ k t. count k t flight moved) old new
       → ((k t : ℕ) → k < length parts.places → t < parts.day.periods
       → count_at old k t ≡ counted (count k t) parts.flights trips)
       → (k t : ℕ) → k < length parts.places → t < parts.day.periods
       → count_at new k t ≡ counted (count k t) parts.flights (set trips n stops)
-  one_more_trip absent count none once old new size adds are k t k_in t_in =
-      let was = are k t k_in t_in in
+  trip_changed count none once old new size changes are k t k_in t_in =
       let small = counted-le (count k t) parts.day.periods (once k t) parts.flights trips each in
-      let one = once k t flight stops trip in
-      let nothing : count k t flight before ≡ 0 = ap (count k t flight) absent ∙ none k t flight in
-      let after = counted-put (count k t) parts.flights trips n flight before stops here held in
-      let grown : count_at new k t ≡ count_at old k t + count k t flight stops =
-      adds.each k t (omega (arith, size.wide)) (omega (arith, size.long)) (omega arith) in
-      omega arith
-
-  -- a grid counts one trip less
-  one_trip_less : stops ≡ [] → (count : ℕ → ℕ → Flight → List Stop → ℕ)
-      → ((k t : ℕ) (f : Flight) → count k t f [] ≡ 0)
-      → (old new : CountGrid) → HasSize (length parts.places) parts.day.periods old
-      → Takes (λ k t. count k t flight before) old new
-      → ((k t : ℕ) → k < length parts.places → t < parts.day.periods
-      → count_at old k t ≡ counted (count k t) parts.flights trips)
-      → (k t : ℕ) → k < length parts.places → t < parts.day.periods
-      → count_at new k t ≡ counted (count k t) parts.flights (set trips n stops)
-  one_trip_less gone count none old new size takes are k t k_in t_in =
-      let was = are k t k_in t_in in
-      let nothing : count k t flight stops ≡ 0 = ap (count k t flight) gone ∙ none k t flight in
-      let after = counted-put (count k t) parts.flights trips n flight before stops here held in
-      let shrunk : count_at new k t ≡ count_at old k t - count k t flight before =
-      takes.each k t (omega (arith, size.wide)) (omega (arith, size.long)) in
-      omega arith
+      sum_changed change (count k t flight) moved (count_at old k t) (count_at new k t)
+      (counted (count k t) parts.flights trips)
+      (counted (count k t) parts.flights (set trips n stops)) (none k t flight)
+      (are k t k_in t_in) (omega arith)
+      (counted-put (count k t) parts.flights trips n flight (stops_before change moved) stops here
+      held) (once k t flight stops trip)
+      (changes.each k t (omega (arith, size.wide)) (omega (arith, size.long)))
 
   -- the times of the flights after it
   times_at : (time : List Stop → Option ℕ) (times : List (Option ℕ))
@@ -146,46 +136,23 @@ module _ (parts : Parts) (few : length parts.flights ≤ most_flights) (trips : 
   times_set time times long are n_in f f_in =
       times_at time times long are n_in f f_in (cases_eq f n)
 
-  -- the loads count one trip more
-  pub AreLoads-add : (old new : Tally) → before ≡ [] → AreLoads parts trips old
-      → AddsTrip flight n stops old new → n < length parts.flights
+  -- the loads count them
+  pub AreLoads-change : (old new : Tally) → AreLoads parts trips old
+      → ChangesTrip change flight n moved old new → n < length parts.flights
       → AreLoads parts (set trips n stops) new
-  AreLoads-add old new absent are adds n_in = record {
-    made = IsMadeFor-add old new are.made adds;
+  AreLoads-change old new are changes n_in = record {
+    made = IsMadeFor-change parts change flight n moved old new are.made changes;
     each = AreTripsOrNone-set parts.day.periods parts.flights trips n flight stops here trip each;
-    departures = one_more_trip absent departs_at (λ k t f. refl)
-        (λ k t f s h. departs_at-le k t f s) old.departures new.departures are.made.departures
-        adds.departures are.departures;
-    arrivals = one_more_trip absent arrives_at (λ k t f. refl)
-        (λ k t f s h. arrives_at-le k t f s) old.arrivals new.arrivals are.made.arrivals
-        adds.arrivals are.arrivals;
-    sectors = one_more_trip absent stays_at (λ k t f. refl)
-        (λ k t f s h. stays_at-le parts.day.periods k t f s h) old.inside new.inside are.made.inside
-        adds.inside are.sectors;
-    leaves = λ f f_in. ap (λ times. get_or times f None) adds.leaves
+    departures = trip_changed departs_at (λ k t f. refl) (λ k t f s h. departs_at-le k t f s)
+        old.departures new.departures are.made.departures changes.departures are.departures;
+    arrivals = trip_changed arrives_at (λ k t f. refl) (λ k t f s h. arrives_at-le k t f s)
+        old.arrivals new.arrivals are.made.arrivals changes.arrivals are.arrivals;
+    sectors = trip_changed stays_at (λ k t f. refl)
+        (λ k t f s h. stays_at-le parts.day.periods k t f s h) old.inside new.inside
+        are.made.inside changes.inside are.sectors;
+    leaves = λ f f_in. ap (λ times. get_or times f None) changes.leaves
         ∙ times_set departure_of old.leaves are.made.leaves are.leaves n_in f f_in;
-    arrives = λ f f_in. ap (λ times. get_or times f None) adds.arrives
-        ∙ times_set arrival_of old.arrives are.made.arrives are.arrives n_in f f_in;
-  }
-
-  -- the loads count one trip less
-  pub AreLoads-remove : (old new : Tally) → stops ≡ [] → AreLoads parts trips old
-      → TakesTrip flight n before old new → n < length parts.flights
-      → AreLoads parts (set trips n stops) new
-  AreLoads-remove old new gone are takes n_in = record {
-    made = IsMadeFor-take old new are.made takes;
-    each = AreTripsOrNone-set parts.day.periods parts.flights trips n flight stops here trip each;
-    departures = one_trip_less gone departs_at (λ k t f. refl) old.departures new.departures
-        are.made.departures takes.departures are.departures;
-    arrivals = one_trip_less gone arrives_at (λ k t f. refl) old.arrivals new.arrivals
-        are.made.arrivals takes.arrivals are.arrivals;
-    sectors = one_trip_less gone stays_at (λ k t f. refl) old.inside new.inside
-        are.made.inside takes.inside are.sectors;
-    leaves = λ f f_in. ap (λ times. get_or times f None) takes.leaves
-        ∙ ap (λ time. get_or (set old.leaves n time) f None) (sym (ap departure_of gone))
-        ∙ times_set departure_of old.leaves are.made.leaves are.leaves n_in f f_in;
-    arrives = λ f f_in. ap (λ times. get_or times f None) takes.arrives
-        ∙ ap (λ time. get_or (set old.arrives n time) f None) (sym (ap arrival_of gone))
+    arrives = λ f f_in. ap (λ times. get_or times f None) changes.arrives
         ∙ times_set arrival_of old.arrives are.made.arrives are.arrives n_in f f_in;
   }
 

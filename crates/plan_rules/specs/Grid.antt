@@ -1,6 +1,8 @@
 -- Counts by place and period, kept in one block.
 use Rattle.std.specs.Prelude.{◌≡◌, ℕ, ◌+◌, ◌-◌, ◌*◌, ◌^◌, ◌<◌, slice_index}
 use Rattle.plan_rules.specs.Tally.{CountGrid}
+use Rattle.plan_rules.specs.declared.grid.Change.{Change}
+use Rattle.plan_rules.specs.declared.grid.Change.TheVariants as change
 
 -- the count of a place in a period
 abbrev pub count_at : CountGrid → ℕ → ℕ → ℕ
@@ -15,16 +17,14 @@ pub record SameSize (old new : CountGrid) : Type 0 where
   pub places : new.places ≡ old.places
   pub periods : new.periods ≡ old.periods
 
--- each count has grown by so much, where that fits in 32 bits
-pub record Adds (more : ℕ → ℕ → ℕ) (old new : CountGrid) : Type 0 where
-  pub places : new.places ≡ old.places
-  pub periods : new.periods ≡ old.periods
-  pub each : (k t : ℕ) → k < old.places → t < old.periods → count_at old k t + more k t < 2 ^ 32
-      → count_at new k t ≡ count_at old k t + more k t
+-- a count that has grown by so much, or shrunk, down to 0 at the most
+abbrev pub changed : Change → ℕ → ℕ → ℕ
+changed change.More count by = count + by
+changed change.Less count by = count - by
 
--- each count has shrunk by so much, down to 0 at the most
-pub record Takes (less : ℕ → ℕ → ℕ) (old new : CountGrid) : Type 0 where
+-- each count has changed by so much, where that would fit in 32 bits
+pub record Changes (change : Change) (by : ℕ → ℕ → ℕ) (old new : CountGrid) : Type 0 where
   pub places : new.places ≡ old.places
   pub periods : new.periods ≡ old.periods
-  pub each : (k t : ℕ) → k < old.places → t < old.periods
-      → count_at new k t ≡ count_at old k t - less k t
+  pub each : (k t : ℕ) → k < old.places → t < old.periods → count_at old k t + by k t < 2 ^ 32
+      → count_at new k t ≡ changed change (count_at old k t) (by k t)

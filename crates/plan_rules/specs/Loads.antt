@@ -8,7 +8,9 @@ use Rattle.flow_types.specs.declared.plan.Stop.{Stop}
 use Rattle.flow_types.specs.Counts.{departs_at, arrives_at, stays_at, departures_at, arrivals_at, occupancy_at}
 use Rattle.flow_types.specs.Trips.{IsTrip, departure_of, arrival_of}
 use Rattle.plan_rules.specs.Tally.{CountGrid, Tally}
-use Rattle.plan_rules.specs.Grid.{Adds, IsEmpty, Takes, count_at}
+use Rattle.plan_rules.specs.Grid.{Changes, IsEmpty, count_at}
+use Rattle.plan_rules.specs.declared.grid.Change.{Change}
+use Rattle.plan_rules.specs.declared.grid.Change.TheVariants as change
 
 -- the counts of one kind
 abbrev pub grid_of : Tally → CapKind → CountGrid
@@ -89,20 +91,18 @@ abbrev pub IsTripAt : Parts → ℕ → List Stop → Type 0
 IsTripAt parts number stops = (flight : Flight) → slice_get parts.flights number ≡ Some flight
     → IsTrip parts.day.periods flight stops
 
--- one trip more
-pub record AddsTrip (flight : Flight) (number : ℕ) (stops : List Stop)
-    (old new : Tally) : Type 0 where
-  pub departures : Adds (λ k t. departs_at k t flight stops) old.departures new.departures
-  pub arrivals : Adds (λ k t. arrives_at k t flight stops) old.arrivals new.arrivals
-  pub inside : Adds (λ k t. stays_at k t flight stops) old.inside new.inside
-  pub leaves : new.leaves ≡ slice_set old.leaves number (departure_of stops)
-  pub arrives : new.arrives ≡ slice_set old.arrives number (arrival_of stops)
+-- what is there of a trip after the change
+abbrev pub stops_after : Change → List Stop → List Stop
+stops_after change.More stops = stops
+stops_after change.Less stops = []
 
--- one trip less
-pub record TakesTrip (flight : Flight) (number : ℕ) (stops : List Stop)
+-- one trip more, or one less
+pub record ChangesTrip (change : Change) (flight : Flight) (number : ℕ) (stops : List Stop)
     (old new : Tally) : Type 0 where
-  pub departures : Takes (λ k t. departs_at k t flight stops) old.departures new.departures
-  pub arrivals : Takes (λ k t. arrives_at k t flight stops) old.arrivals new.arrivals
-  pub inside : Takes (λ k t. stays_at k t flight stops) old.inside new.inside
-  pub leaves : new.leaves ≡ slice_set old.leaves number None
-  pub arrives : new.arrives ≡ slice_set old.arrives number None
+  pub departures : Changes change (λ k t. departs_at k t flight stops) old.departures new.departures
+  pub arrivals : Changes change (λ k t. arrives_at k t flight stops) old.arrivals new.arrivals
+  pub inside : Changes change (λ k t. stays_at k t flight stops) old.inside new.inside
+  pub leaves : new.leaves
+      ≡ slice_set old.leaves number (departure_of (stops_after change stops))
+  pub arrives : new.arrives
+      ≡ slice_set old.arrives number (arrival_of (stops_after change stops))

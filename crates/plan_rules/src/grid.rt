@@ -1,8 +1,18 @@
 //! Counts by place and period.
-ghost use Rattle.std.specs.Prelude.{◌≡◌, ◌*◌, EachIndex, slice_index};
+ghost use Rattle.std.specs.Prelude.{◌≡◌, ◌+◌, ◌*◌, ◌^◌, ◌<◌, EachIndex, slice_index};
+ghost use Rattle.plan_rules.specs.Grid.{changed};
 
 use std::alloc::{AllocError, Global};
 use std::marker::Model;
+
+/// What becomes of a count.
+#[derive(Clone, Copy, Debug, PartialEq, Eq)]
+pub enum Change {
+    /// One more.
+    More,
+    /// One less, and never below 0.
+    Less,
+}
 
 /// A count for each place and each period, in one block of four bytes each.
 #[derive(Debug, Drop)]
@@ -30,7 +40,7 @@ impl Model for Grid {
 impl Grid {
     ghost use Rattle.std.specs.Prelude.{◌≡◌, ◌==◌, ◌&&◌, ◌*◌, ◌<◌, ◌≤◌, ◌^◌, ℕ, nat_le, nat_lt, IfOk, length, slice_index};
     ghost use Rattle.flow_types.specs.Counts.{one_if};
-    ghost use Rattle.plan_rules.specs.Grid.{Adds, IsEmpty, SameSize, Takes, count_at};
+    ghost use Rattle.plan_rules.specs.Grid.{Changes, IsEmpty, SameSize, count_at};
 
     /// A grid of zeros.
     pub fn new(alloc: Global, places: usize, periods: u16) -> Result<Grid, AllocError>
@@ -78,46 +88,35 @@ impl Grid {
         &self.counts[start..start + usize::from(self.periods)]
     }
 
-    /// Counts one more at the place in the period, nothing outside the grid.
-    pub fn add(&mut self, place: u32, period: u16)
-        ensures { Adds (λ k t. one_if ((place == k) && (period == t))) self.old self.new }
+    /// Counts one more, or one less, at the place in the period, nothing outside the grid.
+    pub fn change(&mut self, change: Change, place: u32, period: u16)
+        ensures { Changes change (λ k t. one_if ((place == k) && (period == t))) self.old self.new }
     {
         let periods = self.periods;
         if (place as usize) < self.places && period < periods {
             let at = place as usize * usize::from(periods) + usize::from(period);
-            self.counts[at] = self.counts[at].saturating_add(1);
+            self.counts[at] = changed(change, self.counts[at]);
         }
     }
 
-    /// Counts one more at the place in each period from `from` up to, but not including, `to`.
-    pub fn add_stay(&mut self, place: u32, from: u16, to: u16)
-        ensures { Adds (λ k t. one_if ((place == k) && nat_le from t && nat_lt t to)) self.old
-            self.new }
+    /// The same at the place in each period from `from` up to, but not including, `to`.
+    pub fn change_stay(&mut self, change: Change, place: u32, from: u16, to: u16)
+        ensures { Changes change
+            (λ k t. one_if ((place == k) && nat_le from t && nat_lt t to)) self.old self.new }
     {
         for period in from..to.min(self.periods) {
-            self.add(place, period);
+            self.change(change, place, period);
         }
     }
+}
 
-    /// Counts one less at the place in the period, nothing outside the grid, and never below 0.
-    pub fn take(&mut self, place: u32, period: u16)
-        ensures { Takes (λ k t. one_if ((place == k) && (period == t))) self.old self.new }
-    {
-        let periods = self.periods;
-        if (place as usize) < self.places && period < periods {
-            let at = place as usize * usize::from(periods) + usize::from(period);
-            self.counts[at] = self.counts[at].saturating_sub(1);
-        }
-    }
-
-    /// Counts one less at the place in each period from `from` up to, but not including, `to`.
-    pub fn take_stay(&mut self, place: u32, from: u16, to: u16)
-        ensures { Takes (λ k t. one_if ((place == k) && nat_le from t && nat_lt t to)) self.old
-            self.new }
-    {
-        for period in from..to.min(self.periods) {
-            self.take(place, period);
-        }
+// The count after a change by one, where that fits in 32 bits.
+fn changed(change: Change, count: u32) -> u32
+    ensures { count + 1 < 2 ^ 32 → result ≡ changed change count 1 }
+{
+    match change {
+        Change::More => count.saturating_add(1),
+        Change::Less => count.saturating_sub(1),
     }
 }
 

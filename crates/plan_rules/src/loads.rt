@@ -1,10 +1,10 @@
 //! How many flights depart, arrive or are inside a sector in each period.
 ghost use Rattle.std.specs.Prelude.{◌≡◌, ℕ, IfOk, None, length, replicate, slice_index_or};
+ghost use Rattle.plan_rules.specs.Loads.{stops_after};
 
-use crate::grid::Grid;
+use crate::grid::{Change, Grid};
 use crate::trip_counts::{
-    add_arrival, add_departure, add_stays, arrival_of, departure_of, take_arrival, take_departure,
-    take_stays,
+    arrival_of, change_arrival, change_departure, change_stays, departure_of,
 };
 use flow_types::{CapKind, Flight, OutOfMemory, Scenario, Stop};
 use std::alloc::Global;
@@ -75,7 +75,7 @@ impl Loads {
     ghost use Rattle.flow_types.specs.declared.parts.Parts.{Parts};
     ghost use Rattle.flow_types.specs.declared.plan.Stop.{Stop};
     ghost use Rattle.flow_types.specs.Scenario.{parts_of};
-    ghost use Rattle.plan_rules.specs.Loads.{AddsTrip, AreLoads, IsInGrid, IsMadeFor, IsTripAt, TakesTrip, arrival_at, grid_of, departure_at, load_at, no_trips};
+    ghost use Rattle.plan_rules.specs.Loads.{AreLoads, ChangesTrip, IsInGrid, IsMadeFor, IsTripAt, arrival_at, grid_of, departure_at, load_at, no_trips};
 
     /// Loads of a scenario, with no trips.
     pub fn new(alloc: Global, s: &Scenario) -> Result<Loads, OutOfMemory>
@@ -122,21 +122,12 @@ impl Loads {
             → slice_get trips flight ≡ Some [] → IsTripAt (parts_of s.now) flight stops.now
             → AreLoads (parts_of s.now) (slice_set trips flight stops.now) self.new }
     {
-        self.add_trip(&s.flights()[flight as usize], flight as usize, stops);
-    }
-
-    // Adds a trip of the flight, which has that number.
-    fn add_trip(&mut self, flight: &Flight, number: usize, stops: &[Stop])
-        requires leaves { number < length self.old.leaves }
-        requires arrives { number < length self.old.arrives }
-        ensures { AddsTrip flight.now number stops.now self.old self.new }
-    {
-        self.contents = Contents::Trips;
-        add_departure(&mut self.departures, flight, stops);
-        add_arrival(&mut self.arrivals, flight, stops);
-        add_stays(&mut self.inside, flight, stops);
-        self.leaves[number] = departure_of(stops);
-        self.arrives[number] = arrival_of(stops);
+        self.change_trip(
+            Change::More,
+            &s.flights()[flight as usize],
+            flight as usize,
+            stops,
+        );
     }
 
     /// Takes the flight's trip out again, which is the one that was added. The loads were made for
@@ -149,21 +140,27 @@ impl Loads {
             → slice_get trips flight ≡ Some stops.now
             → AreLoads (parts_of s.now) (slice_set trips flight []) self.new }
     {
-        self.take_trip(&s.flights()[flight as usize], flight as usize, stops);
+        self.change_trip(
+            Change::Less,
+            &s.flights()[flight as usize],
+            flight as usize,
+            stops,
+        );
     }
 
-    // Takes out the trip of the flight, which has that number.
-    fn take_trip(&mut self, flight: &Flight, number: usize, stops: &[Stop])
+    // Adds a trip of the flight, which has that number, or takes it out.
+    fn change_trip(&mut self, change: Change, flight: &Flight, number: usize, stops: &[Stop])
         requires leaves { number < length self.old.leaves }
         requires arrives { number < length self.old.arrives }
-        ensures { TakesTrip flight.now number stops.now self.old self.new }
+        ensures { ChangesTrip change flight.now number stops.now self.old self.new }
     {
         self.contents = Contents::Trips;
-        take_departure(&mut self.departures, flight, stops);
-        take_arrival(&mut self.arrivals, flight, stops);
-        take_stays(&mut self.inside, flight, stops);
-        self.leaves[number] = None;
-        self.arrives[number] = None;
+        change_departure(&mut self.departures, change, flight, stops);
+        change_arrival(&mut self.arrivals, change, flight, stops);
+        change_stays(&mut self.inside, change, flight, stops);
+        let after = stops_after(change, stops);
+        self.leaves[number] = departure_of(after);
+        self.arrives[number] = arrival_of(after);
     }
 
     /// How many flights depart from, arrive at or are inside the place in the period. Both are of
@@ -209,6 +206,16 @@ impl Loads {
         ensures { result ≡ arrival_at self.now flight }
     {
         self.arrives[flight as usize]
+    }
+}
+
+// What is there of the trip after the change.
+fn stops_after(change: Change, stops: &[Stop]) -> &[Stop]
+    ensures { result.now ≡ stops_after change stops.now }
+{
+    match change {
+        Change::More => stops,
+        Change::Less => &[],
     }
 }
 

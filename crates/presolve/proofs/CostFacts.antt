@@ -21,7 +21,7 @@ use Rattle.bytime_model.specs.declared.variables.Var.{Var}
 use Rattle.bytime_model.specs.declared.variables.Var.TheVariants.{By}
 use Rattle.bytime_model.specs.CostRow.{Priced, cost_row, flight_terms, late_step, late_terms, most_late, most_wait, steps, wait_step, wait_terms, unless_zero as priced_unless}
 use Rattle.exact_sums.specs.Near.{IsNear}
-use Rattle.bytime_model.specs.Rows.{over_flights, term_of}
+use Rattle.bytime_model.specs.Rows.{term_of}
 use Rattle.bytime_model.proofs.SmallFacts.{constant_small, cost_terms_near}
 use Rattle.bytime_model.specs.Columns.{IsThere}
 use Rattle.presolve.proofs.FlatFacts.{flat_few}
@@ -34,6 +34,7 @@ use Rattle.presolve.proofs.GatherFacts.{none_later}
 use Rattle.presolve.proofs.PointFacts.{cost_there}
 use Rattle.presolve.proofs.RowFacts.{from_le, row_made}
 use Rattle.presolve.proofs.TotalFacts.{below_total}
+use Rattle.exact_sums.specs.Lists.{flat_map_from}
 
 -- what landing asks of the cost row's terms
 module _ (parts : Parts) (row : Priced) (terms : List Term) (is : row ≡ cost_row parts)
@@ -84,12 +85,12 @@ module _ (parts : Parts) (row : Priced) (terms : List Term) (is : row ≡ cost_r
       omega (arith, both, late, wait, most)
 
   flights_few : (k : ℕ) (flights : List Flight) → parts.day.periods ≤ 512
-      → length (over_flights (flight_terms parts.tables parts.day.periods) k flights)
+      → length (flat_map_from (flight_terms parts.tables parts.day.periods) k flights)
       ≤ length flights * 1024
   flights_few k [] most = omega arith
   flights_few k (flight ∷ flights) most =
       let both = length-append (flight_terms parts.tables parts.day.periods k flight)
-      (over_flights (flight_terms parts.tables parts.day.periods) (k + 1) flights) in
+      (flat_map_from (flight_terms parts.tables parts.day.periods) (k + 1) flights) in
       let one = flight_few k flight most in
       let more = flights_few (k + 1) flights most in
       omega (arith, both, one, more)

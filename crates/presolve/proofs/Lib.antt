@@ -8,7 +8,6 @@ pub mod FreeFacts
 pub mod GatherFacts
 pub mod LandedFacts
 pub mod LeafFacts
-pub mod ListFacts
 pub mod NamesFacts
 pub mod NumberFacts
 pub mod PointFacts

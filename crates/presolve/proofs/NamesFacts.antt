@@ -11,7 +11,7 @@ use Rattle.time_windows.specs.Boxes.{Box}
 use Rattle.bytime_model.specs.declared.names.RowName.{RowName}
 use Rattle.bytime_model.specs.Rows.{is_row}
 use Rattle.bytime_model.proofs.KindLaws.{kind_each}
-use Rattle.bytime_model.proofs.ListingFacts.{range_more}
+use Rattle.exact_sums.proofs.LoopFacts.{next_number}
 use Rattle.bytime_model.proofs.NameLists.{any_flat, each_any}
 use Rattle.bytime_model.specs.declared.names.RowKind.{RowKind}
 use Rattle.presolve.specs.declared.rows.ProgramDraft.{ProgramDraft}
@@ -63,7 +63,7 @@ pub next_ranged : (part : ℕ → List RowName) (n : ℕ) (more : List RowName) 
 next_ranged part n more are =
     let next : n + 1 ≡ suc n = omega arith in
     let here : 0 + n ≡ n = omega arith in
-    ap (λ m. flat_map part (range_with_len 0 m)) next ∙ range_more part 0 n
+    ap (λ m. flat_map part (range_with_len 0 m)) next ∙ next_number part 0 n
     ∙ ap (λ names. flat_map part (range_with_len 0 n) ++ names) (ap part here ∙ sym are)
 
 -- names after others

@@ -1,13 +1,12 @@
 -- Sums that are made step by step, and lists.
 use Rattle.std.proofs.Common.{◌≡◌, ℕ, zero, suc, ◌+◌, ◌<◌, ◌≤◌, Bool, true, false, List, [], ◌∷◌, ◌++◌, length, map, get_or, take, sum_by, if◌then◌else◌, int_lt, ℤ, pos, ◌+ℤ◌, unsigned_abs, sym, ap, ◌∙◌, arith}
 use Rattle.std.proofs.lemmas.Int.{ints}
-use Rattle.std.proofs.lemmas.List.{take_more}
 use Rattle.std.proofs.lemmas.List.FromFn.{map-range_with_len_more}
 use Rattle.std.proofs.lemmas.List.Sums.{sum_by-cons}
 use Rattle.std.specs.List.{range_with_len}
 use Rattle.std.specs.Int.{int_max, int_min}
 use Rattle.exact_sums.specs.Sums.{total}
-use Rattle.exact_sums.proofs.SumFacts.{total-push}
+use Rattle.exact_sums.proofs.SumFacts.{next_total}
 use Rattle.row_arena.specs.declared.entry.Entry.{Entry}
 use Rattle.presolve.specs.Gathering.{size_of}
 use Rattle.presolve.specs.Relaxed.{flipped_part, flipped_sum, greatest, is_flipped}
@@ -17,11 +16,6 @@ abs_sum a b = omega (arith, ints)
 
 module _ {A : Type 0} (f : A → ℤ) (size : A → ℕ)
     (small : (x : A) → unsigned_abs (f x) ≤ size x) where
-  pub total_more : (xs : List A) (i : ℕ) (d : A) → i < length xs
-      → total f (take (i + 1) xs) ≡ total f (take i xs) +ℤ f (get_or xs i d)
-  total_more xs i d within =
-      ap (total f) (take_more xs i d within) ∙ total-push f (take i xs) (get_or xs i d)
-
   pub total_small : (xs : List A) → unsigned_abs (total f xs) ≤ sum_by size xs
   total_small [] = omega arith
   total_small (x ∷ xs) =
@@ -81,7 +75,7 @@ pub greatest_more : (entries : List Entry) (i : ℕ) (d : Entry) → i < length 
     → greatest (take (i + 1) entries)
     ≡ greatest (take i entries) +ℤ int_max (pos 0) (get_or entries i d).value
 greatest_more entries i d within =
-    total_more above_part size_part (λ entry. above_small entry.value) entries i d within
+    next_total above_part entries i d within
 
 pub greatest_room : (entries : List Entry) (i : ℕ) (d : Entry) (sum part : ℤ) (most : ℕ)
     → sum ≡ greatest (take i entries) → part ≡ int_max (pos 0) (get_or entries i d).value
@@ -97,7 +91,7 @@ pub flipped_more : (flips : List Bool) (entries : List Entry) (i : ℕ) (d : Ent
     → i < length entries → flipped_sum flips (take (i + 1) entries)
     ≡ flipped_sum flips (take i entries) +ℤ flipped_part flips (get_or entries i d)
 flipped_more flips entries i d within =
-    total_more (flipped_part flips) size_part (flipped_small flips) entries i d within
+    next_total (flipped_part flips) entries i d within
 
 pub flipped_room : (flips : List Bool) (entries : List Entry) (i : ℕ) (d : Entry) (sum part : ℤ)
     (most : ℕ) → sum ≡ flipped_sum flips (take i entries)
@@ -117,7 +111,7 @@ flipped_total flips entries =
 pub below_more : (values : List ℤ) (i : ℕ) (d : ℤ) → i < length values
     → total below_part (take (i + 1) values)
     ≡ total below_part (take i values) +ℤ int_min (pos 0) (get_or values i d)
-below_more values i d within = total_more below_part unsigned_abs below_small values i d within
+below_more values i d within = next_total below_part values i d within
 
 pub below_room : (values : List ℤ) (i : ℕ) (d sum part : ℤ) (most : ℕ)
     → sum ≡ total below_part (take i values) → part ≡ int_min (pos 0) (get_or values i d)

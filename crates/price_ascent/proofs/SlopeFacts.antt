@@ -19,7 +19,8 @@ good_free parts table size free = record {
 }
 
 pub slopes_set : (parts : Parts) (slopes : List Slope) (at : ℕ) (slope : Slope)
-    → AreSlopesFor parts slopes → IsSlopeKey parts slope.key → AreSlopesFor parts (set slopes at slope)
+    → AreSlopesFor parts slopes → IsSlopeKey parts slope.key
+    → AreSlopesFor parts (set slopes at slope)
 slopes_set parts slopes at slope are key =
     All-set (λ (s : Slope). IsSlopeKey parts s.key) slopes at slope key are
 

@@ -1,4 +1,4 @@
--- That slopes are of a scenario's prices has one proof at most, as a fact that a struct keeps has to.
+-- That slopes are of a scenario's prices has one proof at most, as a fact that a struct keeps must.
 use Rattle.std.specs.Prelude.{List}
 use Rattle.std.proofs.Props.{props}
 use Rattle.flow_types.specs.declared.parts.Parts.{Parts}

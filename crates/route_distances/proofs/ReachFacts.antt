@@ -13,7 +13,8 @@ item_more : {X : Type 0} (P : ℕ → X → Type 0) (xs : List X) (x d : X) (cou
     → (k : ℕ) → k < count + 1 → P k (get_or (xs ++ x ∷ []) k d)
 item_more P xs x d count long each is k below =
     elim (cases_lt k count) as (λ _. P k (get_or (xs ++ x ∷ []) k d)) [
-      | inl less ↦ subst (P k) (sym (get_or_append_left xs (x ∷ []) d k (omega (arith, less, long))))
+      | inl less ↦ subst (P k) (sym (get_or_append_left xs (x ∷ []) d k
+          (omega (arith, less, long))))
           (each k less)
       | inr more ↦
           let here : count ≡ k = omega (arith, more, below) in

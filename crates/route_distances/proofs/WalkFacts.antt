@@ -50,7 +50,8 @@ module _ (legs : List Leg) where
   far_is node = far_here node node refl
 
   reach_here : (from count node : ℕ) → node ≡ count
-      → reach_upto legs from (suc count) node ≡ leads_into (reach_upto legs from count) from count legs
+      → reach_upto legs from (suc count) node ≡ leads_into (reach_upto legs from count) from count
+      legs
   reach_here from count node is = if_yes (node == count)
       (leads_into (reach_upto legs from count) from count legs) (reach_upto legs from count node)
       (eq-eqb node count is)
@@ -76,7 +77,8 @@ module _ (legs : List Leg) where
       → reach_upto legs from count node ≡ false
   reach_past from zero node above = refl
   reach_past from (suc count) node above =
-      reach_skip from count node (λ is. omega (arith, is)) ∙ reach_past from count node (omega arith)
+      reach_skip from count node (λ is. omega (arith, is))
+      ∙ reach_past from count node (omega arith)
 
   pub reach_is : (from node : ℕ)
       → reaches_of legs from node ≡ leads_into (reach_upto legs from node) from node legs

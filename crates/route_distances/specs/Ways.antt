@@ -31,6 +31,7 @@ pub record AreReached (legs : List Leg) (from count : ℕ) (marks : List Bool) :
       → slice_index_or marks node false ≡ reaches_of legs from node
 
 -- marks for each of so many nodes to start from
-pub record AreAllReached (legs : List Leg) (nodes count : ℕ) (marks : List (List Bool)) : Type 0 where
-  pub long : length marks ≡ count
-  pub each : (from : ℕ) → from < count → AreReached legs from nodes (slice_index_or marks from [])
+pub record AreAllReached (legs : List Leg) (nodes count : ℕ) (marks : List (List Bool)) : Type 0
+  where
+    pub long : length marks ≡ count
+    pub each : (from : ℕ) → from < count → AreReached legs from nodes (slice_index_or marks from [])

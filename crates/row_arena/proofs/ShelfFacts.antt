@@ -44,7 +44,8 @@ module _ (cs : List (Option Entry)) where
       let left = length_run p.from p.len cs inside in
       sym (run_item cs p.from p.len k None within)
       ∙ ap (λ (l : List (Option Entry)). get_or l k None) held
-      ∙ get_or-map (λ (e : Entry). Some e) (row_in cs p) k d None (omega (arith, long, same, left, within))
+      ∙ get_or-map (λ (e : Entry). Some e) (row_in cs p) k d None
+      (omega (arith, long, same, left, within))
 
 -- a place whose run is as before
 pub place_kept : (cs ds : List (Option Entry)) (low high : ℕ) (p : Place)
@@ -122,7 +123,8 @@ module _ (cs ds : List (Option Entry)) (places : List Place) where
           let long = length-set places k q in
           let size = length-map places (row_in cs) in
           row_of_place ds (set places k q) i q (omega (arith, long, inside))
-          ∙ ap (row_in ds) (ap (λ n. get_or (set places k q) n q) same ∙ get_or-set_same places k q q within)
+          ∙ ap (row_in ds) (ap (λ n. get_or (set places k q) n q) same
+          ∙ get_or-set_same places k q q within)
           ∙ new
           ∙ sym (ap (λ n. get_or (set (rows_in cs places) k xs) n []) same
           ∙ get_or-set_same (rows_in cs places) k xs [] (omega (arith, size, within)))
@@ -153,10 +155,13 @@ module _ (places : List Place) (k : ℕ) (q : Place) (inside : k < length places
   pub apart_set : AreApart places
       → ((i : ℕ) (d : Place) → i < length places → i ≢ k → Apart (get_or places i d) q)
       → AreApart (set places k q)
-  apart_set apart others = record { each = λ i j d left right differ. at i j d left right differ (cases_eq i k) (cases_eq j k) }
+  apart_set apart others = record {
+    each = λ i j d left right differ. at i j d left right differ (cases_eq i k) (cases_eq j k);
+  }
     where
       here : (i : ℕ) (d : Place) → i ≡ k → get_or (set places k q) i d ≡ q
-      here i d same = ap (λ n. get_or (set places k q) n d) same ∙ get_or-set_same places k q d inside
+      here i d same =
+          ap (λ n. get_or (set places k q) n d) same ∙ get_or-set_same places k q d inside
 
       turn : (a b : Place) → Apart a b → Apart b a
       turn a b (inl before) = inr before
@@ -215,7 +220,8 @@ module _ (places : List Place) (q : Place) where
           subst P (sym (ap (λ n. get_or (places ++ q ∷ []) n d) last ∙ at_end d)) here
 
   pub apart_pushed : AreApart places
-      → ((i : ℕ) (d : Place) → i < length places → (get_or places i d).from + (get_or places i d).room ≤ q.from)
+      → ((i : ℕ) (d : Place) → i < length places
+      → (get_or places i d).from + (get_or places i d).room ≤ q.from)
       → AreApart (places ++ q ∷ [])
   apart_pushed apart before = record {
     each = λ i j d left right differ. by i j d (one_more i left) (one_more j right) differ;
@@ -278,8 +284,10 @@ module _ (cs : List (Option Entry)) (at : ℕ) (xs : List Entry) (within : at �
         (below : q.from + q.room ≤ top) (fits : q.len ≤ q.room) where
       pub set_placed : All (IsPlaced after low top) (set places k q)
       set_placed = each_set places k q inside (IsPlaced after low top)
-          (λ i d in' other. raised (get_or places i d) (place_kept cs after low high (get_or places i d)
-          (kept_apart low high (get_or places i d) (others i d in' other) (placed i d in')) (placed i d in')))
+          (λ i d in' other. raised (get_or places i d) (place_kept cs after low high
+          (get_or places i d)
+          (kept_apart low high (get_or places i d) (others i d in' other) (placed i d in'))
+          (placed i d in')))
           (placed_there cs at xs q from len within low top above below fits)
 
       pub set_rows : rows_in after (set places k q) ≡ set (rows_in cs places) k xs

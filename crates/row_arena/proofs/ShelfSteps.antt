@@ -96,7 +96,8 @@ module _ (s : Shelf) (is : IsShelf s) (k : ℕ) (p : Place) (xs : List Entry)
         most = s.most;
       })
       rewritten = record {
-        placed = subst (λ (l : List (Option Entry)). All (IsPlaced l s.start s.tail) (set s.places.items k same))
+        placed = subst (λ (l : List (Option Entry)). All (IsPlaced l s.start s.tail)
+            (set s.places.items k same))
             (sym new)
             (set_placed s.block p.from xs low_in s.places.items s.start s.tail is.placed s.tail
             (omega arith) k same inside others refl size placed_here.above placed_here.under room);
@@ -145,7 +146,8 @@ module _ (s : Shelf) (is : IsShelf s) (k : ℕ) (p : Place) (xs : List Entry)
         most = s.most;
       })
       moved = record {
-        placed = subst (λ (l : List (Option Entry)). All (IsPlaced l s.start (s.tail + room)) (set s.places.items k last))
+        placed = subst (λ (l : List (Option Entry)). All (IsPlaced l s.start (s.tail + room))
+            (set s.places.items k last))
             (sym new)
             (set_placed s.block s.tail xs top s.places.items s.start s.tail is.placed
             (s.tail + room) (omega arith) k last inside before refl size is.below (omega arith)
@@ -201,7 +203,8 @@ module _ (s : Shelf) (is : IsShelf s) (k : ℕ) (p : Place) (inside : k < length
       let on = rewritten s is k p (negated (row_in s.block p)) inside here p.len long' fits_still
       ds new in
       record {
-        placed = subst (λ (l : List Place). All (IsPlaced ds s.start s.tail) l) same_place on.placed;
+        placed = subst (λ (l : List Place). All (IsPlaced ds s.start s.tail) l) same_place
+            on.placed;
         apart = subst AreApart same_place on.apart;
         below = is.below;
         within = is.within;
@@ -494,7 +497,8 @@ module _ (s : Shelf) (is : IsShelf s) (xs : List Entry)
     pub pushed_placed : All (IsPlaced ds s.start (s.tail + length xs)) ps
     pushed_placed =
         subst (λ (l : List Place). All (IsPlaced ds s.start (s.tail + length xs)) l) (sym more)
-        (subst (λ (l : List (Option Entry)). All (IsPlaced l s.start (s.tail + length xs)) (s.places.items ++ added ∷ []))
+        (subst (λ (l : List (Option Entry)). All (IsPlaced l s.start (s.tail + length xs))
+        (s.places.items ++ added ∷ []))
         (sym new)
         (push_placed s.block s.tail xs free s.places.items s.start s.tail is.placed
         (s.tail + length xs) (omega arith) added (omega arith) refl refl is.below (omega arith)

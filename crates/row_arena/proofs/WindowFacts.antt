@@ -90,12 +90,14 @@ module _ {C : Type 0} (cs : List C) (at : ℕ) (xs : List C) where
 
 -- nothing is written
 pub written_none : {C : Type 0} (cs : List C) (at : ℕ) → written cs at [] ≡ cs
-written_none cs at = ap (λ k. take at cs ++ drop k cs) {x = at + 0} (omega arith) ∙ take-append-drop at cs
+written_none cs at = ap (λ k. take at cs ++ drop k cs) {x = at + 0} (omega arith)
+    ∙ take-append-drop at cs
 
 -- an item of a run
 pub run_item : {C : Type 0} (cs : List C) (from len k : ℕ) (d : C) → k < len
     → get_or (take len (drop from cs)) k d ≡ get_or cs (from + k) d
-run_item cs from len k d within = get_or-take len (drop from cs) k d within ∙ get_or-drop from cs k d
+run_item cs from len k d within = get_or-take len (drop from cs) k d within
+    ∙ get_or-drop from cs k d
 
 pub length_run : {C : Type 0} (from len : ℕ) (cs : List C) → from + len ≤ length cs
     → length (take len (drop from cs)) ≡ len

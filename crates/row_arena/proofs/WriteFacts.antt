@@ -50,7 +50,8 @@ module _ (cs : List (Option Entry)) (at : ℕ) (row : List Entry) where
       → get_or (begun k) n None ≡ get_or cs n None
   read_behind k n within room after =
       let long = size k within in
-      sym (get_or-drop n (begun k) 0 None ∙ ap (λ m. get_or (begun k) m None) {x = n + 0} (omega arith))
+      sym (get_or-drop n (begun k) 0 None ∙ ap (λ m. get_or (begun k) m None) {x = n + 0}
+      (omega arith))
       ∙ ap (λ (l : List (Option Entry)). get_or l 0 None)
       (behind cs at (map Some (take k row)) n (omega (arith, room)) (omega (arith, long, after)))
       ∙ (get_or-drop n cs 0 None ∙ ap (λ m. get_or cs m None) {x = n + 0} (omega arith))
@@ -59,7 +60,8 @@ module _ (cs : List (Option Entry)) (at : ℕ) (row : List Entry) where
       → get_or (begun k) n None ≡ get_or cs n None
   read_before k n room before =
       let front = length-take-le at cs room in
-      get_or_append_left (take at cs) (map Some (take k row) ++ drop (at + length (map Some (take k row))) cs)
+      get_or_append_left (take at cs) (map Some (take k row) ++ drop
+      (at + length (map Some (take k row))) cs)
       None n (omega (arith, front, before))
       ∙ get_or-take at cs n None before
 

@@ -1,6 +1,6 @@
 -- Each constraint's row alone has an entry at the index that it stands for, and one above 0. So no
 -- two rows stand for one index.
-use Rattle.std.proofs.Common.{◌≡◌, ◌≢◌, ◌⊎◌, inl, inr, ℕ, ◌+◌, ◌<◌, List, length, set, slice_index, Some, Ok, pos, neg_ℤ, ◌<ℤ◌, sym, ap, ◌∙◌, subst, arith}
+use Rattle.std.proofs.Common.{◌≡◌, ◌≢◌, ◌⊎◌, inl, inr, ℕ, ◌+◌, ◌<◌, List, length, set, slice_index, Some, Ok, pos, neg_ℤ, ◌<ℤ◌, sym, ap, ◌∙◌, arith}
 use Rattle.std.proofs.lemmas.List.{get_or-set_same, get_or-set_other}
 use Rattle.std.proofs.lemmas.List.FromFn.{get_or-range_with_len}
 use Rattle.row_arena.specs.declared.entry.Entry.{Entry}
@@ -70,12 +70,10 @@ module _ (problem : Problem) (tableau : Tableau)
       by : (j ≡ leaves) ⊎ (j ≢ leaves)
           → pos 0 <ℤ entry_at (row_at rows j) (slice_index after j)
       by (inl at) =
-          subst (λ n. pos 0 <ℤ entry_at (row_at rows n) (slice_index after n)) (sym at)
-          (subst (λ n. pos 0 <ℤ entry_at (row_at rows leaves) n) (sym there_now)
-          (subst (λ (r : List Entry). pos 0 <ℤ entry_at r enters) (sym swept.pivots)
-          (entering_positive problem tableau (row_at tableau.rows leaves) enters entering_is)))
+          rw (at, there_now, swept.pivots)
+          (entering_positive problem tableau (row_at tableau.rows leaves) enters entering_is)
       by (inr other) =
-          subst (λ n. pos 0 <ℤ entry_at (row_at rows j) n) (sym (others_now j other))
+          rw (others_now j other)
           (pivoted_each problem tableau.rows rows leaves enters swept
           (λ (r : List Entry). pos 0 <ℤ entry_at r (slice_index tableau.basis j)) j
           (omega (arith, small)) (λ at. absurd (other at))

@@ -1,5 +1,5 @@
 -- Boards, row by row.
-use Rattle.std.proofs.Common.{◌≡◌, ◌≢◌, ◌⊎◌, ℕ, ◌<◌, ◌≤◌, List, All, length, set, slice_index, vec_capacity, Ok, pos, ◌<ℤ◌, int_lt, inl, inr, refl, sym, ap, ◌∙◌, subst, arith}
+use Rattle.std.proofs.Common.{◌≡◌, ◌≢◌, ◌⊎◌, ℕ, ◌<◌, List, length, set, slice_index, Ok, pos, int_lt, inl, inr, refl, sym, ap, ◌∙◌, subst, arith}
 use Rattle.std.proofs.lemmas.List.{length-set}
 use Rattle.number_set.specs.Numbers.{IsChanged}
 use Rattle.row_arena.specs.declared.entry.Entry.{Entry}
@@ -8,7 +8,7 @@ use Rattle.row_arena.specs.Combining.{cleared}
 use Rattle.row_arena.specs.Rows.{entry_at}
 use Rattle.scaled_simplex.specs.declared.basis.Basis.{Basis}
 use Rattle.scaled_simplex.specs.declared.board.Board.{Board}
-use Rattle.scaled_simplex.specs.Board.{AreAdded, AreFound, AreListed}
+use Rattle.scaled_simplex.specs.Board.{AreAdded, AreListed}
 use Rattle.scaled_simplex.specs.BoardOf.{CanSweep, IsBoard, KeepsBoard}
 use Rattle.scaled_simplex.specs.Links.{Lists}
 use Rattle.scaled_simplex.specs.Program.{Problem}
@@ -43,6 +43,9 @@ module _ (problem : Problem) (board : Board) (row pivot index : ℕ) (arena : Ro
       ap (λ (l : List (List Entry)). row_at l row) set_is
       ∙ row_at-set_same board.arena.rows row made within
 
+  count_kept : length arena.rows ≡ length board.arena.rows
+  count_kept = ap length set_is ∙ length-set board.arena.rows row made
+
   -- the lists have it
   listed_set' : (lists : List (List ℕ)) (rows : ℕ) → rows ≡ length problem.constraints
       → AreFilled (row_at board.arena.rows row) (row_at arena.rows row) arena.filled
@@ -52,11 +55,8 @@ module _ (problem : Problem) (board : Board) (row pivot index : ℕ) (arena : Ro
   listed_set' lists rows count filled (inl added) =
       listed_set board.arena.rows arena.rows row (length problem.constraints) (right_side problem)
       made arena.filled board.lists.rows lists below within set_is is.listed
-      (subst (λ (r : List Entry). AreFilled (row_at board.arena.rows row) r arena.filled) made_is
-      filled) added
-  listed_set' lists rows count filled (inr listed) =
-      subst (λ n. AreListed arena.rows n (right_side problem) lists) count
-      (subst (λ n. AreListed arena.rows rows n lists) is.listed.count_is listed)
+      (rw made_is at filled) added
+  listed_set' lists rows count filled (inr listed) = rw (count, is.listed.count_is) at listed
 
   pub board_set : (basis : Basis) (lists : Lists) (rows : ℕ) → rows ≡ length problem.constraints
       → AreFilled (row_at board.arena.rows row) (row_at arena.rows row) arena.filled
@@ -74,30 +74,19 @@ module _ (problem : Problem) (board : Board) (row pivot index : ℕ) (arena : Ro
         todo = board.todo;
       })
   board_set basis lists rows count filled listed same_room same_cells change index_of row_of =
-      let items : board.basis.index_of.items ≡ basis.index_of.items =
-      ap (λ v. v.items) (sym index_of) in
+      let items : basis.index_of.items ≡ board.basis.index_of.items = ap (λ v. v.items) index_of in
+      let row_items : basis.row_of.items ≡ board.basis.row_of.items = ap (λ v. v.items) row_of in
       record {
-        rows = ap length set_is ∙ length-set board.arena.rows row made ∙ is.rows;
-        basis = subst (λ l. length l ≡ length problem.constraints) items is.basis;
-        indices = subst (All (λ i. i < right_side problem)) items is.indices;
-        found = subst (λ l. AreFound problem (record {
-          rows = arena.rows;
-          basis = l;
-        }) basis.row_of.items basis.negative) items
-            (subst (λ l. AreFound problem (record {
-              rows = arena.rows;
-              basis = board.basis.index_of.items;
-            }) l basis.negative) (ap (λ v. v.items) (sym row_of))
+        rows = count_kept ∙ is.rows;
+        basis = ap length items ∙ is.basis;
+        indices = rw items is.indices;
+        found = rw (items, row_items)
             (found_set problem board.arena.rows arena.rows board.basis.index_of.items
             board.basis.row_of.items board.basis.negative is.found row made basis.negative below
-            within set_is
-            (subst (λ (r : List Entry). IsChanged (slice_index board.basis.index_of.items row)
-            (int_lt (entry_at r (right_side problem)) (pos 0)) board.basis.negative
-            basis.negative) made_is change)));
+            within set_is (rw made_is at change));
         listed = listed_set' lists.rows rows count filled listed;
-        room = subst (λ n. n ≤ lists.room) (sym same_cells)
-            (subst (λ n. board.arena.cells ≤ n) (sym same_room) is.room);
-        todo = subst (λ n. n ≤ vec_capacity board.todo) (sym same_room) is.todo;
+        room = rw (same_cells, same_room) is.room;
+        todo = rw same_room is.todo;
       }
 
   -- the other rows are as before
@@ -105,9 +94,6 @@ module _ (problem : Problem) (board : Board) (row pivot index : ℕ) (arena : Ro
   row_kept k other =
       ap (λ (l : List (List Entry)). row_at l k) set_is
       ∙ row_at-set_other board.arena.rows row k made other
-
-  pub count_kept : length arena.rows ≡ length board.arena.rows
-  count_kept = ap length set_is ∙ length-set board.arena.rows row made
 
   pub board_keeps : (basis : Basis) (lists : Lists) → (row ≡ pivot → ⊥)
       → basis.index_of ≡ board.basis.index_of → arena.cells ≡ board.arena.cells
@@ -127,9 +113,9 @@ module _ (problem : Problem) (board : Board) (row pivot index : ℕ) (arena : Ro
   }
 
 -- what is kept twice is kept
-pub keeps_on : (problem : Problem) (pivot : ℕ) (a b c : Board) → KeepsBoard problem pivot a b
+pub keeps_on : {problem : Problem} {pivot : ℕ} {a b c : Board} → KeepsBoard problem pivot a b
     → KeepsBoard problem pivot b c → KeepsBoard problem pivot a c
-keeps_on problem pivot a b c first second = record {
+keeps_on first second = record {
   index_of = second.index_of ∙ first.index_of;
   cells = second.cells ∙ first.cells;
   count_is = second.count_is ∙ first.count_is;
@@ -138,21 +124,10 @@ keeps_on problem pivot a b c first second = record {
   todo = second.todo ∙ first.todo;
 }
 
-pub can_still : (problem : Problem) (pivot index : ℕ) (old new : Board)
+pub can_still : {problem : Problem} {pivot index : ℕ} {old new : Board}
     → CanSweep problem pivot index old → KeepsBoard problem pivot old new
     → CanSweep problem pivot index new
-can_still problem pivot index old new can keeps = record {
+can_still can keeps = record {
   within = can.within;
-  above = subst (λ (r : List Entry). pos 0 <ℤ entry_at r index) (sym keeps.pivots) can.above;
-}
-
-pub keeps_itself : (problem : Problem) (pivot : ℕ) (board : Board)
-    → KeepsBoard problem pivot board board
-keeps_itself problem pivot board = record {
-  index_of = refl;
-  cells = refl;
-  count_is = refl;
-  pivots = refl;
-  costs = refl;
-  todo = refl;
+  above = rw keeps.pivots can.above;
 }

@@ -100,14 +100,6 @@ module _ (problem : Problem) (tableau : Tableau) where
         → IsBest may_enter (is_less_ratio problem tableau row) (right_side problem) enters
     entering_best enters is = entering_found.some enters is
 
-    -- whatever is best enters
-    pub entering_is_found : (enters : ℕ)
-        → IsBest may_enter (is_less_ratio problem tableau row) (right_side problem) enters
-        → entering problem tableau row ≡ Some enters
-    entering_is_found enters is =
-        best_is_found may_enter (is_less_ratio problem tableau row) ratio_order
-        (right_side problem) enters is
-
     pub entering_within : (enters : ℕ) → entering problem tableau row ≡ Some enters
         → enters < right_side problem
     entering_within enters is = (entering_best enters is).within

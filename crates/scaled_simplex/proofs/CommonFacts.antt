@@ -1,6 +1,6 @@
 -- The least number by which the values of the first columns are whole, column by column; and the
 -- numerators over it.
-use Rattle.std.proofs.Common.{◌≡◌, ◌⊎◌, inl, inr, ℕ, ◌+◌, ◌*◌, ◌%◌, ◌<◌, ◌≤◌, List, [], ◌∷◌, ◌++◌, get_or, length, ℤ, pos, negsuc, nat_abs, ◌*ℤ◌, ◌≤ℤ◌, ◌<ℤ◌, refl, sym, ap, ◌∙◌, subst, arith}
+use Rattle.std.proofs.Common.{◌≡◌, ◌⊎◌, inl, inr, ℕ, ◌+◌, ◌*◌, ◌%◌, ◌<◌, ◌≤◌, List, [], ◌∷◌, ◌++◌, get_or, length, ℤ, pos, negsuc, nat_abs, ◌*ℤ◌, ◌≤ℤ◌, ◌<ℤ◌, refl, sym, ap, ◌∙◌, arith}
 use Rattle.std.proofs.lemmas.Int.{ints}
 use Rattle.std.proofs.lemmas.List.{get_or_append_left, get_or_push}
 use Rattle.std.proofs.lemmas.Nat.Gcd.{dvd_of_mod-eq-zero, dvd_trans, le_of_dvd, mod-eq-zero_of_dvd}
@@ -15,17 +15,6 @@ last_or : (k n : ℕ) → k < n + 1 → (k < n) ⊎ (k ≡ n)
 last_or k n small = grind arith
 
 module _ (problem : Problem) (tableau : Tableau) where
-  -- of no columns
-  pub none_common : IsMultiple problem tableau 0 1
-  none_common = record {
-    positive = omega arith;
-    whole = λ column small. absurd (omega (arith, small));
-    least = λ times whole. by_one times;
-  }
-    where
-      by_one : (n : ℕ) → n % 1 ≡ 0
-      by_one n = omega arith
-
   -- where a column is whole by a number, it is so by each multiple of that
   whole_more : (column times more : ℕ) → IsWhole problem tableau column times
       → more % times ≡ 0 → IsWhole problem tableau column more
@@ -51,22 +40,16 @@ module _ (problem : Problem) (tableau : Tableau) where
     }
       where
         own : IsWhole problem tableau column multiple
-        own =
-            subst (λ b. (nat_abs (top_at problem tableau column) * multiple) % b ≡ 0) bottom_is
-            (subst (λ t. (t * multiple) % bottom ≡ 0) top_is is.whole)
+        own = rw (top_is, bottom_is) at is.whole
 
         own_back : (times : ℕ) → IsWhole problem tableau column times
             → (top * times) % bottom ≡ 0
-        own_back times whole =
-            subst (λ b. (top * times) % b ≡ 0) (sym bottom_is)
-            (subst (λ t. (t * times) % nat_abs (bottom_at problem tableau column) ≡ 0)
-            (sym top_is) whole)
+        own_back times whole = rw (top_is, bottom_is) whole
 
         whole_at : (k : ℕ) → (k < column) ⊎ (k ≡ column) → IsWhole problem tableau k multiple
         whole_at k (inl before) =
             whole_more k denominator multiple (common.whole k before) is.is
-        whole_at k (inr at) =
-            subst (λ n. IsWhole problem tableau n multiple) (sym at) own
+        whole_at k (inr at) = rw at own
 
     -- and where that is too far from 0
     pub now_too_wide : column < columns problem → denominator ≤ most_entry → most_entry < multiple
@@ -119,11 +102,7 @@ module _ (problem : Problem) (tableau : Tableau) where
           → IsValueAt problem tableau k (get_or (numerators ++ numerator ∷ []) k (pos 0))
           denominator
       by (inl before) =
-          subst (λ n. IsValueAt problem tableau k n denominator)
-          (sym (get_or_append_left numerators (numerator ∷ []) (pos 0) k
-          (omega (arith, count, before))))
-          (each k before)
+          rw (get_or_append_left numerators (numerator ∷ []) (pos 0) k
+          (omega (arith, count, before))) (each k before)
       by (inr at) =
-          subst (λ n. IsValueAt problem tableau k n denominator)
-          (sym (get_or_push numerators numerator (pos 0) k (count ∙ sym at)))
-          (subst (λ i. IsValueAt problem tableau i numerator denominator) (sym at) own)
+          rw (get_or_push numerators numerator (pos 0) k (count ∙ sym at), at) own

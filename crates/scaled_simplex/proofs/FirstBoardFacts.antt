@@ -1,37 +1,23 @@
 -- The first board: its rows as they are pushed, and the signs of their right sides as they are
 -- said.
-use Rattle.std.proofs.Common.{◌≡◌, inl, inr, ℕ, zero, suc, ◌+◌, ◌-◌, ◌<◌, ◌≤◌, Bool, true, false, IsTrue, not, nat_le, List, [], ◌∷◌, ◌++◌, length, length-append, take, slice_index, slice_index_or, vec_capacity, All, ℤ, pos, nat_abs, int_lt, refl, sym, ap, ap₂, ◌∙◌, subst, append-nil, arith}
-use Rattle.std.specs.List.{flat_map, range_with_len}
+use Rattle.std.proofs.Common.{◌≡◌, inl, inr, ℕ, zero, suc, ◌+◌, ◌-◌, ◌<◌, ◌≤◌, Bool, true, false, IsTrue, not, nat_le, List, [], ◌∷◌, ◌++◌, length, length-append, take, slice_index, slice_index_or, vec_capacity, All, pos, nat_abs, int_lt, refl, sym, ap, ap₂, ◌∙◌, subst, arith}
+use Rattle.std.specs.List.{range_with_len}
 use Rattle.std.proofs.lemmas.Bool.{cases_eq, leb-false}
-use Rattle.std.proofs.lemmas.Grind.{flat_map-append}
 use Rattle.std.proofs.lemmas.List.{length-take-le}
 use Rattle.std.proofs.lemmas.List.FromFn.{get_or-range_with_len, length-range_with_len}
 use Rattle.std.proofs.lemmas.List.Sums.{sum_by-take-le, sum_by_push}
 use Rattle.number_set.specs.Numbers.{IsChanged, has}
 use Rattle.row_arena.specs.declared.entry.Entry.{Entry}
 use Rattle.row_arena.specs.Arena.{has_room, live, row_at}
-use Rattle.row_arena.specs.Rows.{IsRow, entry_at, most_entry, row_from, unless_zero}
+use Rattle.row_arena.specs.Rows.{IsRow, entry_at, most_entry}
 use Rattle.scaled_simplex.specs.declared.basis.Basis.{Basis}
 use Rattle.scaled_simplex.specs.declared.board.Board.{Board}
 use Rattle.scaled_simplex.specs.Board.{AreFound, AreListed}
 use Rattle.scaled_simplex.specs.BoardOf.{IsBoard}
 use Rattle.scaled_simplex.specs.Program.{Constraint, IsConstraint, IsProblem, Problem, columns}
 use Rattle.scaled_simplex.specs.Tableau.{constraint_row, constraint_rows, cost_row, first_tableau, right_side}
+use Rattle.scaled_simplex.proofs.ListFacts.{no_both}
 use Rattle.scaled_simplex.proofs.FirstRows.{constraint_part, cost_part, rows_more}
-use Rattle.scaled_simplex.proofs.ListFacts.{range_more}
-
--- the value of one column more
-pub row_more : (f : ℕ → ℤ) (k : ℕ)
-    → row_from f 0 k ++ unless_zero k (f k) ≡ row_from f 0 (k + 1)
-row_more f k =
-    ap (λ (l : List Entry). row_from f 0 k ++ l) (sym (append-nil (unless_zero k (f k))))
-    ∙ sym (flat_map-append (λ column. unless_zero column (f column)) (range_with_len 0 k) (k ∷ []))
-    ∙ ap (λ n. flat_map (λ column. unless_zero column (f column)) (range_with_len 0 k ++ n ∷ []))
-    (from_none k)
-    ∙ ap (flat_map (λ column. unless_zero column (f column))) (range_more 0 k)
-  where
-    from_none : (k : ℕ) → k ≡ 0 + k
-    from_none k = omega arith
 
 -- where there is no room
 no_room : (cells : ℕ) (rows : List (List Entry)) (row : List Entry)
@@ -127,11 +113,6 @@ module _ (problem : Problem) where
       length-append (constraint_rows problem 0 problem.constraints) (cost_row problem ∷ [])
       ∙ ap (λ n. n + 1) all_count
 
-  all_live : live (first_tableau problem).rows
-      ≡ live (constraint_rows problem 0 problem.constraints) + length (cost_row problem)
-  all_live =
-      sum_by_push length (constraint_rows problem 0 problem.constraints) (cost_row problem)
-
   pub costs_wide : (cells : ℕ) (rows : List (List Entry)) (row : List Entry)
       → rows ≡ constraint_rows problem 0 problem.constraints → row ≡ cost_row problem
       → IsTrue (not (has_room cells rows row)) → cells < live (first_tableau problem).rows
@@ -156,9 +137,6 @@ pub record IsSignedTo (problem : Problem) (rows : List (List Entry)) (done : ℕ
       ≡ int_lt (entry_at (row_at rows k) (right_side problem)) (pos 0)
   pub some : (index : ℕ) → has basis.negative index ≡ true
       → (columns problem ≤ index) × (index < columns problem + done)
-
-no_both : {b : Bool} → b ≡ true → b ≡ false → ⊥
-no_both is isnt = let e : true ≡ false = sym is ∙ isnt in let g : ⊥ = cc in g
 
 module _ (problem : Problem) (rows : List (List Entry)) where
   pub signed_none : (basis : Basis)

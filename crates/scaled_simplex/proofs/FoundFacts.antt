@@ -14,9 +14,7 @@ use Rattle.scaled_simplex.specs.Tableau.{Tableau, right_side}
 use Rattle.scaled_simplex.proofs.EntryLaws.{entry_negated}
 use Rattle.row_arena.proofs.WholeLaws.{less_is, linear}
 use Rattle.scaled_simplex.proofs.Sweeps.{row_at-set_other, row_at-set_same}
-
-no_both : {b : Bool} → b ≡ true → b ≡ false → ⊥
-no_both is isnt = let e : true ≡ false = sym is ∙ isnt in let g : ⊥ = cc in g
+use Rattle.scaled_simplex.proofs.ListFacts.{no_both}
 
 -- a number that isn't negative
 not_less : (v : ℤ) → pos 0 <ℤ v → int_lt v (pos 0) ≡ false
@@ -29,19 +27,7 @@ not_less v above = by (int_lt v (pos 0)) refl
 module _ (problem : Problem) (rows new : List (List Entry)) (basis row_of : List ℕ)
     (negative : Numbers)
     (found : AreFound problem (record { rows = rows; basis = basis }) row_of negative) where
-  -- what is told of the rows of constraints alone
-  pub found_same : ((k : ℕ) → k < length problem.constraints → row_at new k ≡ row_at rows k)
-      → AreFound problem (record { rows = new; basis = basis }) row_of negative
-  found_same same = record {
-    count_is = found.count_is;
-    bound = found.bound;
-    back = found.back;
-    signs = λ k below. found.signs k below
-        ∙ ap (λ (r : List Entry). int_lt (entry_at r (right_side problem)) (pos 0))
-        (sym (same k below));
-    some = found.some;
-  }
-
+  -- each row stands for an index of its own
   apart : (j k : ℕ) → j < length problem.constraints → k < length problem.constraints → j ≢ k
       → slice_index basis j ≢ slice_index basis k
   apart j k below small other same =

@@ -1,5 +1,5 @@
 -- Lawful tableaus, the states that a run can be in, and how a pivot keeps them so.
-use Rattle.std.proofs.Common.{◌≡◌, ℕ, ◌+◌, ◌<◌, List, length, set, Some, Ok, All, pos, neg_ℤ, ◌-ℤ◌, ◌*ℤ◌, ◌≤ℤ◌, ◌<ℤ◌, sym, ap, ◌∙◌, subst, arith}
+use Rattle.std.proofs.Common.{◌≡◌, ℕ, ◌+◌, ◌<◌, List, length, set, Some, Ok, All, pos, neg_ℤ, ◌≤ℤ◌, ◌<ℤ◌, ap, ◌∙◌, arith}
 use Rattle.std.proofs.lemmas.List.{length-set}
 use Rattle.row_arena.specs.declared.entry.Entry.{Entry}
 use Rattle.row_arena.specs.Arena.{row_at}
@@ -75,19 +75,14 @@ module _ (problem : Problem) (tableau : Tableau) (lawful : IsLawful problem tabl
   low_after : (k : ℕ) → k < right_side problem
       → entry_at (row_at rows (length problem.constraints)) k ≤ℤ pos 0
   low_after k small =
-      subst (λ (r : List Entry). entry_at r k ≤ℤ pos 0) (sym swept.costs)
+      rw swept.costs
       (cleared_low enters (last_row problem tableau) turned k
-      (subst (λ m. ((m *ℤ cost_at problem tableau k)
-      -ℤ (cost_at problem tableau enters *ℤ entry_at turned k)) ≤ℤ pos 0)
-      (sym (entry_negated row enters))
-      (subst (λ m. ((neg_ℤ (entry_at row enters) *ℤ cost_at problem tableau k)
-      -ℤ (cost_at problem tableau enters *ℤ m)) ≤ℤ pos 0)
-      (sym (entry_negated row k))
+      (rw (entry_negated row enters, entry_negated row k)
       (stays_low (cost_at problem tableau k) (cost_at problem tableau enters) (entry_at row k)
       (entry_at row enters) (entering_negative problem tableau row enters entering_is)
       (lawful.costs k small)
       (lawful.costs enters (entering_within problem tableau row enters entering_is))
-      (entering_least problem tableau row enters k entering_is small)))))
+      (entering_least problem tableau row enters k entering_is small))))
 
   -- a pivot keeps a tableau lawful
   pub pivot_lawful : IsLawful problem
@@ -99,8 +94,7 @@ module _ (problem : Problem) (tableau : Tableau) (lawful : IsLawful problem tabl
         (entering_within problem tableau row enters entering_is) lawful.indices;
     made = made_after;
     weightless = weightless_after;
-    weight = subst (λ (r : List Entry). pos 0 <ℤ entry_at r (weight_index problem))
-        (sym swept.costs)
+    weight = rw swept.costs
         (cleared_above enters (last_row problem tableau) turned (weight_index problem) positive
         lawful.weight turned_weightless);
     costs = low_after;

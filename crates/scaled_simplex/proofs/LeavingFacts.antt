@@ -1,5 +1,5 @@
 -- The least index of those with a negative right side is that of the row that leaves.
-use Rattle.std.proofs.Common.{◌≡◌, ◌≢◌, ◌⊎◌, ℕ, ◌+◌, ◌*◌, ◌^◌, ◌<◌, ◌≤◌, Bool, true, false, nat_lt, List, length, slice_index, Option, Some, None, MatchOption, ℤ, ◌*ℤ◌, nat_abs, refl, sym, ap, ◌∙◌, subst, inl, inr, arith}
+use Rattle.std.proofs.Common.{◌≡◌, ◌≢◌, ◌⊎◌, ℕ, ◌+◌, ◌*◌, ◌^◌, ◌<◌, ◌≤◌, true, false, nat_lt, List, length, slice_index, Option, Some, None, MatchOption, ℤ, ◌*ℤ◌, nat_abs, refl, sym, ap, ◌∙◌, subst, inl, inr, arith}
 use Rattle.std.proofs.lemmas.Bool.{cases_lt, le-ltb, lt-ltb}
 use Rattle.std.proofs.lemmas.Int.{unsigned_abs-mul}
 use Rattle.std.proofs.lemmas.Nat.{mul-le}
@@ -10,9 +10,7 @@ use Rattle.scaled_simplex.specs.Program.{Problem}
 use Rattle.scaled_simplex.specs.Run.{leaving}
 use Rattle.scaled_simplex.specs.Tableau.{Tableau}
 use Rattle.scaled_simplex.proofs.Choices.{leaving_best, leaving_is_found, may_leave}
-
-no_both : {b : Bool} → b ≡ true → b ≡ false → ⊥
-no_both is isnt = let e : true ≡ false = sym is ∙ isnt in let g : ⊥ = cc in g
+use Rattle.scaled_simplex.proofs.ListFacts.{no_both}
 
 module _ (problem : Problem) (tableau : Tableau) (row_of : List ℕ) (negative : Numbers)
     (found : AreFound problem tableau row_of negative) where

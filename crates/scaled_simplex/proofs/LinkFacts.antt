@@ -1,11 +1,10 @@
 -- Lists of rows whose items are chained by links.
-use Rattle.std.proofs.Common.{◌≡◌, ◌⊎◌, ℕ, zero, suc, ◌==◌, ◌+◌, ◌-◌, ◌<◌, ◌≤◌, ◌^◌, List, [], ◌∷◌, ◌++◌, All, length, get_or, map, replicate, set, inl, inr, refl, sym, ap, ◌∙◌, subst, arith}
+use Rattle.std.proofs.Common.{◌≡◌, ◌⊎◌, ℕ, zero, suc, ◌==◌, ◌+◌, ◌-◌, ◌<◌, ◌≤◌, List, [], ◌∷◌, ◌++◌, All, length, get_or, map, replicate, set, inl, inr, refl, sym, ap, ◌∙◌, subst, arith}
 use Rattle.std.proofs.lemmas.Bool.{cases_eq, cond-false, cond-true, eq-eqb, ne_eqb}
 use Rattle.std.proofs.lemmas.List.{append_assoc, get_or-map, get_or_append_left, length-append, length-map, length_push, map-set}
-use Rattle.std.proofs.lemmas.List.Elements.{All-replicate, All-set}
 use Rattle.std.proofs.Math.Seq.{get_or-append_seam}
 use Rattle.scaled_simplex.specs.declared.link.Link.{Link}
-use Rattle.scaled_simplex.specs.Links.{AreLinks, chain, chains, link_at, no_link}
+use Rattle.scaled_simplex.specs.Links.{AreLinks, Lists, chain, chains, link_at, no_link}
 
 -- the list of a number that is, or isn't, that of the last of so many links
 pub chain_here : (links : List Link) (n : ℕ) → chain links (suc n) (suc n)
@@ -86,7 +85,8 @@ chain_added links link (suc n) first within =
         ∙ sym (chain_here links n)
         ∙ ap (λ k. chain links (suc n) k) (sym same)
     by kept (inr other) =
-        chain_before (links ++ link ∷ []) n first other ∙ kept first ∙ sym (chain_before links n first other)
+        chain_before (links ++ link ∷ []) n first other ∙ kept first
+        ∙ sym (chain_before links n first other)
 
 -- what is the same of all items is the same of the list
 map_same : {A : Type 0} {B : Type 0} (f g : A → B) (xs : List A) → All (λ x. f x ≡ g x) xs
@@ -98,8 +98,7 @@ map_same f g (x ∷ xs) all =
 
 -- a link is added, with which the list of an index begins
 module _ (links : List Link) (firsts : List ℕ) (room capacity index : ℕ) (link : Link)
-    (are : AreLinks links firsts room capacity) (within : index < length firsts)
-    (earlier : link.next ≤ length links) where
+    (are : AreLinks links firsts room capacity) where
   abbrev more : List Link
   more = links ++ link ∷ []
 
@@ -134,31 +133,6 @@ module _ (links : List Link) (firsts : List ℕ) (room capacity index : ℕ) (li
       (map_same (chain more (suc (length links))) (chain links (length links)) firsts others)
       ∙ ap (set (chains links firsts) index) own
 
-  pub begun_links : (begun : List ℕ) (now : ℕ) → begun ≡ set firsts index (length links + 1)
-      → length links < room → capacity ≤ now → AreLinks more begun room now
-  begun_links begun now is left larger = record {
-    earlier = λ k small. by k small (cases_eq k (length links));
-    first = subst (All (λ first. first ≤ length more)) (sym is)
-        (All-set (λ first. first ≤ length more) firsts index (length links + 1)
-        (let long = size in omega (arith, long))
-        (λ i d inside. let small = are.first i d inside in let long = size in
-        omega (arith, small, long)));
-    within = let long = size in omega (arith, long, left);
-    enough = let fits = are.enough in omega (arith, fits, larger);
-    small = are.small;
-  }
-    where
-      by : (k : ℕ) → k < length more → (k ≡ length links) ⊎ (k ≡ length links → ⊥)
-          → (link_at more k).next ≤ k
-      by k small (inl same) =
-          subst (λ n. (link_at more n).next ≤ n) (sym same)
-          (subst (λ (l : Link). l.next ≤ length links) (sym last) earlier)
-      by k small (inr other) =
-          let long = size in
-          let before : k < length links = omega (arith, small, other, long) in
-          subst (λ (l : Link). l.next ≤ k)
-          (sym (get_or_append_left links (link ∷ []) no_link k before)) (are.earlier k before)
-
 -- the list of an index
 pub chain_of : (links : List Link) (firsts : List ℕ) (index first : ℕ) → index < length firsts
     → first ≡ get_or firsts index first
@@ -178,15 +152,18 @@ no_chains links count = all count
         ap (λ l. l ∷ chains links (replicate count 0)) (chain_none links (length links))
         ∙ ap (λ l. [] ∷ l) (all count)
 
-pub no_links : (count room capacity : ℕ) → room ≤ capacity → room < 2 ^ 32
-    → AreLinks [] (replicate count 0) room capacity
-no_links count room capacity enough small = record {
-  earlier = λ k within. absurd (omega (arith, within));
-  first = All-replicate (λ first. first ≤ 0) count 0 (omega arith);
-  within = omega arith;
-  enough = enough;
-  small = small;
-}
+-- lists of a room, without a row
+abbrev with_rows : ℕ → List (List ℕ) → Lists
+with_rows room rows = record { rows = rows; count = 0; room = room }
+
+pub no_lists : (count size room : ℕ) {links : List Link} {firsts : List ℕ} → links ≡ []
+    → firsts ≡ replicate count 0 → size ≡ count → ◌≡◌ {A = Lists} (record {
+      rows = chains links firsts;
+      count = length links;
+      room = room;
+    }) (record { rows = replicate size []; count = 0; room = room })
+no_lists count size room links_is firsts_is size_is =
+    rw (links_is, firsts_is, size_is) (ap (with_rows room) (no_chains [] count))
 
 -- one row alone
 pub chain_one : (links : List Link) → chain links (length links) 0 ≡ []

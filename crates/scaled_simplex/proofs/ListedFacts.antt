@@ -4,7 +4,7 @@ use Rattle.std.specs.List.{Contains}
 use Rattle.std.specs.Ordering.{int_eq}
 use Rattle.std.proofs.lemmas.Bool.{cases_eq, cases_lt}
 use Rattle.std.proofs.lemmas.Bool.Decides.{Decides-int_eq}
-use Rattle.std.proofs.lemmas.List.{get_or-replicate, get_or-set_other, get_or-set_same, get_or_past, length-replicate, length-set, take_all, take_more}
+use Rattle.std.proofs.lemmas.List.{get_or-map, get_or-replicate, get_or-set_other, get_or-set_same, get_or_past, length-map, length-replicate, length-set, take_all, take_more}
 use Rattle.std.proofs.lemmas.List.Sums.{sum_by_more, sum_by-take-le}
 use Rattle.std.proofs.lemmas.List.Elements.{All-cons, All-nil, Contains-append_cases}
 use Rattle.row_arena.specs.declared.entry.Entry.{Entry}
@@ -13,6 +13,7 @@ use Rattle.row_arena.specs.Rows.{IsRow, entry_at}
 use Rattle.row_arena.proofs.AboveFacts.{entry_found}
 use Rattle.row_arena.proofs.ArenaFacts.{row_is}
 use Rattle.scaled_simplex.specs.Board.{AreAdded, AreListed, column_of}
+use Rattle.scaled_simplex.proofs.ListFacts.{no_both, no_item}
 use Rattle.scaled_simplex.proofs.Sweeps.{row_at-set_other, row_at-set_same}
 
 -- where there is one item, it is that
@@ -25,9 +26,6 @@ contains_first x xs = (0, omega arith, refl)
 
 contains_later : {X : Type 0} (x y : X) (xs : List X) → Contains xs y → Contains (x ∷ xs) y
 contains_later x y xs (k, within, is) = (suc k, omega (arith, within), is)
-
-no_item : {X : Type 0} (x : X) → Contains [] x → ⊥
-no_item x (k, within, is) = omega (arith, within)
 
 -- what is said of an item is said of its column
 contains_map : (row : List Entry) (entry : Entry) → Contains row entry
@@ -73,23 +71,17 @@ module _ (row index : ℕ) (lists : List (List ℕ)) (within : index < length li
   added_one = record {
     count_is = length-set lists index (row ∷ get_or lists index []);
     kept = λ i k has. elim (cases_eq i index) as (λ _. Contains (get_or grown i []) k) [
-      | inl same ↦ subst (λ n. Contains (get_or grown n []) k) (sym same)
-          (subst (λ l. Contains l k) (sym own_list)
-          (contains_later row k (get_or lists index [])
-          (subst (λ n. Contains (get_or lists n []) k) same has)))
-      | inr other ↦ subst (λ l. Contains l k) (sym (other_list i other)) has
+      | inl same ↦ rw (same, own_list)
+          (contains_later row k (get_or lists index []) (rw same at has))
+      | inr other ↦ rw (other_list i other) has
     ];
     added = λ i has below.
-        subst (λ n. Contains (get_or grown n []) row) (sym (one_item index i has))
-        (subst (λ l. Contains l row) (sym own_list)
-        (contains_first row (get_or lists index [])));
+        rw (one_item index i has, own_list) (contains_first row (get_or lists index []));
     small = λ i bound below all. elim (cases_eq i index)
         as (λ _. All (λ k. k < bound) (get_or grown i [])) [
-          | inl same ↦ subst (λ n. All (λ k. k < bound) (get_or grown n [])) (sym same)
-              (subst (All (λ k. k < bound)) (sym own_list)
-              (All-cons (λ k. k < bound) row (get_or lists index []) below
-              (subst (λ n. All (λ k. k < bound) (get_or lists n [])) same all)))
-          | inr other ↦ subst (All (λ k. k < bound)) (sym (other_list i other)) all
+          | inl same ↦ rw (same, own_list)
+              (All-cons (λ k. k < bound) row (get_or lists index []) below (rw same at all))
+          | inr other ↦ rw (other_list i other) all
         ];
   }
 
@@ -114,7 +106,7 @@ pub added_index : (row : ℕ) (indices : List ℕ) (k d : ℕ) (old middle new :
     → AreAdded row (get_or indices k d ∷ []) middle new
     → AreAdded row (take (k + 1) indices) old new
 added_index row indices k d old middle new within first second =
-    subst (λ l. AreAdded row l old new) (sym (take_more indices k d within))
+    rw (take_more indices k d within)
     (added_more row (get_or indices k d) (take k indices) old middle new first second)
 
 pub added_all : (row : ℕ) (indices : List ℕ) (old new : List (List ℕ))
@@ -123,34 +115,20 @@ added_all row indices old new added =
     subst (λ l. AreAdded row l old new) (take_all (length indices) indices (omega arith)) added
 
 -- the same of the columns of entries
-map_take : (entries : List Entry) (k : ℕ)
-    → map column_of (take k entries) ≡ take k (map column_of entries)
-map_take entries zero = refl
-map_take [] (suc k) = refl
-map_take (entry ∷ entries) (suc k) = ap (λ l. entry.column ∷ l) (map_take entries k)
-
-map_append : (xs ys : List Entry) → map column_of (xs ++ ys) ≡ map column_of xs ++ map column_of ys
-map_append [] ys = refl
-map_append (x ∷ xs) ys = ap (λ l. x.column ∷ l) (map_append xs ys)
-
 pub added_entry : (row : ℕ) (entries : List Entry) (k : ℕ) (d : Entry)
     (old middle new : List (List ℕ)) → k < length entries
-    → AreAdded row (map column_of (take k entries)) old middle
+    → AreAdded row (take k (map column_of entries)) old middle
     → AreAdded row ((get_or entries k d).column ∷ []) middle new
-    → AreAdded row (map column_of (take (k + 1) entries)) old new
+    → AreAdded row (take (k + 1) (map column_of entries)) old new
 added_entry row entries k d old middle new within first second =
-    subst (λ l. AreAdded row l old new)
-    (sym (ap (map column_of) (take_more entries k d within)
-    ∙ map_append (take k entries) (get_or entries k d ∷ [])))
-    (added_more row (get_or entries k d).column (map column_of (take k entries)) old middle new
-    first second)
+    added_index row (map column_of entries) k 0 old middle new (rw length-map within) first
+    (rw (get_or-map column_of entries k d 0 within) second)
 
 pub added_entries : (row : ℕ) (entries : List Entry) (old new : List (List ℕ))
-    → AreAdded row (map column_of (take (length entries) entries)) old new
+    → AreAdded row (take (length entries) (map column_of entries)) old new
     → AreAdded row (map column_of entries) old new
 added_entries row entries old new added =
-    subst (λ l. AreAdded row (map column_of l) old new)
-    (take_all (length entries) entries (omega arith)) added
+    added_all row (map column_of entries) old new (rw length-map added)
 
 -- the lists of no rows
 pub none_listed : (rows : List (List Entry)) (indices : ℕ)
@@ -164,13 +142,11 @@ none_listed rows indices = record {
     by : (index : ℕ) → (index < indices) ⊎ (indices ≤ index)
         → All (λ k. k < 0) (get_or (replicate indices []) index [])
     by index (inl below) =
-        subst (All (λ k. k < 0)) (sym (get_or-replicate indices index [] [] below))
-        (All-nil (λ k. k < 0))
+        rw (get_or-replicate {A = List ℕ} indices index [] [] below) (All-nil (λ k. k < 0))
     by index (inr past) =
         let lists : List (List ℕ) = replicate indices [] in
         let count : length lists ≡ indices = length-replicate indices [] in
-        subst (All (λ k. k < 0)) (sym (get_or_past (replicate indices []) index []
-        (omega (arith, past, count))))
+        rw (get_or_past {X = List ℕ} lists index [] (omega (arith, past, count)))
         (All-nil (λ k. k < 0))
 
 -- a row more
@@ -185,13 +161,12 @@ listed_more rows row indices old new is listed added = record {
         | inl before ↦ added.kept index k (listed.each k index before within some)
         | inr past ↦
             let same : k ≡ row = omega (arith, below, past) in
-            subst (λ n. Contains (get_or new index []) n) (sym same)
+            rw same
             (added.added index
             (contains_map (row_at rows row) (record {
               column = index;
               value = entry_at (row_at rows row) index;
-            }) (entry_found (row_at rows row) index is
-            (subst (λ n. entry_at (row_at rows n) index ≢ pos 0) same some)))
+            }) (entry_found (row_at rows row) index is (rw same at some)))
             (let count = listed.count_is in omega (arith, within, count)))
       ];
   small = λ index. added.small index (row + 1) (omega arith)
@@ -238,21 +213,15 @@ module _ (rows new : List (List Entry)) (row count indices : ℕ) (made : List E
       by false has = added.kept index row (listed.each row index below small
           (λ none. no_both ((Decides-int_eq (entry_at (row_at rows row) index) (pos 0)).1 none)
           has))
-        where
-          no_both : {b : Bool} → b ≡ true → b ≡ false → ⊥
-          no_both yes_it no_it = let e : true ≡ false = sym yes_it ∙ no_it in let g : ⊥ = cc in g
 
   pub listed_set : AreListed new count indices lists
   listed_set = record {
     count_is = added.count_is ∙ listed.count_is;
     each = λ k index small inside some. elim (cases_eq k row)
         as (λ _. Contains (get_or lists index []) k) [
-          | inl same ↦ subst (λ n. Contains (get_or lists index []) n) (sym same)
-              (own_listed index inside
-              (subst (λ l. entry_at l index ≢ pos 0)
-              (ap (row_at new) same ∙ own_row) some))
+          | inl same ↦ rw same (own_listed index inside (rw (same, own_row) at some))
           | inr other ↦ added.kept index k (listed.each k index small inside
-              (subst (λ l. entry_at l index ≢ pos 0) (other_row k other) some))
+              (rw (other_row k other) at some))
         ];
     small = λ index. added.small index count below (listed.small index);
   }
@@ -270,23 +239,15 @@ listed_left rows count indices index row lists below within alone listed = recor
         | inl same ↦
             let it : k ≡ row = alone_is k small
             (subst (λ n. entry_at (row_at rows k) n ≢ pos 0) same some) in
-            subst (λ n. Contains (get_or (set lists index (row ∷ [])) n []) k) (sym same)
-            (subst (λ l. Contains l k)
-            (sym (get_or-set_same lists index (row ∷ []) [] there))
-            (subst (λ n. Contains (row ∷ []) n) (sym it) (contains_first row [])))
-        | inr other ↦ subst (λ l. Contains l k)
-            (sym (get_or-set_other lists index i (row ∷ []) [] other))
+            rw (same, get_or-set_same lists index (row ∷ []) [] there, it) (contains_first row [])
+        | inr other ↦ rw (get_or-set_other lists index i (row ∷ []) [] other)
             (listed.each k i small inside some)
       ];
   small = λ i. elim (cases_eq i index)
       as (λ _. All (λ k. k < count) (get_or (set lists index (row ∷ [])) i [])) [
-        | inl same ↦ subst (λ n. All (λ k. k < count) (get_or (set lists index (row ∷ [])) n []))
-            (sym same)
-            (subst (All (λ k. k < count))
-            (sym (get_or-set_same lists index (row ∷ []) [] there))
-            (All-cons (λ k. k < count) row [] below (All-nil (λ k. k < count))))
-        | inr other ↦ subst (All (λ k. k < count))
-            (sym (get_or-set_other lists index i (row ∷ []) [] other)) (listed.small i)
+        | inl same ↦ rw (same, get_or-set_same lists index (row ∷ []) [] there)
+            (All-cons (λ k. k < count) row [] below (All-nil (λ k. k < count)))
+        | inr other ↦ rw (get_or-set_other lists index i (row ∷ []) [] other) (listed.small i)
       ];
 }
   where

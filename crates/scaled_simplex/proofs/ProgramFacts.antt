@@ -1,7 +1,7 @@
 -- Programs that grow.
 use Rattle.std.proofs.Common.{◌+◌, ◌<◌, [], ◌∷◌, ◌++◌, length, arith}
 use Rattle.std.proofs.lemmas.List.{length_push}
-use Rattle.std.proofs.lemmas.List.Elements.{All-append, All-cons, All-nil}
+use Rattle.std.proofs.lemmas.List.Elements.{All-push}
 use Rattle.scaled_simplex.specs.Program.{Constraint, IsConstraint, IsProblem, Problem, columns, most_indices}
 
 -- one constraint more
@@ -16,9 +16,7 @@ pub problem_more : (problem : Problem) (constraint : Constraint) → IsProblem p
 problem_more problem constraint is more few = record {
   costs = is.costs;
   constant = is.constant;
-  constraints = All-append (IsConstraint (columns problem)) problem.constraints
-      (constraint ∷ []) is.constraints
-      (All-cons (IsConstraint (columns problem)) constraint [] more
-      (All-nil (IsConstraint (columns problem))));
+  constraints = All-push (IsConstraint (columns problem)) problem.constraints constraint
+      is.constraints more;
   few = omega (arith, few, length_push problem.constraints constraint);
 }

@@ -92,13 +92,7 @@ module _ (problem : Problem) where
         by true = cost_row_tells tableau Cut lawful refl
         by false = leaving_iteration (leaving problem tableau) refl
 
-    -- where an iteration ends the run, its row tells
-    pub lawful_tells : (cutoff : Option ℤ) (end : End) (row : ℕ)
-        → iteration_of problem cutoff tableau ≡ Ends end row
-        → IsJustified problem (record { end = end; row = row_at tableau.rows row })
-    lawful_tells cutoff end row is = subst (IsIteration tableau) is (iteration_is cutoff)
-
-    -- and where it pivots, they are the leaving row and the entering index
+    -- where an iteration pivots, its two numbers are the leaving row and the entering index
     pub iteration_pivots : (cutoff : Option ℤ) (leaves enters : ℕ)
         → iteration_of problem cutoff tableau ≡ Pivots leaves enters
         → (leaving problem tableau ≡ Some leaves)

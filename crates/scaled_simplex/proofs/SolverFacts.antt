@@ -1,7 +1,5 @@
 -- A run from the first tableau on.
-use Rattle.std.proofs.Common.{◌≡◌, ℕ, ◌+◌, false, [], ◌∷◌, ◌++◌, map, Option, Some, None, ℤ, pos, ◌<ℤ◌, sym, subst, arith}
-use Rattle.std.specs.List.{range_with_len}
-use Rattle.std.proofs.lemmas.List.FromFn.{map-range_with_len_more}
+use Rattle.std.proofs.Common.{◌≡◌, ℕ, false, Option, Some, None, ℤ, pos, ◌<ℤ◌, sym, subst}
 use Rattle.scaled_simplex.specs.declared.board.Board.{Board}
 use Rattle.scaled_simplex.specs.declared.end.End.TheVariants.{Optimal, Wide}
 use Rattle.scaled_simplex.specs.declared.ending.Ending.{Ending}
@@ -10,7 +8,7 @@ use Rattle.scaled_simplex.specs.BoardOf.{tableau_of}
 use Rattle.scaled_simplex.specs.Derived.{IsDerived}
 use Rattle.scaled_simplex.specs.Multipliers.{IsJustified}
 use Rattle.scaled_simplex.specs.Program.{Problem}
-use Rattle.scaled_simplex.specs.Run.{Outcome, is_infeasible, multiplier_in, weight_in}
+use Rattle.scaled_simplex.specs.Run.{Outcome, is_infeasible, weight_in}
 use Rattle.scaled_simplex.specs.Solving.{IsFirst, IsRan, IsSolver}
 use Rattle.scaled_simplex.specs.Steps.{IsTelling}
 use Rattle.scaled_simplex.proofs.BasicRows.{first_basic}
@@ -57,14 +55,6 @@ module _ (problem : Problem) (cells : ℕ) (held : Option Board) (is : IsSolver 
             first_is_lawful);
         last = telling.last;
       }
-
--- a multiplier more
-pub multipliers_more : (problem : Problem) (outcome : Outcome) (k : ℕ)
-    → map (multiplier_in problem outcome) (range_with_len 0 k)
-    ++ multiplier_in problem outcome k ∷ []
-    ≡ map (multiplier_in problem outcome) (range_with_len 0 (k + 1))
-multipliers_more problem outcome k =
-    sym (map-range_with_len_more (multiplier_in problem outcome) 0 k k (omega arith))
 
 -- the weight, where the run didn't end Infeasible
 pub weight_above : (problem : Problem) (outcome : Outcome) → IsJustified problem outcome

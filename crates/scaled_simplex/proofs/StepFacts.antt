@@ -157,18 +157,6 @@ module _ (problem : Problem) (cutoff : Option ℤ) (left : ℕ) (old : Board)
         (sym so.costs) (uncut_below problem cutoff (tableau_of old) end so.uncut);
   }
 
-  -- no pivot is left
-  pub limit_told : (row index : ℕ) → iteration_of problem cutoff (tableau_of old) ≡ Pivots row index
-      → left ≡ 0 → IsTelling problem old.arena.cells cutoff left (tableau_of old) old
-      (record { end = Limit; row = length problem.constraints })
-  limit_told row index iteration none = record {
-    outcome = sym (ap (λ n. run_from problem old.arena.cells cutoff n (tableau_of old)) none
-        ∙ run_stops problem old.arena.cells cutoff (tableau_of old) row index iteration);
-    within = let count = is.rows in omega (arith, count);
-    last = λ e. absurd (let other : Limit ≡ Optimal = e in cc);
-    below = λ e. absurd (let other : Limit ≡ Optimal = e in cc);
-  }
-
   module _ (new : Board) (row index : ℕ)
       (iteration : iteration_of problem cutoff (tableau_of old) ≡ Pivots row index)
       (some : 0 < left) where

@@ -4,7 +4,7 @@ use Rattle.std.specs.List.{Contains}
 use Rattle.std.specs.Ordering.{int_eq}
 use Rattle.std.proofs.lemmas.Bool.{cases_eq, eq-eqb, ne_eqb}
 use Rattle.std.proofs.lemmas.Bool.Decides.{Decides-int_eq}
-use Rattle.std.proofs.lemmas.List.{drop_all, drop_more}
+use Rattle.std.proofs.lemmas.List.{drop_all, drop_more, get_or_default}
 use Rattle.row_arena.specs.declared.entry.Entry.{Entry}
 use Rattle.row_arena.specs.declared.wide.Wide.{Wide}
 use Rattle.row_arena.specs.Arena.{combined, row_at}
@@ -12,23 +12,12 @@ use Rattle.row_arena.specs.Rows.{entry_at}
 use Rattle.scaled_simplex.specs.Program.{Problem}
 use Rattle.scaled_simplex.specs.Run.{is_swept, swept, swept_after, swept_at}
 use Rattle.row_arena.specs.Combining.{cleared}
+use Rattle.scaled_simplex.proofs.ListFacts.{no_both, no_item}
 use Rattle.scaled_simplex.proofs.Sweeps.{combined_is, row_at-set_other}
-
-no_both : {b : Bool} → b ≡ true → b ≡ false → ⊥
-no_both is isnt = let e : true ≡ false = sym is ∙ isnt in let g : ⊥ = cc in g
-
-no_item : (x : ℕ) → Contains [] x → ⊥
-no_item x (k, within, is) = omega (arith, within)
 
 not_first : (x y : ℕ) (xs : List ℕ) → y ≢ x → Contains (x ∷ xs) y → Contains xs y
 not_first x y xs other (zero, within, is) = absurd (other (sym is))
 not_first x y xs other (suc k, within, is) = (k, omega (arith, within), is)
-
--- an item that is there is the same whatever stands past the end
-get_or_any : (xs : List ℕ) (k d e : ℕ) → k < length xs → get_or xs k d ≡ get_or xs k e
-get_or_any [] k d e within = absurd (omega (arith, within))
-get_or_any (x ∷ xs) zero d e within = refl
-get_or_any (x ∷ xs) (suc k) d e within = get_or_any xs k d e (omega (arith, within))
 
 -- where numbers ascend, the first that is left is the least that is left
 from_drop : (xs : List ℕ) (p d i : ℕ) → p < length xs → AllPairs (λ a b. a < b) xs
@@ -78,7 +67,7 @@ module _ (problem : Problem) (cells pivot index : ℕ) where
           rest changed ∙ ap (λ n. onward second n (sweep (k + 1) first changed)) at
 
   -- the other rows are as before
-  pub swept_others : (rows changed : List (List Entry)) (k : ℕ)
+  swept_others : (rows changed : List (List Entry)) (k : ℕ)
       → swept_at problem cells pivot index rows k ≡ Ok changed → (i : ℕ) → i ≢ k
       → row_at changed i ≡ row_at rows i
   swept_others rows changed k is i other = by (is_swept problem rows pivot index k) is
@@ -160,19 +149,7 @@ module _ (problem : Problem) (cells pivot index : ℕ) where
     pub rest : (k : ℕ) → next ≤ k → k < length problem.constraints → k ≢ pivot
         → entry_at (row_at now k) index ≢ pos 0 → Contains (drop p todo) k
 
-  pub none_swept : (todo : List ℕ) (start : List (List Entry))
-      → ((k : ℕ) → k < length problem.constraints → entry_at (row_at start k) index ≢ pos 0
-      → Contains todo k)
-      → IsSweepTo todo 0 start start
-  none_swept todo start all = record {
-    next = 0;
-    done = refl;
-    within = omega arith;
-    later = λ j d from below. omega arith;
-    rest = λ k from below other some. all k below some;
-  }
-
-  module _ (todo : List ℕ) (p : ℕ) (start now : List (List Entry))
+  module _ {todo : List ℕ} {p : ℕ} {start now : List (List Entry)}
       (swept_to : IsSweepTo todo p start now) where
     -- no row before a number is left
     gap : (k : ℕ) → swept_to.next ≤ k → k ≤ length problem.constraints
@@ -244,24 +221,22 @@ module _ (problem : Problem) (cells pivot index : ℕ) where
 
       pub swept_more : (changed : List (List Entry))
           → swept_at problem cells pivot index now here ≡ Ok changed
-          → ((i : ℕ) → i ≢ here → row_at changed i ≡ row_at now i)
           → IsSweepTo todo (p + 1) start changed
-      swept_more changed is others = record {
+      swept_more changed is = record {
         next = here + 1;
         done = past_here (Ok changed) is;
         within = let small_here = here_small in omega (arith, small_here);
         later = λ j e from below.
             let less = ascending p j e (omega (arith, from)) below in
-            let same : get_or todo p e ≡ here = get_or_any todo p e d inside in
+            let same : get_or todo p e ≡ here = get_or_default todo p e d inside in
             omega (arith, less, same);
         rest = λ k from below other some.
             let apart : k ≢ here = λ same. omega (arith, from, same) in
             let left = swept_to.rest k
             (let early = swept_to.later p d (omega arith) inside in omega (arith, from, early))
             below other
-            (subst (λ (r : List Entry). entry_at r index ≢ pos 0) (others k apart) some) in
-            not_first here k (drop (p + 1) todo) apart
-            (subst (λ l. Contains l k) left_is left);
+            (rw (swept_others now changed here is k apart) at some) in
+            not_first here k (drop (p + 1) todo) apart (rw left_is at left);
       }
 
     pub swept_all : length todo ≤ p → sweep 0 (length problem.constraints) start ≡ Ok now

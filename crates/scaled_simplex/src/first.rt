@@ -166,7 +166,7 @@ fn write_costs(row: &mut Vec<Entry>, program: &Program) -> Result<(), OutOfMemor
 }
 
 // Pushes for each column what it costs, with its sign turned.
-#[tactic(auto, using(crate::proofs::FirstBoardFacts::cost_near))]
+#[tactic(auto, using(crate::proofs::FirstBoardFacts::cost_near, exact_sums::proofs::LoopFacts::numbers_all))]
 fn push_costs(row: &mut Vec<Entry>, program: &Program) -> Result<(), OutOfMemory>
     requires valid { IsProblem program.now }
     requires none { row.old.items ≡ [] }

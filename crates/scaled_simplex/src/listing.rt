@@ -21,7 +21,7 @@ pub fn list_rows(lists: &mut RowLists, arena: &RowArena, rows: u32)
 }
 
 // Adds the row to the lists of its entries.
-#[tactic(auto, using(crate::proofs::ListedFacts::none_added, crate::proofs::ListedFacts::added_entry, crate::proofs::ListedFacts::added_entries))]
+#[tactic(auto, using(crate::proofs::ListedFacts::none_added, crate::proofs::ListedFacts::added_entries))]
 fn add_entries(lists: &mut RowLists, row: u32, entries: &[Entry])
     requires room { lists.old.count + length entries.now ≤ lists.old.room }
     ensures added { AreAdded row (map column_of entries.now) lists.old.rows lists.new.rows }
@@ -33,8 +33,9 @@ fn add_entries(lists: &mut RowLists, row: u32, entries: &[Entry])
     }
 }
 
-/// Lists the row, of which so much is new: it is added to the lists of these indices, as far as they
-/// have one. Where there is no room for that, the lists are made anew, of the first so many rows.
+/// Lists the row that was combined last: it is added to the lists of the indices at which that gave
+/// it an entry, as far as they have one. Where there is no room for that, the lists are made anew,
+/// of the first so many rows.
 pub fn list_row(lists: &mut RowLists, arena: &RowArena, rows: u32, row: u32)
     requires rows { rows ≤ length arena.now.rows }
     requires room { arena.now.cells ≤ lists.old.room }

@@ -1,11 +1,11 @@
 //! A pivot.
-ghost use Rattle.std.specs.Prelude.{◌≡◌, ◌≢◌, ◌<◌, ◌<ℤ◌, ◌+◌, Err, IfErr, Ok, OnErr, OnOk, Some, int_lt, length, pos, set};
+ghost use Rattle.std.specs.Prelude.{◌≡◌, ◌<◌, ◌+◌, Err, IfErr, Ok, OnErr, OnOk, Some, int_lt, length, pos, set};
 ghost use Rattle.scaled_simplex.specs.Tableau.{right_side};
 ghost use Rattle.row_arena.specs.Arena.{combined, row_at};
 ghost use Rattle.row_arena.specs.Rows.{entry_at, negated};
 ghost use Rattle.scaled_simplex.specs.Board.{IsBasic};
 ghost use Rattle.scaled_simplex.specs.BoardOf.{CanSweep, IsAlone, IsBoard, IsChosen, IsTodo, KeepsBoard, tableau_of};
-ghost use Rattle.scaled_simplex.specs.Run.{pivoted, right_at, swept, swept_at};
+ghost use Rattle.scaled_simplex.specs.Run.{pivoted, swept, swept_at};
 
 use crate::board::Board;
 use crate::listing::{list_row, list_rows, write_sorted};
@@ -94,22 +94,25 @@ fn find_todo(board: &mut Board, program: &Program, index: u32)
     write_sorted(&board.lists, index, &mut board.todo);
 }
 
-// The row is turned round, and stands for the index.
-#[tactic(auto, using(crate::proofs::BoardFacts::index_small))]
+// The row that leaves is turned round, and stands for the index that enters.
+#[tactic(auto, using(crate::proofs::BoardFacts::index_small, crate::proofs::TodoFacts::costs_after))]
 fn turn_round(board: &mut Board, program: &Program, row: u32, index: u32)
     requires board { IsBoard program.now board.old }
     requires basic { IsBasic program.now (tableau_of board.old) }
+    requires chosen { IsChosen program.now (tableau_of board.old) row index }
     requires row { row < length program.now.constraints }
-    requires leaves { right_at program.now (tableau_of board.old) row <ℤ pos 0 }
     requires index { index < right_side program.now }
-    requires enters { entry_at (row_at board.old.arena.rows row) index <ℤ pos 0 }
+    requires todo { IsTodo program.now index board.old.arena.rows board.old.todo.items }
     ensures rows { board.new.arena.rows
         ≡ set board.old.arena.rows row (negated (row_at board.old.arena.rows row)) }
     ensures cells { board.new.arena.cells ≡ board.old.arena.cells }
     ensures basis { board.new.basis.index_of.items
         ≡ set board.old.basis.index_of.items row index }
-    ensures todo { board.new.todo ≡ board.old.todo }
     ensures board { IsBoard program.now board.new }
+    ensures can { CanSweep program.now row index board.new }
+    ensures todo { IsTodo program.now index board.new.arena.rows board.new.todo.items }
+    ensures costs { row_at board.new.arena.rows (length program.now.constraints)
+        ≡ row_at board.old.arena.rows (length program.now.constraints) }
 {
     board.arena.negate(row);
     board.basis.put_sign(row, false);
@@ -174,6 +177,7 @@ fn leave_row(board: &mut Board, program: &Program, row: u32, index: u32)
 /// Turns the row that leaves round and lets it stand for the index that enters, and clears all
 /// others there. Where a number or the number of entries passes what there is room for, the cost
 /// row is as before.
+#[tactic(auto, using(crate::proofs::TodoFacts::alone_after))]
 pub fn pivot(board: &mut Board, program: &Program, row: u32, index: u32) -> Result<(), Wide>
     requires board { IsBoard program.now board.old }
     requires basic { IsBasic program.now (tableau_of board.old) }

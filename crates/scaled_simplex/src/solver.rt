@@ -62,8 +62,8 @@ impl<'a> Solver<'a> {
     ghost use Rattle.scaled_simplex.specs.Run.{simplex_run};
     ghost use Rattle.scaled_simplex.specs.declared.end.End.TheVariants.{Optimal};
 
-    /// The first tableau of the program. It takes 118 bytes for each of the cells, of which it touches
-    /// some 24 for each of its entries, and 24 for each index.
+    /// The first tableau of the program. It takes 118 bytes for each of the cells, of which it
+    /// touches some 24 for each of its entries, and 24 for each index.
     pub fn new(alloc: Global, program: &'a Program, cells: u32) -> Result<Solver<'a>, OutOfMemory>
         ensures { IfOk result (λ solver. solver
             ≡ record { problem = program.now; cells = cells }) }
@@ -169,7 +169,7 @@ impl<'a> Run<'a> {
     }
 
     // The multipliers of the constraints.
-    #[tactic(auto, using(crate::proofs::SolverFacts::multipliers_more))]
+    #[tactic(auto, using(exact_sums::proofs::LoopFacts::numbers_none))]
     fn factors(&self, alloc: Global) -> Result<Factors, OutOfMemory>
         ensures rows { IfOk result (λ rows.
             rows ≡ multipliers_of self.now.problem self.now.outcome) }

@@ -324,7 +324,8 @@ module _ (periods : ℕ) (places : List Place) (tables : List CostTable) (flight
       ∙ ap (with_legs flight)
       (legs_back nodes route.different flight.legs route.each_leg))
 
-pub prices_low : (tables : List CostTable) (mg md : ℕ) (cost : Cost) → is_cost tables mg md cost ≡ true
+pub prices_low : (tables : List CostTable) (mg md : ℕ) (cost : Cost) → is_cost tables mg md cost
+    ≡ true
     → (on_ground_of cost ≤ most_period_cost) × (airborne_of cost ≤ most_period_cost)
 prices_low tables mg md (Linear on_ground airborne) is =
     let both = and_parts (nat_le on_ground most_period_cost) (nat_le airborne most_period_cost) is

@@ -119,7 +119,8 @@ module _ (parts : Parts) (valid : IsScenario parts) where
       (first_holds P flight flights follow) in
       let drafts = done ++ one.0 ∷ [] in
       let drafted_now = drafts_push done before one.0 flight drafted one.1 in
-      let turned = standing_lead parts valid front flights are_now drafts drafted_now (count + 1) now
+      let turned = standing_lead parts valid front flights are_now drafts drafted_now (count + 1)
+      now
       (at + length own) joined left so_far in
       let so_far_now : parts.connections ≡ (joined ++ stand) ++ waiting (count + 1) left =
       so_far ∙ ap (λ (cs : List Connection). joined ++ cs) (sym (standing_waiting (count + 1) left))

@@ -1,5 +1,5 @@
--- That boxes are made for a scenario has one proof at most, as a fact that a struct keeps has to. No
--- public clause cites this.
+-- That boxes are made for a scenario has one proof at most, as a fact that a struct keeps has to.
+-- No public clause cites this.
 use Rattle.std.specs.Prelude.{Option, None, Some}
 use Rattle.std.specs.Coded.{×_prop, Unit-prop, le_prop}
 use Rattle.std.proofs.Props as std

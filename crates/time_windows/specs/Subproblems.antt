@@ -1,4 +1,4 @@
--- The scenario and the box of a subproblem. No public clause cites these.
+-- The scenario and the box of a subproblem, as the clauses of all crates above cite them.
 use Rattle.flow_types.specs.declared.parts.Parts.{Parts}
 use Rattle.flow_types.specs.Scenario.{parts_of}
 use Rattle.time_windows.specs.Boxes.{Box}

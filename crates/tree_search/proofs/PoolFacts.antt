@@ -1,9 +1,7 @@
 -- The pool of a search: the point is turned back column by column, and the cuts that it exceeds are
 -- a pool.
-use Rattle.std.proofs.Common.{◌≡◌, ◌∙◌, ℕ, ◌+◌, ◌<◌, ◌≤◌, Bool, true, false, List, [], ◌∷◌, ◌++◌, length, map, slice_index_or, All, AllPairs, Option, None, Some, IfSome, ℤ, pos, refl, sym, ap, subst, arith}
-use Rattle.std.specs.List.{range_with_len}
+use Rattle.std.proofs.Common.{◌≡◌, ◌∙◌, ℕ, ◌<◌, ◌≤◌, Bool, true, false, List, [], ◌∷◌, length, slice_index_or, All, AllPairs, Option, None, Some, IfSome, ℤ, pos, refl, sym, ap, subst, arith}
 use Rattle.std.proofs.lemmas.Int.{ints}
-use Rattle.std.proofs.lemmas.List.FromFn.{map-range_with_len_more}
 use Rattle.std.proofs.lemmas.List.{length-take}
 use Rattle.std.proofs.lemmas.List.FromFn.{get_or-map-range_with_len, length-map-range_with_len}
 use Rattle.exact_sums.proofs.ShortLists.{no_pairs}
@@ -30,30 +28,6 @@ use Rattle.tree_search.specs.Pools.{IsFirstPool, cuts_by, free_point, turned_at}
 use Rattle.relaxed_bound.specs.declared.leaf.Relaxed.{Relaxed}
 use Rattle.tree_search.specs.Seen.{IsBranchOf, IsRelaxedIn}
 use Rattle.tree_search.proofs.SeenFacts.{branch_choice}
-
--- the numerators of the first so many columns
-pub record AreTurned (point : Point) (count : ℕ) (numerators : List ℤ) : Type 0 where
-  pub are : numerators ≡ map (turned_at point) (range_with_len 0 count)
-
-pub turned_none : (point : Point) → AreTurned point 0 []
-turned_none point = record { are = refl }
-
-pub turned_more : (point : Point) (count : ℕ) (old new : List ℤ) → AreTurned point count old
-    → new ≡ old ++ turned_at point count ∷ [] → AreTurned point (count + 1) new
-turned_more point count old new before one = record {
-  are = one ∙ ap (λ list. list ++ turned_at point count ∷ []) before.are
-      ∙ sym (map-range_with_len_more (turned_at point) 0 count count (omega arith));
-}
-
-pub turned_all : (point : Point) (count : ℕ) (numerators : List ℤ)
-    → AreTurned point count numerators
-    → length point.numerators ≤ count → count ≤ length point.numerators
-    → numerators ≡ map (turned_at point) (range_with_len 0 (length point.numerators))
-turned_all point count numerators turned past upto =
-    turned.are ∙ ap (λ n. map (turned_at point) (range_with_len 0 n)) same
-  where
-    same : count ≡ length point.numerators
-    same = omega (arith, past, upto)
 
 -- turned back, they are a point of the box
 turned_within : (denominator numerator : ℤ) (flip : Bool) → IsNumerator denominator numerator

@@ -52,10 +52,11 @@ Tells parts box rooms Ascent bound = IsPricedBound parts box climb_weight rooms.
 Tells parts box rooms Closing bound = (bound ≡ NoPlan) × HasNone parts box rooms.ascent.best
 
 -- what the kept prices of a climb tell
-pub record IsClimbed (parts : Parts) (box : Box) (prices : PriceTable) (bound : Bound) : Type 0 where
-  pub told : IsPricedBound parts box climb_weight prices bound
-  pub near : IsNearBound bound
-  pub placed : ArePlaced parts prices
+pub record IsClimbed (parts : Parts) (box : Box) (prices : PriceTable) (bound : Bound) : Type 0
+  where
+    pub told : IsPricedBound parts box climb_weight prices bound
+    pub near : IsNearBound bound
+    pub placed : ArePlaced parts prices
 
 pub record IsToldBy (parts : Parts) (box : Box) (rooms : PriceRooms) (priced : Priced)
     : Type 0 where

@@ -1,5 +1,5 @@
--- The greedy plan of a box, offered to what is written down, or it was stuck; and any plan of a box.
--- No public clause cites these.
+-- The greedy plan of a box, offered to what is written down, or it was stuck; and any plan of a
+-- box. No public clause cites these.
 use Rattle.std.specs.Prelude.{◌≡◌, ◌⊎◌, ℕ, List}
 use Rattle.flow_types.specs.declared.parts.Parts.{Parts}
 use Rattle.flow_types.specs.declared.plan.Stop.{Stop}

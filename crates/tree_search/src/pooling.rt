@@ -162,7 +162,7 @@ fn is_flipped(flips: &[bool], column: usize) -> bool
 }
 
 // The numerators with those of flipped columns turned back.
-#[tactic(auto, using(crate::proofs::PoolFacts::turned_none, crate::proofs::PoolFacts::turned_all))]
+#[tactic(auto, using(exact_sums::proofs::LoopFacts::numbers_none, exact_sums::proofs::LoopFacts::numbers_mapped))]
 fn turned_of(alloc: Global, point: &Point) -> Result<Numerators, OutOfMemory>
     requires point { AreFractions point.now }
     ensures { IfOk result (λ numerators. numerators

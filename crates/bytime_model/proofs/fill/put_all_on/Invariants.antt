@@ -1,7 +1,10 @@
+use Rattle.std.proofs.Common.{take}
+use Rattle.std.specs.List.{flat_map}
 use Rattle.bytime_model.specs.Rows.{on_term}
 use Rattle.bytime_model.proofs.FillFacts.{IsFilled}
 use Rattle.bytime_model.proofs.fill.put_all_on.Given as goal
 
 abbrev pub invariant-loop-leg : goal.invariant-loop-leg
 invariant-loop-leg l =
-    IsFilled (on_term l.number l.node l.time) l.legs l.leg-index l.initial.buffer l.buffer
+    IsFilled (flat_map (on_term l.number l.node l.time) (take l.leg-index l.legs)) l.leg-index
+    l.initial.buffer l.buffer

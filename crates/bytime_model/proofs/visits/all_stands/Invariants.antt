@@ -1,7 +1,7 @@
-use Rattle.std.proofs.Common.{◌≡◌, take}
-use Rattle.bytime_model.specs.Rows.{over_flights}
+use Rattle.std.proofs.Common.{[]}
+use Rattle.exact_sums.proofs.LoopFacts.{AreOfNumbered}
 use Rattle.bytime_model.specs.Visits.{stands_of}
 use Rattle.bytime_model.proofs.visits.all_stands.Given as goal
 
 abbrev pub invariant-loop-number : goal.invariant-loop-number
-invariant-loop-number l = l.stands ≡ over_flights stands_of 0 (take l.number l.flights)
+invariant-loop-number l = AreOfNumbered stands_of l.flights l.number [] l.stands

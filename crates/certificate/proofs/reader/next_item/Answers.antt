@@ -11,5 +11,6 @@ returns-clause-refused g c =
     c.args.next.now.number c.item_of_line.result c.in_ok-end.ensures.taken
     (c.in_ok-end.ensures.bounded c.requires.reading.within)
     (subst (λ bytes. Tells c.args.next.now.number c.item_of_line.result
-    (told_by (parts_of c.args.day.s.now) c.args.next.now.stage bytes c.in_ok-end.end)) c.deref.ensures.value
+    (told_by (parts_of c.args.day.s.now) c.args.next.now.stage bytes c.in_ok-end.end))
+    c.deref.ensures.value
     c.item_of_line.ensures)

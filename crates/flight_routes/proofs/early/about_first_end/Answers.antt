@@ -14,7 +14,8 @@ first_rated-rated-requires c = record {
 pub first_rated-rated-requires-2 : goal.first_rated-rated-requires-2
 first_rated-rated-requires-2 c = record {
   end =
-      let last = window_last c.args.ways.rates.now.span (row_of c.args.ways.accesses.now) c.last_node.result
+      let last = window_last c.args.ways.rates.now.span (row_of c.args.ways.accesses.now)
+      c.last_node.result
       c.in-Some-window_at.arrives c.args.ways.ready.windows
       (sym c.window_at-2.ensures ∙ c.in-Some-window_at.is) in
       omega (arith, last.1, c.args.ways.ready.day.few);
@@ -22,7 +23,8 @@ first_rated-rated-requires-2 c = record {
 
 pub returns : goal.returns
 returns c =
-    let last = window_last c.args.ways.rates.now.span (row_of c.args.ways.accesses.now) c.last_node.result
+    let last = window_last c.args.ways.rates.now.span (row_of c.args.ways.accesses.now)
+    c.last_node.result
     c.in-Some-window_at.arrives c.args.ways.ready.windows
     (sym c.window_at-2.ensures ∙ c.in-Some-window_at.is) in
     omega (

@@ -21,24 +21,28 @@ relax_leg-requires-clause-leg c =
 
 pub relax_leg-requires-clause-costs : goal.relax_leg-requires-clause-costs
 relax_leg-requires-clause-costs c = λ n u after inside within.
-    cells_within c.args.ways.flight.now (row_of c.args.ways.accesses.now) (rates_of c.args.ways.rates.now)
+    cells_within c.args.ways.flight.now (row_of c.args.ways.accesses.now)
+    (rates_of c.args.ways.rates.now)
     c.args.ways.ready.network c.args.ways.ready.day.small (c.args.node + 1) c.args.cells.now
     c.requires.cells n u (omega arith) inside within
 
 pub loop-at-init : goal.loop-at-init
 loop-at-init c = λ t from to.
-    subst (IsLeast (IsWayAmong c.args.ways.flight.now c.args.legs.now 0 (row_of c.args.ways.accesses.now)
+    subst (IsLeast (IsWayAmong c.args.ways.flight.now c.args.legs.now 0
+    (row_of c.args.ways.accesses.now)
     (rates_of c.args.ways.rates.now) (stop_at c.args.node t))
     (entered_cost (rates_of c.args.ways.rates.now) (stop_at c.args.node t)))
     (sym (c.clear_row.ensures t from to))
-    (among_none c.args.ways.flight.now (row_of c.args.ways.accesses.now) (rates_of c.args.ways.rates.now)
+    (among_none c.args.ways.flight.now (row_of c.args.ways.accesses.now)
+    (rates_of c.args.ways.rates.now)
     c.args.ways.ready.network c.args.legs.now c.args.node t)
 
 pub loop-at-preserved : goal.loop-at-preserved
 loop-at-preserved c = λ t from to.
     let leg = slice_index_or c.args.legs.now c.loop-at.at
     (record { from = 0; to = 0; least = 0 }) in
-    among_next c.args.ways.flight.now (row_of c.args.ways.accesses.now) (rates_of c.args.ways.rates.now)
+    among_next c.args.ways.flight.now (row_of c.args.ways.accesses.now)
+    (rates_of c.args.ways.rates.now)
     c.args.ways.ready.network c.args.legs.now c.args.node t c.args.cells.now c.requires.cells leg
     (leg_at c.args.ways.flight.now c.args.ways.ready.network c.args.legs.now c.args.node
     c.requires.legs c.loop-at.at _ c.loop-at-test.true)
@@ -50,7 +54,8 @@ loop-at-preserved c = λ t from to.
 pub returns : goal.returns
 returns c = λ t from to.
     let same : c.loop-at.at ≡ length c.args.legs.now = omega arith in
-    among_is c.args.ways.flight.now (row_of c.args.ways.accesses.now) (rates_of c.args.ways.rates.now)
+    among_is c.args.ways.flight.now (row_of c.args.ways.accesses.now)
+    (rates_of c.args.ways.rates.now)
     c.args.ways.ready.network c.args.legs.now c.args.node t c.requires.legs c.requires.node
     (slice_index_or c.loop-at.row t None)
     (subst (λ (k : ℕ). IsLeast (IsWayAmong c.args.ways.flight.now c.args.legs.now k

@@ -9,6 +9,7 @@ use Rattle.flight_routes.proofs.fill.enter_row.Given as goal
 abbrev pub invariant-loop-at : goal.invariant-loop-at
 invariant-loop-at l =
     (t : ℕ) → l.fn.window.lo ≤ t → t ≤ l.fn.window.hi
-    → IsLeast (IsWayAmong l.ways.flight.now l.legs l.at (row_of l.ways.accesses.now) (rates_of l.ways.rates.now)
+    → IsLeast (IsWayAmong l.ways.flight.now l.legs l.at (row_of l.ways.accesses.now)
+    (rates_of l.ways.rates.now)
     (stop_at l.node t)) (entered_cost (rates_of l.ways.rates.now) (stop_at l.node t))
     (slice_index_or l.row t None)

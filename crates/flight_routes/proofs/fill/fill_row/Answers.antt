@@ -16,7 +16,9 @@ pub returns-then-from-items : goal.returns-then-from-items
 returns-then-from-items c = λ t from to.
     let last : c.args.node + 1 ≡ length c.args.ways.flight.now.nodes =
     omega (arith, ap length c.items.ensures) in
-    subst (IsCell c.args.ways.flight.now (row_of c.args.ways.accesses.now) (rates_of c.args.ways.rates.now)
+    subst (IsCell c.args.ways.flight.now (row_of c.args.ways.accesses.now)
+    (rates_of c.args.ways.rates.now)
     c.args.node t) (sym (c.arrive_row.ensures t from to))
-    (arrives_is c.args.ways.flight.now (row_of c.args.ways.accesses.now) (rates_of c.args.ways.rates.now)
+    (arrives_is c.args.ways.flight.now (row_of c.args.ways.accesses.now)
+    (rates_of c.args.ways.rates.now)
     c.args.ways.ready.network c.args.node t last)

@@ -26,7 +26,8 @@ lower_row-requires-clause-small c =
 
 pub lower_row-requires-clause-costs : goal.lower_row-requires-clause-costs
 lower_row-requires-clause-costs c = λ t from to.
-    entered_within c.args.ways.flight.now (row_of c.args.ways.accesses.now) (rates_of c.args.ways.rates.now)
+    entered_within c.args.ways.flight.now (row_of c.args.ways.accesses.now)
+    (rates_of c.args.ways.rates.now)
     c.args.ways.ready.network c.args.ways.ready.day.small c.args.node t
     (slice_index_or c.enter_row.new.row t None) (c.enter_row.ensures t from to)
 
@@ -36,10 +37,12 @@ returns c = λ t from to.
     c.args.window c.args.ways.ready.windows c.requires.window in
     let paid = part_at c.args.ways.rates.now.paid c.args.node (pos 0) c.paid_part.result.now
     c.paid_part.ensures.part t (omega (arith, to, last.1, c.args.ways.ready.day.few)) in
-    subst (IsCell c.args.ways.flight.now (row_of c.args.ways.accesses.now) (rates_of c.args.ways.rates.now)
+    subst (IsCell c.args.ways.flight.now (row_of c.args.ways.accesses.now)
+    (rates_of c.args.ways.rates.now)
     c.args.node t)
     (ap (λ (p : ℤ). raised (neg_ℤ p) (slice_index_or c.enter_row.new.row t None)) (sym paid)
     ∙ sym (c.lower_row.ensures t from to))
-    (entered_is c.args.ways.flight.now (row_of c.args.ways.accesses.now) (rates_of c.args.ways.rates.now)
+    (entered_is c.args.ways.flight.now (row_of c.args.ways.accesses.now)
+    (rates_of c.args.ways.rates.now)
     c.args.ways.ready.network c.args.node t (slice_index_or c.enter_row.new.row t None)
     (c.enter_row.ensures t from to))

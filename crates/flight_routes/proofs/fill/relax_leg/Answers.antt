@@ -11,23 +11,28 @@ use Rattle.flight_routes.proofs.fill.relax_leg.Goals as goal
 
 pub invariant_of-passage-clause-last : goal.invariant_of-passage-clause-last
 invariant_of-passage-clause-last c =
-    let last = window_last c.args.ways.rates.now.span (row_of c.args.ways.accesses.now) c.args.leg.to
+    let last = window_last c.args.ways.rates.now.span (row_of c.args.ways.accesses.now)
+    c.args.leg.to
     c.in-Some.next c.args.ways.ready.windows (sym c.window_at.ensures ∙ c.in-Some.is) in
     omega (arith, last.1, c.args.ways.ready.day.few)
 
 pub relax-requires-clause-end : goal.relax-requires-clause-end
 relax-requires-clause-end c =
-    let last = window_last c.args.ways.rates.now.span (row_of c.args.ways.accesses.now) c.args.origin.node
+    let last = window_last c.args.ways.rates.now.span (row_of c.args.ways.accesses.now)
+    c.args.origin.node
     c.args.origin.window c.args.ways.ready.windows c.requires.window in
     omega (arith, last.1, c.args.ways.ready.day.few)
 
 pub relax-requires-clause-kept : goal.relax-requires-clause-kept
 relax-requires-clause-kept c =
-    let last = window_last c.args.ways.rates.now.span (row_of c.args.ways.accesses.now) c.args.leg.to
+    let last = window_last c.args.ways.rates.now.span (row_of c.args.ways.accesses.now)
+    c.args.leg.to
     c.in-Some.next c.args.ways.ready.windows (sym c.window_at.ensures ∙ c.in-Some.is) in
-    let here = window_last c.args.ways.rates.now.span (row_of c.args.ways.accesses.now) c.args.origin.node
+    let here = window_last c.args.ways.rates.now.span (row_of c.args.ways.accesses.now)
+    c.args.origin.node
     c.args.origin.window c.args.ways.ready.windows c.requires.window in
-    part_clear c.args.ways.rates.now.span (rates_of c.args.ways.rates.now) c.args.origin.node c.args.origin.window.lo
+    part_clear c.args.ways.rates.now.span (rates_of c.args.ways.rates.now) c.args.origin.node
+    c.args.origin.window.lo
     c.in-Some.next.hi (clear_in c.clear_part.result.now)
     (c.args.ways.ready.clear c.args.origin.node
     (omega (arith, c.requires.leg.upward, c.requires.leg.within, c.if-leg-node.true))) here.2 last.1
@@ -48,7 +53,8 @@ pub invariant_of-passage-clause-costs : goal.invariant_of-passage-clause-costs
 invariant_of-passage-clause-costs c = λ u from to.
     let next = c.in-Some.next in
     let is = sym c.window_at.ensures ∙ c.in-Some.is in
-    let last = window_last c.args.ways.rates.now.span (row_of c.args.ways.accesses.now) c.args.leg.to
+    let last = window_last c.args.ways.rates.now.span (row_of c.args.ways.accesses.now)
+    c.args.leg.to
     next c.args.ways.ready.windows is in
     subst (λ (o : Option ℤ). IfSome o (IsNear (2 ^ 111)))
     (sym (part_at c.args.cells.now c.args.leg.to None c.part_of.result.now c.part_of.ensures.part u
@@ -61,11 +67,14 @@ pub returns-in-Some : goal.returns-in-Some
 returns-in-Some c = λ t from to.
     let next = c.in-Some.next in
     let is = sym c.window_at.ensures ∙ c.in-Some.is in
-    let last = window_last c.args.ways.rates.now.span (row_of c.args.ways.accesses.now) c.args.leg.to
+    let last = window_last c.args.ways.rates.now.span (row_of c.args.ways.accesses.now)
+    c.args.leg.to
     next c.args.ways.ready.windows is in
-    let end = window_last c.args.ways.rates.now.span (row_of c.args.ways.accesses.now) c.args.origin.node
+    let end = window_last c.args.ways.rates.now.span (row_of c.args.ways.accesses.now)
+    c.args.origin.node
     c.args.origin.window c.args.ways.ready.windows c.requires.window in
-    offers_by (row_of c.args.ways.accesses.now) (rates_of c.args.ways.rates.now) c.args.cells.now c.args.leg
+    offers_by (row_of c.args.ways.accesses.now) (rates_of c.args.ways.rates.now) c.args.cells.now
+    c.args.leg
     c.args.origin.node t (clear_in c.clear_part.result.now) (paid_in c.paid_part.result.now)
     (cell_in c.part_of.result.now)
     (part_at c.args.ways.rates.now.clear c.args.origin.node most_periods c.clear_part.result.now

@@ -20,17 +20,21 @@ use Rattle.flight_routes.proofs.fit_rates.set_fit_rates.Goals as goal
 pub first_leave-first-requires : goal.first_leave-first-requires
 first_leave-first-requires c =
     subst (All (λ (turn : Turn). turn.other < length c.args.loaded.loads.now.arrives))
-    (sym (c.of_flight.ensures ∙ c.args.loaded.connected.departures c.args.loaded.flight c.args.loaded.there))
+    (sym (c.of_flight.ensures ∙ c.args.loaded.connected.departures c.args.loaded.flight
+    c.args.loaded.there))
     (others_there Departure c.args.loaded.flight (length c.args.loaded.loads.now.arrives)
-    (parts_of c.args.loaded.s.now).flights (parts_of c.args.loaded.s.now).connections c.args.loaded.loaded.arrives
+    (parts_of c.args.loaded.s.now).flights (parts_of c.args.loaded.s.now).connections
+    c.args.loaded.loaded.arrives
     c.args.loaded.s.now.valid.connections.each)
 
 pub arrive_limit-limit-requires : goal.arrive_limit-limit-requires
 arrive_limit-limit-requires c =
     subst (All (λ (turn : Turn). turn.other < length c.args.loaded.loads.now.leaves))
-    (sym (c.of_flight-2.ensures ∙ c.args.loaded.connected.arrivals c.args.loaded.flight c.args.loaded.there))
+    (sym (c.of_flight-2.ensures ∙ c.args.loaded.connected.arrivals c.args.loaded.flight
+    c.args.loaded.there))
     (others_there Arrival c.args.loaded.flight (length c.args.loaded.loads.now.leaves)
-    (parts_of c.args.loaded.s.now).flights (parts_of c.args.loaded.s.now).connections c.args.loaded.loaded.leaves
+    (parts_of c.args.loaded.s.now).flights (parts_of c.args.loaded.s.now).connections
+    c.args.loaded.loaded.leaves
     c.args.loaded.s.now.valid.connections.each)
 
 pub returns-clause-rates : goal.returns-clause-rates
@@ -41,19 +45,24 @@ returns-clause-rates c = λ trips details are is.
     let costs = λ (t : ℕ) (xs : List (Option ℤ)). get_or xs t None in
     let same : c.index-flights-flight.result ≡ details =
     c.index-flights-flight.is
-    ∙ ap (λ flights. get_or flights c.args.loaded.flight c.index-flights-flight.result) c.flights.ensures
-    ∙ get_or_from_slice_get parts.flights c.args.loaded.flight details c.index-flights-flight.result is in
-    fit_rates parts c.args.loaded.s.now.valid trips loads are c.args.loaded.flight c.last_of-last.result
+    ∙ ap (λ flights. get_or flights c.args.loaded.flight c.index-flights-flight.result)
+    c.flights.ensures
+    ∙ get_or_from_slice_get parts.flights c.args.loaded.flight details c.index-flights-flight.result
+    is in
+    fit_rates parts c.args.loaded.s.now.valid trips loads are c.args.loaded.flight
+    c.last_of-last.result
     c.first_leave-first.result c.arrive_limit-limit.result details there is is
     (row_of c.args.accesses.now) c.set_all_full.new.table
     (c.last_of-last.ensures ∙ ap (λ (f : Flight). length f.nodes) same)
     c.args.table.now.span c.requires.day c.requires.windows.within
     (λ time. subst (λ turns. (c.first_leave-first.result ≤ time) ↔ All (IsAfter loads time) turns)
-    (c.of_flight.ensures ∙ c.args.loaded.connected.departures c.args.loaded.flight c.args.loaded.there)
+    (c.of_flight.ensures ∙ c.args.loaded.connected.departures c.args.loaded.flight
+    c.args.loaded.there)
     (c.first_leave-first.ensures time))
     (λ time small. subst
     (λ turns. (time < c.arrive_limit-limit.result) ↔ All (IsInTime loads time) turns)
-    (c.of_flight-2.ensures ∙ c.args.loaded.connected.arrivals c.args.loaded.flight c.args.loaded.there)
+    (c.of_flight-2.ensures ∙ c.args.loaded.connected.arrivals c.args.loaded.flight
+    c.args.loaded.there)
     (c.arrive_limit-limit.ensures time small))
     (λ t window. subst (λ given. IsGiven given
     (IsFreeAt Departure parts loads there c.first_leave-first.result t)
@@ -79,8 +88,10 @@ returns-clause-clear c = λ details is.
     let parts = parts_of c.args.loaded.s.now in
     let same : c.index-flights-flight.result ≡ details =
     c.index-flights-flight.is
-    ∙ ap (λ flights. get_or flights c.args.loaded.flight c.index-flights-flight.result) c.flights.ensures
-    ∙ get_or_from_slice_get parts.flights c.args.loaded.flight details c.index-flights-flight.result is in
+    ∙ ap (λ flights. get_or flights c.args.loaded.flight c.index-flights-flight.result)
+    c.flights.ensures
+    ∙ get_or_from_slice_get parts.flights c.args.loaded.flight details c.index-flights-flight.result
+    is in
     all_clear details c.last_of-last.result c.args.table.now.span c.set_all_full.new.table
     (c.last_of-last.ensures ∙ ap (λ (f : Flight). length f.nodes) same)
     (omega (arith, c.requires.day, c.args.loaded.s.now.valid.day.periods_to))

@@ -16,10 +16,14 @@ returns-clause-rates c = λ details is.
     let leaves = λ (time : ℕ) (costs : List (Option ℤ)). get_or costs time None in
     let same : c.index-flights-flight.result ≡ details =
     c.index-flights-flight.is
-    ∙ ap (λ flights. get_or flights c.args.priced.flight c.index-flights-flight.result) c.flights.ensures
-    ∙ get_or_from_slice_get parts.flights c.args.priced.flight details c.index-flights-flight.result is in
-    price_rates c.args.priced.weight c.args.priced.prices.now parts c.args.priced.flight c.last_of-last.result details
-    (flight_at c.args.priced.s.now c.args.priced.flight) (row_of c.args.accesses.now) c.set_stays.new.table is
+    ∙ ap (λ flights. get_or flights c.args.priced.flight c.index-flights-flight.result)
+    c.flights.ensures
+    ∙ get_or_from_slice_get parts.flights c.args.priced.flight details c.index-flights-flight.result
+    is in
+    price_rates c.args.priced.weight c.args.priced.prices.now parts c.args.priced.flight
+    c.last_of-last.result details
+    (flight_at c.args.priced.s.now c.args.priced.flight) (row_of c.args.accesses.now)
+    c.set_stays.new.table is
     (c.last_of-last.ensures ∙ ap (λ (f : Flight). length f.nodes) same)
     c.args.table.now.span c.requires.day c.args.priced.s.now.valid.day.periods_to
     (λ t window.

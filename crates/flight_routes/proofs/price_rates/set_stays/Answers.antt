@@ -18,7 +18,8 @@ loop-node-preserved c = (
       (omega (arith, c.requires.day, c.args.s.now.valid.day.periods_to))
       c.set_paid.ensures.only
       (λ u within. subst (λ (s : Window). IsInSpan s u → (rates_of c.set_paid.new.table).paid
-      c.loop-node.node u ≡ pos (summed (price_in c.args.prices.now.inside c.place_at.result) s.lo u))
+      c.loop-node.node u ≡ pos (summed (price_in c.args.prices.now.inside c.place_at.result) s.lo
+      u))
       span (c.set_paid.ensures.paid u) within
       ∙ ap (λ place. pos (summed (price_in c.args.prices.now.inside place)
       c.args.table.now.span.lo u)) c.place_at.ensures)

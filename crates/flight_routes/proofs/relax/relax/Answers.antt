@@ -27,8 +27,10 @@ pub wait_from-wait-requires-clause-wait : goal.wait_from-wait-requires-clause-wa
 wait_from-wait-requires-clause-wait c =
     let same : c.loop-time.time - 1 + 1 ≡ c.loop-time.time = omega arith in
     subst (λ (n : ℕ). IsLeast
-    (IsEntry (clear_in c.args.passage.clear.now) (cell_in c.args.passage.cells.now) c.args.passage.next n)
-    (entry_cost (paid_in c.args.passage.paid.now) (cell_in c.args.passage.cells.now)) c.loop-time.wait)
+    (IsEntry (clear_in c.args.passage.clear.now) (cell_in c.args.passage.cells.now)
+    c.args.passage.next n)
+    (entry_cost (paid_in c.args.passage.paid.now) (cell_in c.args.passage.cells.now))
+    c.loop-time.wait)
     (sym same) c.loop-time.invariant.wait
 
 pub loop-time-preserved : goal.loop-time-preserved
@@ -38,7 +40,8 @@ loop-time-preserved c =
     let cell = cell_in c.args.passage.cells.now in
     record {
       wait = c.wait_from-wait.ensures;
-      slots = λ t from to. slot_next clear paid cell c.args.passage.next c.args.window.lo c.requires.kept
+      slots = λ t from to. slot_next clear paid cell c.args.passage.next c.args.window.lo
+          c.requires.kept
           c.args.least t from
           c.loop-time.time c.wait_from-wait.result (slice_index_or c.args.row.now t None)
           (slice_index_or c.loop-time.row t None) (slice_index_or c.offer.new.row t None)

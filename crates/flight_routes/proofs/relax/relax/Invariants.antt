@@ -9,11 +9,13 @@ use Rattle.flight_routes.proofs.relax.relax.Given as goal
 abbrev pub invariant-loop-time : goal.invariant-loop-time
 invariant-loop-time l =
     record {
-      wait : IsLeast (IsEntry (clear_in l.passage.clear.now) (cell_in l.passage.cells.now) l.passage.next l.time)
+      wait : IsLeast (IsEntry (clear_in l.passage.clear.now) (cell_in l.passage.cells.now)
+          l.passage.next l.time)
           (entry_cost (paid_in l.passage.paid.now) (cell_in l.passage.cells.now)) l.wait;
       slots : (t : ℕ) → l.window.lo ≤ t → t ≤ l.window.hi
           → IsOfferedFrom l.time (t + l.least)
-          (IsMove (clear_in l.passage.clear.now) (cell_in l.passage.cells.now) l.passage.next l.least t)
+          (IsMove (clear_in l.passage.clear.now) (cell_in l.passage.cells.now) l.passage.next
+          l.least t)
           (entry_cost (paid_in l.passage.paid.now) (cell_in l.passage.cells.now))
           (slice_index_or l.fn.row t None) (slice_index_or l.row t None);
     }

@@ -13,14 +13,16 @@ use Rattle.flight_routes.proofs.trace.next_stop.Goals as goal
 
 pub first_by-requires-clause-costs : goal.first_by-requires-clause-costs
 first_by-requires-clause-costs c = λ n u inside within.
-    cells_within c.args.ways.flight.now (row_of c.args.ways.accesses.now) (rates_of c.args.ways.rates.now)
+    cells_within c.args.ways.flight.now (row_of c.args.ways.accesses.now)
+    (rates_of c.args.ways.rates.now)
     c.args.ways.ready.network c.args.ways.ready.day.small 0 c.args.cells.now c.requires.cells n u
     (omega arith) inside within
 
 pub first_by-requires-clause-value : goal.first_by-requires-clause-value
 first_by-requires-clause-value c =
     subst (λ (o : Option ℤ). IfSome o (IsNear (2 ^ 111))) (sym c.cell_at-value.ensures)
-    (cells_within c.args.ways.flight.now (row_of c.args.ways.accesses.now) (rates_of c.args.ways.rates.now)
+    (cells_within c.args.ways.flight.now (row_of c.args.ways.accesses.now)
+    (rates_of c.args.ways.rates.now)
     c.args.ways.ready.network c.args.ways.ready.day.small 0 c.args.cells.now c.requires.cells
     c.args.stop.node c.args.stop.time (omega arith) (omega (arith, c.requires.node))
     c.requires.window)

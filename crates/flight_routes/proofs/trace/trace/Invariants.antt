@@ -15,9 +15,11 @@ abbrev pub invariant-loop-stop : goal.invariant-loop-stop
 invariant-loop-stop l =
     record {
       goes_on : (rest : List Stop)
-          → IsFirstLeast (IsWayOn l.ways.flight.now (row_of l.ways.accesses.now) (rates_of l.ways.rates.now) l.stop)
+          → IsFirstLeast (IsWayOn l.ways.flight.now (row_of l.ways.accesses.now)
+          (rates_of l.ways.rates.now) l.stop)
           (way_cost (rates_of l.ways.rates.now) l.stop) IsNoLater rest
-          → IsFirstLeast (IsWay l.ways.flight.now (row_of l.ways.accesses.now) (rates_of l.ways.rates.now))
+          → IsFirstLeast (IsWay l.ways.flight.now (row_of l.ways.accesses.now)
+          (rates_of l.ways.rates.now))
           (whole_cost (rates_of l.ways.rates.now)) IsNoLater (l.stops.items ++ rest);
       inside : l.stop.node < length l.ways.flight.now.nodes;
       window : IsInWindow (row_of l.ways.accesses.now l.stop.node).window l.stop.time;

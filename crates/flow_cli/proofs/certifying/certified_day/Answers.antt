@@ -7,7 +7,8 @@ use Rattle.flow_cli.proofs.CertifyingFacts.{long_day, short_day}
 use Rattle.flow_cli.proofs.PlanningFacts.{planned_day}
 use Rattle.flow_cli.proofs.certifying.certified_day.Goals as goal
 
-pub returns-then-size-gt-MOST_CERT_BYTES-clause-long : goal.returns-then-size-gt-MOST_CERT_BYTES-clause-long
+pub returns-then-size-gt-MOST_CERT_BYTES-clause-long :
+    goal.returns-then-size-gt-MOST_CERT_BYTES-clause-long
 returns-then-size-gt-MOST_CERT_BYTES-clause-long c =
     long_day (parts_of c.args.s.now) c.args.s.now.valid c.args.budget c.in_ok-found.found
     c.args.digest c.requires.signed c.requires.nodes c.in_ok-found.ensures.record

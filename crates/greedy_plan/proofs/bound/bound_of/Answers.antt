@@ -13,7 +13,8 @@ loop-number-preserved c = (
   subst (IsPartSum (parts_in c.args.problem) (box_in c.args.problem) (c.loop-number.number + 1))
       (sym c.plus-sum.ensures)
       (part_more (parts_in c.args.problem) (box_in c.args.problem) c.loop-number.number
-      c.args.prices.now c.loop-number.sum c.least_trip.result c.args.problem.s.now.valid c.requires.free
+      c.args.prices.now c.loop-number.sum c.least_trip.result c.args.problem.s.now.valid
+      c.requires.free
       (omega (
         arith,
         c.loop-number-test.true,

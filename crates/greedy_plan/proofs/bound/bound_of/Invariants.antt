@@ -5,4 +5,5 @@ use Rattle.greedy_plan.proofs.bound.bound_of.Given as goal
 
 abbrev pub invariant-loop-number : goal.invariant-loop-number
 invariant-loop-number l =
-    IsPartSum (parts_in l.problem) (box_in l.problem) l.number l.sum × IsWorkFor (parts_in l.problem) l.work
+    IsPartSum (parts_in l.problem) (box_in l.problem) l.number l.sum
+    × IsWorkFor (parts_in l.problem) l.work

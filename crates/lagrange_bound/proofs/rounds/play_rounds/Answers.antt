@@ -25,21 +25,25 @@ returns-clause-kept c = by (cases_lt c.args.rounds 1024) where
   all = omega (arith, c.loop-played.auto.played-end, c.loop-played-test.false)
 
   by : (c.args.rounds < 1024) ⊎ (1024 ≤ c.args.rounds)
-      → IsBest (parts_in c.args.problem) (box_in c.args.problem) c.args.rounds c.loop-played.tables.best
+      → IsBest (parts_in c.args.problem) (box_in c.args.problem) c.args.rounds
+      c.loop-played.tables.best
       c.loop-played.bound
   by (inl few) =
       let same : c.loop-played.played ≡ c.args.rounds =
       omega (arith, all, few, c.min-played-end.ensures) in
-      subst (λ n. IsBest (parts_in c.args.problem) (box_in c.args.problem) n c.loop-played.tables.best
+      subst (λ n. IsBest (parts_in c.args.problem) (box_in c.args.problem) n
+      c.loop-played.tables.best
       c.loop-played.bound) same c.loop-played.invariant.0.kept
   by (inr many) =
       let last : c.loop-played.played ≡ 1024 =
       omega (arith, all, many, c.min-played-end.ensures) in
       last_stands (parts_in c.args.problem) (box_in c.args.problem) c.args.problem.s.now.valid
-      c.loop-played.tables.present c.loop-played.tables.best c.loop-played.loads c.loop-played.bound c.args.rounds
+      c.loop-played.tables.present c.loop-played.tables.best c.loop-played.loads c.loop-played.bound
+      c.args.rounds
       many
       (subst (λ n. ArePlayed (parts_in c.args.problem) (box_in c.args.problem) n
-      c.loop-played.tables.present c.loop-played.tables.best c.loop-played.loads c.loop-played.bound) last
+      c.loop-played.tables.present c.loop-played.tables.best c.loop-played.loads
+      c.loop-played.bound) last
       c.loop-played.invariant.0)
 
 pub returns-in-NoPlan-clause-kept : goal.returns-in-NoPlan-clause-kept
@@ -53,7 +57,8 @@ returns-in-NoPlan-clause-kept c =
 pub returns-then-are_within-clause-kept : goal.returns-then-are_within-clause-kept
 returns-then-are_within-clause-kept c =
     free_best (parts_in c.args.problem) (box_in c.args.problem) c.args.problem.s.now.valid
-    c.args.tables.now.present c.copy_from.new.self c.tell-bound.new.loads c.tell-bound.result c.args.rounds
+    c.args.tables.now.present c.copy_from.new.self c.tell-bound.new.loads c.tell-bound.result
+    c.args.rounds
     c.requires.prices c.requires.free c.tell-bound.ensures.told c.tell-bound.ensures.taken
     c.copy_from.ensures (c.if-are_within.ensures refl)
 
@@ -61,6 +66,7 @@ pub returns-then-is_reached-clause-kept : goal.returns-then-is_reached-clause-ke
 returns-then-is_reached-clause-kept c =
     best_reached (parts_in c.args.problem) (box_in c.args.problem) c.args.problem.s.now.valid
     c.args.problem.made.inside c.args.enough c.requires.enough c.loop-played.played c.args.rounds
-    (omega (arith, c.loop-played.auto.played-end, c.loop-played-test.true)) c.loop-played.tables.best
+    (omega (arith, c.loop-played.auto.played-end, c.loop-played-test.true))
+    c.loop-played.tables.best
     c.loop-played.bound (sym c.is_reached.ensures ∙ c.if-is_reached.true)
     c.loop-played.invariant.0.kept

@@ -37,7 +37,8 @@ pub loop-number-preserved : goal.loop-number-preserved
 loop-number-preserved c = (
   subst (IsTakenSum (parts_in c.args.problem) (box_in c.args.problem) c.args.prices.now
       (c.loop-number.number + 1) c.take_trip.new.loads) (sym c.plus-sum.ensures)
-      (sum_more (parts_in c.args.problem) c.args.prices.now c.args.problem.s.now.valid c.requires.low
+      (sum_more (parts_in c.args.problem) c.args.prices.now c.args.problem.s.now.valid
+      c.requires.low
       (box_in c.args.problem) c.loop-number.number c.loop-number.loads c.take_trip.new.loads
       c.loop-number.sum c.take_trip.result
       (omega (

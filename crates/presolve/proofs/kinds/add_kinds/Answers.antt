@@ -2,7 +2,7 @@ use Rattle.std.proofs.Common.{◌+◌, get_or, take}
 use Rattle.std.proofs.lemmas.Result.{err_from_is_err_and}
 use Rattle.scaled_simplex.specs.Program.{most_indices}
 use Rattle.bytime_model.specs.AllRows.{kind_rows, kinds_rows}
-use Rattle.bytime_model.proofs.ListingFacts.{next_taken}
+use Rattle.exact_sums.proofs.LoopFacts.{next_item}
 use Rattle.presolve.specs.Frames.{box_in, parts_in, pool_in}
 use Rattle.presolve.proofs.NamesFacts.{adds_both, adds_room, adds_wide, front_taken}
 use Rattle.presolve.proofs.kinds.add_kinds.Goals as goal
@@ -16,7 +16,7 @@ add_kind-requires-clause-few c =
     (kinds_rows parts (take i kinds))
     (kind_rows parts (get_or kinds i _)) (kinds_rows parts (take (i + 1) kinds))
     (kinds_rows parts kinds) c.args.draft.now c.loop-kind.draft most_indices
-    c.loop-kind.invariant (next_taken (kind_rows parts) kinds i _ c.loop-kind-test.true)
+    c.loop-kind.invariant (next_item (kind_rows parts) kinds i _ c.loop-kind-test.true)
     (front_taken (kind_rows parts) kinds (i + 1)) c.requires.few
 
 pub returns-in_err-add_kind-clause-wide : goal.returns-in_err-add_kind-clause-wide
@@ -30,7 +30,7 @@ returns-in_err-add_kind-clause-wide c =
     (kinds_rows parts (take i kinds))
     (kind_rows parts (get_or kinds i _)) (kinds_rows parts (take (i + 1) kinds))
     (kinds_rows parts kinds) c.args.draft.now c.loop-kind.draft c.in_err-add_kind.field-0.0
-    c.loop-kind.invariant (next_taken (kind_rows parts) kinds i _ c.loop-kind-test.true)
+    c.loop-kind.invariant (next_item (kind_rows parts) kinds i _ c.loop-kind-test.true)
     (front_taken (kind_rows parts) kinds (i + 1)) c.in_err-add_kind.ensures.wide)
 
 pub loop-kind-preserved : goal.loop-kind-preserved
@@ -43,4 +43,4 @@ loop-kind-preserved c =
     (kind_rows parts (get_or kinds i _)) (kinds_rows parts (take (i + 1) kinds))
     c.args.draft.now c.loop-kind.draft c.add_kind.new.draft c.loop-kind.invariant
     c.in_ok-add_kind.ensures.adds
-    (next_taken (kind_rows parts) kinds i _ c.loop-kind-test.true)
+    (next_item (kind_rows parts) kinds i _ c.loop-kind-test.true)

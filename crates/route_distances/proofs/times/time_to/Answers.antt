@@ -17,14 +17,16 @@ pub loop-leg-preserved : goal.loop-leg-preserved
 loop-leg-preserved c =
     let far = slice_index c.args.times.now in
     c.least_with-least.ensures
-    ∙ ap (λ least. least_with far c.args.node least (slice_index_or c.args.legs.now c.loop-leg.leg-index no_leg))
+    ∙ ap (λ least. least_with far c.args.node least (slice_index_or c.args.legs.now
+    c.loop-leg.leg-index no_leg))
     c.loop-leg.invariant
     ∙ sym (least_more far c.args.node c.args.legs.now c.loop-leg.leg-index no_leg (omega arith))
 
 pub returns : goal.returns
 returns c =
     c.unwrap_or.ensures ∙ same c.loop-leg.least
-    ∙ ap or_zero (c.loop-leg.invariant ∙ ap (least_into (slice_index c.args.times.now) c.args.node) (take_all c.loop-leg.leg-index c.args.legs.now (omega arith)))
+    ∙ ap or_zero (c.loop-leg.invariant ∙ ap (least_into (slice_index c.args.times.now) c.args.node)
+    (take_all c.loop-leg.leg-index c.args.legs.now (omega arith)))
     ∙ sym (time_is c.args.legs.now c.args.node c.args.times.now c.requires.times)
   where
     same : (o : Option ℕ) → unwrap_or o 0 ≡ or_zero o

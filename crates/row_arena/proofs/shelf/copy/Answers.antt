@@ -27,9 +27,11 @@ loop-k-preserved c =
     let size = row_size c.args.block.now c.args.place c.requires.held c.requires.source in
     c.put.ensures
     ∙ begun_more c.args.block.now c.args.to (row_in c.args.block.now c.args.place) c.loop-k.k
-    (record { column = 0; value = pos 0 }) c.get.result c.loop-k.block (omega (arith, size)) (omega (arith, size, c.requires.within))
+    (record { column = 0; value = pos 0 }) c.get.result c.loop-k.block (omega (arith, size))
+    (omega (arith, size, c.requires.within))
     (read_is c.args.block.now c.args.place c.requires.held c.requires.source c.args.to c.loop-k.k
-    (record { column = 0; value = pos 0 }) (row_in c.args.block.now c.args.place) c.loop-k.block size c.requires.within
+    (record { column = 0; value = pos 0 }) (row_in c.args.block.now c.args.place) c.loop-k.block
+    size c.requires.within
     (omega arith) c.loop-k.invariant c.get.result (aside c.requires.apart) c.get.ensures)
     c.loop-k.invariant
 

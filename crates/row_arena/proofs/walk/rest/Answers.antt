@@ -9,7 +9,8 @@ loop-i-preserved g c =
     let more = c.in-Some.ensures.within in
     record {
       walked = walked_rest c.args.by c.args.target.now c.args.pivot.now c.loop-i.i
-          (length c.args.pivot.now) _ (record { column = 0; value = pos 0 }) c.requires.target c.requires.pivot
+          (length c.args.pivot.now) _ (record { column = 0; value = pos 0 }) c.requires.target
+          c.requires.pivot
           (first_entries g.W.Width.entry c.loop-i.count c.loop-i.out)
           (first_entries g.W.Width.entry c.in-Some.more c.put.new.out) c.of_target.result
           c.in-Some.ensures.rows c.loop-i.invariant.walked c.loop-i-test.true (omega arith)

@@ -22,12 +22,14 @@ loop-k-preserved g c =
             c.loop-k.filled.items c.requires.target within c.in-Some-beside.ensures.beside
             c.loop-k.invariant.filled d))
         | else-next-here w ↦ rw w.filled-is
-            (filled_beside target pivot c.in-Some.here.target c.loop-k.k c.in-Some-beside.next.target
+            (filled_beside target pivot c.in-Some.here.target c.loop-k.k
+            c.in-Some-beside.next.target
             c.loop-k.filled.items c.requires.target within c.in-Some-beside.ensures.beside
             c.loop-k.invariant.filled w.if-next-here.false)
       ];
       count = elim c.if-next-here.branch [
-        | then-next-here w ↦ let more = w.fill.ensures.count in rw w.filled-is (omega (arith, more, count))
+        | then-next-here w ↦ let more = w.fill.ensures.count in rw w.filled-is
+            (omega (arith, more, count))
         | else-next-here w ↦ rw w.filled-is (omega (arith, count))
       ];
       room = elim c.if-next-here.branch [

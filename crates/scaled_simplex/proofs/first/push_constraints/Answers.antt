@@ -1,4 +1,4 @@
-use Rattle.std.proofs.Common.{◌++◌, ◌∷◌, [], List, ap, ap₂, arith, get_or, length, subst, sym, ◌∙◌}
+use Rattle.std.proofs.Common.{◌++◌, ◌∷◌, [], List, ap, ap₂, arith, length, subst, sym, ◌∙◌}
 use Rattle.std.proofs.lemmas.Result.{err_from_is_err_and}
 use Rattle.row_arena.specs.declared.entry.Entry.{Entry}
 use Rattle.row_arena.specs.Rows.{IsRow}
@@ -14,8 +14,7 @@ push_row-requires-clause-place c =
 pub push_row-requires-clause-valid : goal.push_row-requires-clause-valid
 push_row-requires-clause-valid c =
     let constraint = c.index-constraints-k.result in
-    let is = c.index-constraints-k.is
-    ∙ ap (λ l. get_or l c.loop-k.k constraint) c.constraints.ensures in
+    let is = rw c.constraints.ensures at c.index-constraints-k.is in
     subst IsRow (sym (c.deref.ensures.value ∙ c.in_ok-write_constraint.ensures))
     (constraint_is_row c.args.program.now c.loop-k.k constraint (omega arith) is
     c.requires.valid)
@@ -23,8 +22,7 @@ push_row-requires-clause-valid c =
 pub returns-in_err-push_row-clause-wide : goal.returns-in_err-push_row-clause-wide
 returns-in_err-push_row-clause-wide c =
     let constraint = c.index-constraints-k.result in
-    let is = c.index-constraints-k.is
-    ∙ ap (λ l. get_or l c.loop-k.k constraint) c.constraints.ensures in
+    let is = rw c.constraints.ensures at c.index-constraints-k.is in
     let p = err_from_is_err_and c.from_residual-in_err-push_row.result
     c.from_residual-in_err-push_row.ensures.1 in
     rw (p.1, p.2, ← c.loop-k.invariant.cells)
@@ -36,8 +34,7 @@ returns-in_err-push_row-clause-wide c =
 pub loop-k-preserved : goal.loop-k-preserved
 loop-k-preserved c =
     let constraint = c.index-constraints-k.result in
-    let is = c.index-constraints-k.is
-    ∙ ap (λ l. get_or l c.loop-k.k constraint) c.constraints.ensures in
+    let is = rw c.constraints.ensures at c.index-constraints-k.is in
     let ok = c.in_ok-push_row.ensures.ok in
     record {
       rows = ap (λ a. a.rows) ok

@@ -1,7 +1,4 @@
-use Rattle.std.proofs.Common.{arith, List, ap, length, map, subst, ◌∙◌}
-use Rattle.row_arena.specs.declared.entry.Entry.{Entry}
-use Rattle.row_arena.specs.Rows.{IsRow}
-use Rattle.scaled_simplex.specs.Board.{AreAdded, column_of}
+use Rattle.std.proofs.Common.{arith, ap, length, ◌∙◌}
 use Rattle.scaled_simplex.proofs.ListedFacts.{listed_more, live_more, room_begun}
 use Rattle.scaled_simplex.proofs.listing.list_rows.Goals as goal
 
@@ -31,10 +28,8 @@ loop-row-preserved c =
     let size = ap length c.row.ensures.row in
     let more = live_more rows row (omega (arith, test, few)) in (
       listed_more rows row (length c.args.lists.now.rows) c.loop-row.lists.rows
-          c.add_entries.new.lists.rows (subst IsRow c.row.ensures.row c.row.ensures.valid)
-          c.loop-row.invariant.0
-          (subst (λ (r : List Entry). AreAdded row (map column_of r) c.loop-row.lists.rows
-          c.add_entries.new.lists.rows) c.row.ensures.row c.add_entries.ensures.added),
+          c.add_entries.new.lists.rows (rw c.row.ensures.row at c.row.ensures.valid)
+          c.loop-row.invariant.0 (rw c.row.ensures.row at c.add_entries.ensures.added),
       omega (arith, before, count, size, more),
       c.add_entries.ensures.room ∙ c.loop-row.invariant.2,
     )

@@ -1,5 +1,3 @@
-use Rattle.std.proofs.Common.{slice_index, subst}
-use Rattle.number_set.specs.Numbers.{IsChanged}
 use Rattle.scaled_simplex.proofs.BoardFacts.{board_keeps, board_set}
 use Rattle.scaled_simplex.proofs.pivots.sweep_row.Goals as goal
 
@@ -10,9 +8,7 @@ returns-clause-board c =
     c.put_sign.new.self c.list_row.new.lists c.rows.result c.rows.ensures.count
     c.in_ok-combine.ensures.filled c.list_row.ensures.listed c.list_row.ensures.room
     c.combine.ensures.cells
-    (subst (λ b. IsChanged (slice_index c.args.board.now.basis.index_of.items c.args.row) b
-    c.args.board.now.basis.negative c.put_sign.new.self.negative) c.is_negative-negative.ensures
-    c.put_sign.ensures.signs)
+    (rw c.is_negative-negative.ensures at c.put_sign.ensures.signs)
     c.put_sign.ensures.index_of c.put_sign.ensures.row_of
 
 pub returns-clause-keeps : goal.returns-clause-keeps

@@ -10,7 +10,8 @@ invariant-loop-flight l =
     Narrows (IsTight (parts_of l.network.s.now)) l.initial.accesses l.accesses
     × AreTightRows (parts_of l.network.s.now) l.accesses
     × AreWaiting (parts_of l.network.s.now) l.waiting
-    × All (IsDone (parts_of l.network.s.now) l.accesses l.waiting) (parts_of l.network.s.now).connections
+    × All (IsDone (parts_of l.network.s.now) l.accesses l.waiting)
+    (parts_of l.network.s.now).connections
 
 abbrev pub decreases-loop-flight : goal.decreases-loop-flight
 decreases-loop-flight l = total_width l.accesses * (length (parts_of l.network.s.now).flights + 1)

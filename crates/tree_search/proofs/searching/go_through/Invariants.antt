@@ -7,7 +7,8 @@ use Rattle.tree_search.proofs.searching.go_through.Given as goal
 
 abbrev pub invariant-loop-number : goal.invariant-loop-number
 invariant-loop-number l = record {
-  searching : IsSearching (parts_in l.start.whole) l.setting.pool.now l.setting.budget l.walk l.draft;
+  searching : IsSearching (parts_in l.start.whole) l.setting.pool.now l.setting.budget l.walk
+      l.draft;
   same : top_box l.walk ≡ top_box l.fn.walk;
   rooms : AreRoomsFor (parts_in l.start.whole) l.rooms;
   begun : 0 < length l.draft.nodes;

@@ -12,5 +12,6 @@ search_from-requires-clause-searching c = λ pool.
     c.begin.new.draft c.args.s.now.valid c.requires.nodes c.requires.made c.requires.tight
     blank.plans blank.nodes blank.counts blank.bounds blank.best
     (subst (λ (h : Held). IsVisited (parts_of c.args.s.now) (box_of h) c.args.draft.now
-    c.begin.new.draft) c.in_ok-first.ensures c.in_ok-plan.ensures.visited) c.in_ok-walk.walk c.in_ok-walk.ensures.present
+    c.begin.new.draft) c.in_ok-first.ensures c.in_ok-plan.ensures.visited) c.in_ok-walk.walk
+    c.in_ok-walk.ensures.present
     c.in_ok-walk.ensures.above c.in_ok-walk.ensures.steps

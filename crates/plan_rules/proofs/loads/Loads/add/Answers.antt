@@ -1,7 +1,8 @@
-use Rattle.std.proofs.Common.{◌≡◌, [], Some, slice_get, refl}
+use Rattle.std.proofs.Common.{◌≡◌, Some, slice_get, refl}
 use Rattle.std.proofs.lemmas.Option.{slice_get_read}
 use Rattle.flow_types.specs.Scenario.{parts_of}
-use Rattle.plan_rules.proofs.LoadFacts.{AreLoads-add, trip_there}
+use Rattle.plan_rules.specs.declared.grid.Change.TheVariants as change
+use Rattle.plan_rules.proofs.LoadFacts.{AreLoads-change, trip_there}
 use Rattle.plan_rules.proofs.loads.Loads.add.Goals as goal
 
 pub returns-clause-trips : goal.returns-clause-trips
@@ -12,7 +13,7 @@ returns-clause-trips c =
     slice_get_read parts.flights _ c.args.flight flight refl c.requires.flight
     (rw c.flights.ensures at c.index-flights-flight.is) in
     λ trips are absent trip.
-    AreLoads-add parts c.args.s.now.valid.flights.few trips are.each c.args.flight flight
-    [] c.args.stops.now here absent
+    AreLoads-change parts c.args.s.now.valid.flights.few trips are.each change.More c.args.flight
+    flight c.args.stops.now here absent
     (trip_there parts.day.periods flight c.args.stops.now (trip flight here)) c.args.self.now
-    c.add_trip.new.self refl are c.add_trip.ensures c.requires.flight
+    c.change_trip.new.self are c.change_trip.ensures c.requires.flight

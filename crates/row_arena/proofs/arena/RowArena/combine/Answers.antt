@@ -29,10 +29,12 @@ invariant_of-self-in_err-self-inside c = (
 pub invariant_of-self-2 : goal.invariant_of-self-2
 invariant_of-self-2 c = (
   combined_arena c.self.inside.cells c.args.target c.args.pivot c.args.column
-      (rows_of c.self.inside.shelf) (take c.in_ok-count.count c.clear_in.new.desk.narrow.items) (search rules)
+      (rows_of c.self.inside.shelf) (take c.in_ok-count.count c.clear_in.new.desk.narrow.items)
+      (search rules)
       c.in_ok-count.ensures.ok c.in_ok-count.ensures.near (rows_of c.put.new.shelf)
       (subst (λ (l : List Entry). with_row c.self.inside.cells (rows_of c.self.inside.shelf)
-      c.args.target (take c.in_ok-count.count l) ≡ Ok (rows_of c.put.new.shelf)) c.deref.ensures.value
+      c.args.target (take c.in_ok-count.count l) ≡ Ok (rows_of c.put.new.shelf))
+      c.deref.ensures.value
       c.in_ok-self-inside.ensures.ok)
       c.self.inside.live
       c.in_ok-self-inside.field-0 c.self.inside.most_rows c.self.inside.desk.filled.items
@@ -46,7 +48,8 @@ pub returns-clause-filled : goal.returns-clause-filled
 returns-clause-filled c =
     rw (← c.self.view_is)
     (combined_filled c.self.inside.cells c.args.target c.args.pivot c.args.column
-    (rows_of c.self.inside.shelf) (take c.in_ok-count.count c.clear_in.new.desk.narrow.items) (search rules)
+    (rows_of c.self.inside.shelf) (take c.in_ok-count.count c.clear_in.new.desk.narrow.items)
+    (search rules)
     c.in_ok-count.ensures.ok c.in_ok-count.ensures.near (rows_of c.put.new.shelf)
     (subst (λ (l : List Entry). with_row c.self.inside.cells (rows_of c.self.inside.shelf)
     c.args.target (take c.in_ok-count.count l) ≡ Ok (rows_of c.put.new.shelf)) c.deref.ensures.value

@@ -14,7 +14,7 @@ returns-clause-rows c =
     rw (← c.self.view_is)
     (ap (λ (l : List Link). chains l c.begin.new.firsts.items) c.begin.ensures.links
     ∙ begun_chains links firsts c.self.inside.room (vec_capacity c.self.inside.links)
-    c.args.index link c.self.invariant within (search rules) c.begin.new.firsts.items
+    c.args.index link c.self.invariant c.begin.new.firsts.items
     c.begin.ensures.firsts
     ∙ ap (λ l. set (chains links firsts) c.args.index (c.args.row ∷ l))
     (chain_of links firsts c.args.index c.index-next.result.now within (search rules)))

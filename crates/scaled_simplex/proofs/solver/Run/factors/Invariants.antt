@@ -1,10 +1,10 @@
-use Rattle.std.proofs.Common.{◌≡◌, ◌≤◌, All, map, nat_abs}
-use Rattle.std.specs.List.{range_with_len}
+use Rattle.std.proofs.Common.{◌≤◌, [], ◌∷◌, All, nat_abs}
 use Rattle.row_arena.specs.Rows.{most_entry}
+use Rattle.exact_sums.proofs.LoopFacts.{AreOfNumbers}
 use Rattle.scaled_simplex.specs.Run.{multiplier_in}
 use Rattle.scaled_simplex.proofs.solver.Run.factors.Given as goal
 
 abbrev pub invariant-loop-row : goal.invariant-loop-row
 invariant-loop-row l =
-    (l.rows ≡ map (multiplier_in l.self.problem l.self.outcome) (range_with_len 0 l.row))
+    AreOfNumbers (λ row. multiplier_in l.self.problem l.self.outcome row ∷ []) 0 l.row [] l.rows
     × All (λ multiplier. nat_abs multiplier ≤ most_entry) l.rows
