@@ -11,28 +11,9 @@ use Rattle.route_distances.specs.Ways.{AreWaysAlong, Ways, reaches_in, shortest_
 use Rattle.route_distances.proofs.WalkFacts.{far_beyond, reach_beyond}
 use Rattle.cut_rows.specs.Routes.{AreRoutesOf, AreRoutesTo, no_ways, ways_of}
 
-pub none_yet : (parts : Parts) → AreRoutesTo parts 0 []
-none_yet parts = record { long = refl; each = λ f below. absurd (omega (arith, below)) }
-
 module _ (parts : Parts) where
   abbrev AreOf : ℕ → Ways → Type 0
   AreOf f ways = AreWaysAlong (legs_of (slice_get parts.flights f)) ways
-
-  pub one_more : (count : ℕ) (routes now : List Ways) (ways : Ways) → AreRoutesTo parts count routes
-      → AreOf count ways → now ≡ routes ++ ways ∷ [] → AreRoutesTo parts (count + 1) now
-  one_more count routes now ways before is new =
-      subst (AreRoutesTo parts (count + 1)) (sym new) (record {
-        long = omega (arith, length-append routes (ways ∷ []), before.long);
-        each = λ f below. elim (cases_lt f count)
-            as (λ _. AreOf f (get_or (routes ++ ways ∷ []) f no_ways)) [
-              | inl less ↦ subst (AreOf f) (sym (get_or_append_left routes (ways ∷ []) no_ways f
-                  (omega (arith, less, before.long)))) (before.each f less)
-              | inr more ↦
-                  let here : count ≡ f = omega (arith, more, below) in
-                  subst (λ n. AreOf n (get_or (routes ++ ways ∷ []) n no_ways)) here
-                  (subst (AreOf count) (sym (get_or_push routes ways no_ways count before.long)) is)
-            ];
-      })
 
   none_along : AreWaysAlong [] no_ways
   none_along = record {

@@ -1,5 +1,6 @@
 -- The distances of all flights of a day.
 use Rattle.std.specs.Prelude.{◌≡◌, ℕ, ◌<◌, [], List, length, slice_get, slice_index_or}
+use Rattle.exact_sums.specs.Lists.{AreEach}
 use Rattle.flow_types.specs.declared.parts.Parts.{Parts}
 use Rattle.route_distances.specs.Walks.{legs_of}
 use Rattle.route_distances.specs.Ways.{AreWaysAlong, Ways}
@@ -16,7 +17,6 @@ AreRoutesOf parts routes = (flight : ℕ)
     → AreWaysAlong (legs_of (slice_get parts.flights flight)) (ways_of routes flight)
 
 -- those of the first so many flights. No public clause cites this.
-pub record AreRoutesTo (parts : Parts) (count : ℕ) (routes : List Ways) : Type 0 where
-  pub long : length routes ≡ count
-  pub each : (flight : ℕ) → flight < count
-      → AreWaysAlong (legs_of (slice_get parts.flights flight)) (ways_of routes flight)
+abbrev pub AreRoutesTo : Parts → ℕ → List Ways → Type 0
+AreRoutesTo parts =
+    AreEach (λ flight ways. AreWaysAlong (legs_of (slice_get parts.flights flight)) ways) no_ways

@@ -27,7 +27,7 @@ impl Routes {
 
     /// Those of the scenario's flights. It takes a byte for each two nodes of a flight and 34 for
     /// each node, or up to twice that, since the lists grow.
-    #[tactic(auto, using(crate::proofs::RouteFacts::none_yet, crate::proofs::RouteFacts::all_routes))]
+    #[tactic(auto, using(exact_sums::proofs::EachFacts::each_none, crate::proofs::RouteFacts::all_routes))]
     pub fn new(alloc: Global, s: &Scenario) -> Result<Routes, OutOfMemory>
         ensures routes { IfOk result (AreRoutesOf (parts_of s.now)) }
     {

@@ -5,6 +5,7 @@ use Rattle.std.proofs.lemmas.Grind.{flat_map-append}
 use Rattle.std.proofs.lemmas.List.{append-nil, append_assoc, length-append, take-append-le}
 use Rattle.std.proofs.lemmas.List.Elements.{filter-append}
 use Rattle.std.proofs.lemmas.List.FromFn.{map-range_with_len_more}
+use Rattle.exact_sums.proofs.RangeFacts.{flat_map_next, next_in_range}
 use Rattle.cut_rows.specs.declared.names.CutName.{CutName}
 use Rattle.cut_separation.specs.Exceeding.{AddsFirst}
 
@@ -14,28 +15,12 @@ take_then zero xs ys = refl
 take_then (suc n) [] ys = refl
 take_then (suc n) (x ∷ xs) ys = ap (λ zs. x ∷ zs) (take_then n xs ys)
 
--- a range one longer
-range_more : (count from : ℕ)
-    → range_with_len from (count + 1) ≡ range_with_len from count ++ (from + count) ∷ []
-range_more count from =
-    sym (map_same (range_with_len from (count + 1)))
-    ∙ map-range_with_len_more (λ n. n) from count (from + count) refl
-    ∙ ap (λ ns. ns ++ (from + count) ∷ []) (map_same (range_with_len from count))
-  where
-    map_same : (ns : List ℕ) → map (λ n. n) ns ≡ ns
-    map_same [] = refl
-    map_same (n ∷ ns) = ap (λ rest. n ∷ rest) (map_same ns)
-
-range_next : (count : ℕ) → range_with_len 0 (count + 1) ≡ range_with_len 0 count ++ count ∷ []
-range_next count =
-    range_more count 0 ∙ ap (λ n. range_with_len 0 count ++ n ∷ []) (omega arith)
-
--- what a filter keeps of it
+-- what a filter keeps of a range that is one longer
 pub filter_next : (test : ℕ → Bool) (n : ℕ) (b : Bool) → test n ≡ b
     → filter test (range_with_len 0 (n + 1)) ≡ (if b then filter test (range_with_len 0 n) ++ n ∷ []
     else filter test (range_with_len 0 n))
 filter_next test n b is =
-    ap (filter test) (range_next n)
+    ap (filter test) (next_in_range n)
     ∙ filter-append test (range_with_len 0 n) (n ∷ [])
     ∙ ap (λ c. filter test (range_with_len 0 n) ++ cond c (n ∷ []) []) is ∙ by b
   where
@@ -107,14 +92,8 @@ module _ (most : ℕ) (test : CutName → Bool) where
   adds_part part i start old new before here =
       let both = adds_then (flat_map part (range_with_len 0 i))
       (part i) start old new before here in
-      subst (λ cuts. AddsFirst most test cuts start new) (sym (more i)) both
-    where
-      more : (n : ℕ) → flat_map part (range_with_len 0 (n + 1))
-          ≡ flat_map part (range_with_len 0 n) ++ part n
-      more n =
-          ap (flat_map part) (range_next n)
-          ∙ flat_map-append part (range_with_len 0 n) (n ∷ [])
-          ∙ ap (λ cuts. flat_map part (range_with_len 0 n) ++ cuts) (append-nil (part n))
+      subst (λ cuts. AddsFirst most test cuts start new)
+      (sym (flat_map_next part i (part i) refl)) both
 
   pub adds_named : (name : ℕ → CutName) (i : ℕ) (start old new : List CutName)
       → AddsFirst most test (map name (range_with_len 0 i)) start old

@@ -1,4 +1,4 @@
--- Lines of numbers below n, one more; delays together; and what loads count.
+-- Lines of full capacities, one more; delays together; and what loads count.
 use Rattle.std.proofs.Common.{◌≡◌, ℕ, zero, suc, ◌+◌, ◌*◌, ◌==◌, ◌<◌, ◌≤◌, Bool, true, false, List, [], ◌++◌, append-nil, length, slice_get, Option, Some, ℤ, pos, neg_ℤ, ◌≤ℤ◌, to_z, of_z, w64, refl, sym, ap, ap₂, ◌∙◌, add-one, append_assoc, arith, if◌then◌else◌}
 use Rattle.std.proofs.lemmas.Int.{fits_signed_from_abs, ints, to_z-of_z}
 use Rattle.exact_sums.specs.Near.{IsNear}
@@ -18,18 +18,9 @@ use Rattle.plan_rules.specs.Tally.{Tally}
 use Rattle.plan_rules.specs.declared.judging.Verdict.{Verdict}
 use Rattle.plan_rules.specs.declared.judging.Verdict.TheVariants.{Keeps, Breaks}
 use Rattle.delay_report.specs.declared.delays.Delay.{Delay}
-use Rattle.delay_report.specs.Delays.{AreShort, all_full, both_delays, count_of, delay_between, flown_at, flown_in, full_at, full_line, full_text, full_texts, stops_in, texts_below}
-
--- one text more
-pub more_text : (n : ℕ) (text : ℕ → List ℕ) (start out new : List ℕ)
-    → out ≡ start ++ texts_below n text → new ≡ out ++ text n
-    → new ≡ start ++ texts_below (n + 1) text
-more_text n text start out new so_far put =
-    let next : texts_below (n + 1) text ≡ texts_below n text ++ text n =
-    ap (λ k. texts_below k text) (add-one n) in
-    put ∙ ap (λ bytes. bytes ++ text n) so_far
-    ∙ append_assoc start (texts_below n text) (text n)
-    ∙ ap (λ bytes. start ++ bytes) (sym next)
+use Rattle.delay_report.specs.Delays.{AreShort, all_full, both_delays, count_of, delay_between, flown_at, flown_in, full_at, full_line, full_text, full_texts, stops_in}
+use Rattle.exact_sums.specs.Lists.{all_below}
+use Rattle.exact_sums.proofs.RangeFacts.{below_more}
 
 -- one delay more
 pub more_delay : (n : ℕ) (first second : Delay) → AreShort n first → AreShort 1 second
@@ -45,12 +36,12 @@ more_delay n first second short one = record {
 -- the line of one capacity more, or none
 pub more_full : (parts : Parts) (moments : List (List ℕ)) (kind : CapKind) (count : ℕ → ℕ → ℕ)
     (place period : ℕ) (full : Bool) (start out new : List ℕ)
-    → out ≡ start ++ texts_below period (full_text parts moments kind count place)
+    → out ≡ start ++ all_below period (full_text parts moments kind count place)
     → full ≡ (count place period == capacity_of parts.places kind place period)
     → new ≡ out ++ (if full then full_line parts moments kind place period else [])
-    → new ≡ start ++ texts_below (period + 1) (full_text parts moments kind count place)
+    → new ≡ start ++ all_below (period + 1) (full_text parts moments kind count place)
 more_full parts moments kind count place period full start out new so_far is put =
-    more_text period (full_text parts moments kind count place) start out new so_far
+    below_more period (full_text parts moments kind count place) start out new so_far
     (put ∙ ap (λ (b : Bool). out ++ (if b then full_line parts moments kind place period else []))
     is)
 
@@ -112,7 +103,7 @@ loads_kept parts plan new (Breaks broken) feasible keeps loads = absurd (keeps f
 
 -- the same texts of each number below n
 same_texts : (n : ℕ) (some other : ℕ → List ℕ) → ((k : ℕ) → k < n → some k ≡ other k)
-    → texts_below n some ≡ texts_below n other
+    → all_below n some ≡ all_below n other
 same_texts zero some other same = refl
 same_texts (suc n) some other same =
     ap₂ (λ (a b : List ℕ). a ++ b)

@@ -1,8 +1,9 @@
--- Each period of a day begins at a moment that jiff has; and a list of moments takes one more.
+-- Each period of a day begins at a moment that jiff has; and what is known of a list of the first ones.
 use Rattle.std.proofs.Common.{◌≡◌, ◌⊎◌, ℕ, ◌+◌, ◌*◌, ◌<◌, ◌≤◌, List, [], ◌∷◌, ◌++◌, length, slice_index_or, pos, ◌+ℤ◌, ◌<ℤ◌, ◌≤ℤ◌, inl, inr, refl, subst, arith, rules, mul-le-mul, length-append}
 use Rattle.std.proofs.lemmas.Bool.{cases_lt}
 use Rattle.std.proofs.Math.ListN.{get_or-append}
 use Rattle.std.proofs.Math.Seq.{get_or-append_seam}
+use Rattle.exact_sums.specs.Lists.{AreEach}
 use Rattle.flow_types.specs.declared.day.Day.{Day}
 use Rattle.flow_types.specs.Valid.{IsDay}
 use Rattle.jiff.specs.Types.{Date, DateTime}
@@ -63,30 +64,9 @@ fits_later day beginning period nanos valid begins within is =
 
 -- the texts spell the moments at which the first periods begin
 abbrev pub AreFirst : Day → ℕ → List (List ℕ) → Type 0
-AreFirst day count texts =
-    (length texts ≡ count)
-    × ((t : ℕ) → t < count → IsMoment day t (slice_index_or texts t []))
-
-module _ (day : Day) (texts : List (List ℕ)) (text : List ℕ) (period : ℕ) where
-  one_of : AreFirst day period texts → IsMoment day period text → (t : ℕ) → t < period + 1
-      → IsMoment day t (slice_index_or (texts ++ (text ∷ [])) t [])
-  one_of so_far last t less = by_cases (cases_lt t period) where
-    by_cases : (t < period) ⊎ (period ≤ t)
-        → IsMoment day t (slice_index_or (texts ++ (text ∷ [])) t [])
-    by_cases (inl before) =
-        rw (get_or-append texts (text ∷ []) [] t (omega (arith, so_far.0))) (so_far.1 t before)
-    by_cases (inr at) =
-        let is : t ≡ length texts = omega (arith, so_far.0) in
-        let same : period ≡ length texts = omega (arith, so_far.0) in
-        let here = subst (λ p. IsMoment day p text) same last in
-        rw (is, get_or-append_seam texts text [] []) here
-
-  pub one_more : (new : List (List ℕ)) → new ≡ texts ++ (text ∷ []) → AreFirst day period texts
-      → IsMoment day period text → AreFirst day (period + 1) new
-  one_more new is so_far last =
-      rw is (omega (arith, so_far.0, length-append texts (text ∷ [])), one_of so_far last)
+AreFirst day = AreEach (λ t text. IsMoment day t text) []
 
 -- as many as the day has periods are all that it needs
 pub all_moments : (day : Day) (texts : List (List ℕ)) → AreFirst day day.periods texts
     → AreMoments day texts
-all_moments day texts first = record { count = first.0; each = first.1 }
+all_moments day texts first = record { count = first.long; each = first.each }

@@ -3,6 +3,7 @@
 -- delays.
 use Rattle.std.specs.Prelude.{◌≡◌, ℕ, zero, suc, ◌+◌, ◌-◌, ◌*◌, ◌==◌, ◌≤◌, List, [], ◌++◌, length, Option, None, Some, slice_get, slice_index_or, codes, ℤ, pos, ◌+ℤ◌, ◌-ℤ◌, if◌then◌else◌}
 use Rattle.std.specs.Fmt.{decimal, signed_decimal}
+use Rattle.exact_sums.specs.Lists.{all_below}
 use Rattle.exact_sums.specs.Near.{IsNear}
 use Rattle.flow_types.specs.declared.flight.Flight.{Flight}
 use Rattle.flow_types.specs.declared.parts.Parts.{Parts}
@@ -20,11 +21,6 @@ use Rattle.delay_report.specs.Claims.{Claimed}
 use Rattle.delay_report.specs.Moments.{AreMoments}
 use Rattle.delay_report.specs.Texts.{claim_text}
 use Rattle.delay_report.specs.Verdicts.{flight_field, place_field}
-
--- the texts of the numbers below n, one after the other
-abbrev pub texts_below : ℕ → (ℕ → List ℕ) → List ℕ
-texts_below zero text = []
-texts_below (suc n) text = texts_below n text ++ text n
 
 -- no delay, and two delays together
 abbrev pub no_delay : Delay
@@ -147,11 +143,11 @@ full_text parts moments kind count place period =
 abbrev pub full_at : Parts → List (List ℕ) → CapKind → (ℕ → ℕ → ℕ) → ℕ → List ℕ
 full_at parts moments kind count place =
     if has_kind kind (slice_get parts.places place)
-    then texts_below parts.day.periods (full_text parts moments kind count place) else []
+    then all_below parts.day.periods (full_text parts moments kind count place) else []
 
 abbrev pub full_texts : Parts → List (List ℕ) → CapKind → (ℕ → ℕ → ℕ) → List ℕ
 full_texts parts moments kind count =
-    texts_below (length parts.places) (full_at parts moments kind count)
+    all_below (length parts.places) (full_at parts moments kind count)
 
 -- the lines of the plan's full capacities, by what they limit
 abbrev pub all_full : Parts → List (List ℕ) → (CapKind → ℕ → ℕ → ℕ) → List ℕ
@@ -163,7 +159,7 @@ all_full parts moments count =
 -- all lines of a plan: those of its flights, those of the capacities that it uses up, and the sums
 abbrev pub delays_text : Parts → List (List ℕ) → List (List Stop) → List ℕ
 delays_text parts moments plan =
-    texts_below (length parts.flights) (delay_text parts moments plan)
+    all_below (length parts.flights) (delay_text parts moments plan)
     ++ (all_full parts moments (λ kind. count_of kind parts plan)
     ++ total_text (delays_below (length parts.flights) parts plan))
 

@@ -7,7 +7,7 @@ ghost use Rattle.flow_types.specs.Limits.{most_flights};
 ghost use Rattle.flow_types.specs.Scenario.{parts_of};
 ghost use Rattle.plan_rules.specs.Loads.{AreLoads, IsMadeFor, load_at};
 ghost use Rattle.text_records.specs.Lines.{field_text};
-ghost use Rattle.delay_report.specs.Delays.{AreShort, IsExplained, all_full, both_delays, delay_between, delay_told, delay_text, delays_below, delays_text, flown_in, flown_text, full_at, full_line, full_texts, kind_word, minutes_past, moment_field, period_fields, stops_in, texts_below, times_fields, total_text};
+ghost use Rattle.delay_report.specs.Delays.{AreShort, IsExplained, all_full, both_delays, delay_between, delay_told, delay_text, delays_below, delays_text, flown_in, flown_text, full_at, full_line, full_texts, kind_word, minutes_past, moment_field, period_fields, stops_in, times_fields, total_text};
 ghost use Rattle.delay_report.specs.Verdicts.{flight_field};
 
 use crate::claim::Claim;
@@ -107,7 +107,7 @@ fn put_delays(
     plan: &Plan,
 ) -> Result<(), OutOfMemory>
     ensures { OnOk result (out.new.items ≡ out.old.items
-        ++ texts_below (length (parts_of s.now).flights)
+        ++ all_below (length (parts_of s.now).flights)
         (delay_text (parts_of s.now) moments.now plan.now)) }
 {
     for flight in 0..s.flights().len() {

@@ -5,3 +5,5 @@ pub mod ProductFacts
 pub mod LeastFacts
 pub mod LoopFacts
 pub mod NearFacts
+pub mod RangeFacts
+pub mod EachFacts

@@ -21,6 +21,13 @@ module _ {A : Type 0} where
   next_total value xs i d within =
       ap (total value) (take_more xs i d within) ∙ total-push value (take i xs) (get_or xs i d)
 
+  -- as a loop adds it to the sum so far
+  pub next_sum : (value : A → ℤ) (xs : List A) (i : ℕ) (d : A) (sum part new : ℤ)
+      → sum ≡ total value (take i xs) → part ≡ value (get_or xs i d) → i < length xs
+      → new ≡ sum +ℤ part → new ≡ total value (take (i + 1) xs)
+  next_sum value xs i d sum part new is here within added =
+      omega (arith, ints, next_total value xs i d within, is, here, added)
+
   pub total-both : (f g : A → ℤ) (xs : List A)
       → total (λ x. f x +ℤ g x) xs ≡ total f xs +ℤ total g xs
   total-both f g [] = refl

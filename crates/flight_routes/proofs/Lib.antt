@@ -6,6 +6,7 @@ pub mod FillFacts
 pub mod FirstFacts
 pub mod FitFacts
 pub mod FreeFacts
+pub mod InsideFacts
 pub mod LaterFacts
 pub mod LoadRateFacts
 pub mod MoveFacts

@@ -1,12 +1,11 @@
 -- What all flights cost alone is no more than what any plan costs.
-use Rattle.std.proofs.Common.{◌≡◌, ◌^◌, IfSome, ℕ, zero, suc, ◌+◌, ◌-◌, ◌*◌, ◌<◌, ◌≤◌, List, [], ◌∷◌, ◌++◌, get_or, length, slice_get, Option, Some, None, ℤ, pos, ◌+ℤ◌, ◌≤ℤ◌, refl, sym, ap, ◌∙◌, subst, arith}
+use Rattle.std.proofs.Common.{◌≡◌, ◌^◌, IfSome, ℕ, zero, suc, ◌+◌, ◌-◌, ◌*◌, ◌<◌, ◌≤◌, List, [], ◌∷◌, get_or, length, slice_get, Option, Some, None, ℤ, pos, ◌+ℤ◌, ◌≤ℤ◌, refl, sym, ap, ◌∙◌, subst, arith}
 use Rattle.std.specs.List.{range_with_len}
 use Rattle.std.proofs.lemmas.Int.{ints}
 use Rattle.std.proofs.lemmas.Option.{get_or_from_slice_get}
 use Rattle.exact_sums.specs.Leasts.{IsLeast, IsLeastAt}
 use Rattle.exact_sums.specs.Sums.{total, plus}
-use Rattle.exact_sums.proofs.ItemFacts.{item_there}
-use Rattle.exact_sums.proofs.SumFacts.{total-push}
+use Rattle.exact_sums.proofs.RangeFacts.{total_next}
 use Rattle.exact_sums.proofs.LeastFacts.{least_said}
 use Rattle.flow_types.specs.declared.bound.Bound.{Bound}
 use Rattle.flow_types.specs.declared.bound.Bound.TheVariants.{AtLeast, NoPlan}
@@ -16,10 +15,11 @@ use Rattle.flow_types.specs.declared.parts.Parts.{Parts}
 use Rattle.flow_types.specs.declared.plan.Stop.{Stop}
 use Rattle.flow_types.specs.Costs.{plan_cost, trip_cost_at}
 use Rattle.flow_types.specs.Feasible.{AreTrips}
-use Rattle.flow_types.specs.Trips.{IsOnward, IsTrip, arrival_from}
+use Rattle.flow_types.specs.Trips.{IsOnward, arrival_from}
 use Rattle.flow_types.specs.Valid.{IsScenario}
 use Rattle.flow_types.proofs.CostFacts.{credit_at-within, total_at-within}
 use Rattle.plan_rules.proofs.TripFacts.{AreTrips-length}
+use Rattle.flight_routes.proofs.InsideFacts.{trip_inside}
 use Rattle.flight_routes.specs.Inside.{IsTripIn}
 use Rattle.flight_routes.specs.Prices.{AreFree, PriceTable, priced_cost}
 use Rattle.flight_routes.proofs.FreeFacts.{free_cost}
@@ -29,26 +29,6 @@ use Rattle.time_windows.specs.Plans.{AreTripsIn}
 use Rattle.flow_types.specs.Bounds.{IsLowerBound}
 use Rattle.greedy_plan.specs.FirstBound.{HasNoTrip, IsFirstBound, IsLeastSum}
 use Rattle.exact_sums.specs.Near.{IsNear}
-
--- a range from the front, and one more at the end
-range_more : (from n : ℕ)
-    → range_with_len from (suc n) ≡ range_with_len from n ++ (from + n) ∷ []
-range_more from zero = ap (λ k. k ∷ []) (omega arith)
-range_more from (suc n) =
-    ap (λ xs. from ∷ xs) (range_more (from + 1) n
-    ∙ ap (λ k. range_with_len (from + 1) n ++ k ∷ []) (omega arith))
-
--- a trip of the plan, in the box
-plan_trip : (parts : Parts) (box : Box) (flights : List Flight) (plan : List (List Stop)) (k : ℕ)
-    (flight : Flight) → AreTrips parts.day.periods flights plan → slice_get flights k ≡ Some flight
-    → (trip : List Stop) × (slice_get plan k ≡ Some trip) × IsTrip parts.day.periods flight trip
-plan_trip parts box [] plan k flight trips here = absurd (let e : ⊥ = cc in e)
-plan_trip parts box (f ∷ flights) [] k flight trips here = absurd trips
-plan_trip parts box (f ∷ flights) (trip ∷ plan) zero flight trips here =
-    let same : f ≡ flight = cc in
-    (trip, refl, subst (λ (g : Flight). IsTrip parts.day.periods g trip) same trips.0)
-plan_trip parts box (f ∷ flights) (trip ∷ plan) (suc k) flight trips here =
-    plan_trip parts box flights plan k flight trips.1 here
 
 -- what a plan costs, by what the trip of each flight does
 plan_cost_is : (tables : List CostTable) (cost : ℕ → ℤ) (from : ℕ) (flights : List Flight)
@@ -69,25 +49,12 @@ plan_cost_is tables cost from (flight ∷ flights) (trip ∷ plan) long each =
     next : (n k : ℕ) → n + 1 + k ≡ n + suc k
     next n k = omega arith
 
-trip_in : (parts : Parts) (box : Box) (plan : List (List Stop)) (k : ℕ) (flight : Flight)
-    (trip : List Stop) → IsInBox box plan → slice_get parts.flights k ≡ Some flight
-    → slice_get plan k ≡ Some trip → IsTrip parts.day.periods flight trip
-    → IsTripIn parts box k trip
-trip_in parts box plan k flight trip inside here at is = record {
-  flight = flight;
-  there = here;
-  trip = is;
-  inside = inside k trip at;
-}
-
 module _ (parts : Parts) (box : Box) where
   none_bound : (number : ℕ) → HasNoTrip parts box number → (plan : List (List Stop))
       → AreTrips parts.day.periods parts.flights plan → IsInBox box plan → ⊥
   none_bound number none plan trips inside =
-      let flight = item_there parts.flights number none.within in
-      let trip = plan_trip parts box parts.flights plan number flight.0 trips flight.1 in
-      none.none trip.0 (trip_in parts box plan number flight.0 trip.0 inside
-      flight.1 trip.1 trip.2)
+      let trip = trip_inside parts box plan trips inside number none.within in
+      none.none trip.0 trip.2
 
   sum_below : (plan : List (List Stop)) → AreTrips parts.day.periods parts.flights plan
       → IsInBox box plan → (n : ℕ)
@@ -99,20 +66,14 @@ module _ (parts : Parts) (box : Box) where
       let cost = λ (k : ℕ).
       trip_cost_at parts.tables (slice_get parts.flights k) (get_or plan k []) in
       let before = sum_below plan trips inside n (omega (arith, upto)) is.0 is.2 in
-      let flight = item_there parts.flights n (omega (arith, upto)) in
-      let trip = plan_trip parts box parts.flights plan n flight.0 trips flight.1 in
+      let trip = trip_inside parts box plan trips inside n (omega (arith, upto)) in
       let at : get_or plan n [] ≡ trip.0 = get_or_from_slice_get plan n trip.0 [] trip.1 in
-      let least = is.3.below trip.0 (trip_in parts box plan n flight.0 trip.0
-      inside flight.1 trip.1 trip.2) in
+      let least = is.3.below trip.0 trip.2 in
       let here : is.1 ≤ℤ cost n =
       subst (λ t. is.1 ≤ℤ trip_cost_at parts.tables (slice_get parts.flights n) t) (sym at) least in
-      let more = ap (total cost) (range_more 0 n) ∙ total-push cost (range_with_len 0 n) (0 + n)
-      in
-      let same : cost (0 + n) ≡ cost n = ap cost (zero_plus n) in
-      omega (arith, ints, before, here, more, same, is.4)
-    where
-      zero_plus : (k : ℕ) → 0 + k ≡ k
-      zero_plus k = omega arith
+      let next : suc n ≡ n + 1 = omega arith in
+      let more = ap (λ m. total cost (range_with_len 0 m)) next ∙ total_next cost n in
+      omega (arith, ints, before, here, more, is.4)
 
   least_bound : (sum : ℤ) → IsLeastSum parts box (length parts.flights) sum
       → (plan : List (List Stop)) → AreTrips parts.day.periods parts.flights plan

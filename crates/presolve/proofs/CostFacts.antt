@@ -33,7 +33,7 @@ use Rattle.presolve.specs.Variables.{columns_of}
 use Rattle.presolve.proofs.GatherFacts.{none_later}
 use Rattle.presolve.proofs.PointFacts.{cost_there}
 use Rattle.presolve.proofs.RowFacts.{from_le, row_made}
-use Rattle.presolve.proofs.TotalFacts.{below_total}
+use Rattle.presolve.proofs.TotalFacts.{below_part, below_small, total_small}
 use Rattle.exact_sums.specs.Lists.{flat_map_from}
 
 -- what landing asks of the cost row's terms
@@ -229,7 +229,7 @@ module _ (parts : Parts) (box : Box) (row : Priced) (gathered : Gathered) (terms
         let constant = constant_abs in
         let size = small in
         let same = values_size in
-        let least = below_total values in
+        let least = total_small below_part unsigned_abs below_small values in
         let now = ap unsigned_abs lows in
         omega (arith, constant, size, same, least, now)
 
@@ -252,7 +252,7 @@ module _ (parts : Parts) (box : Box) (row : Priced) (gathered : Gathered) (terms
           let first = constant_abs in
           let size = small in
           let same = values_size in
-          let least = below_total values in
+          let least = total_small below_part unsigned_abs below_small values in
           let now = ap unsigned_abs lows in
           let whole = ap unsigned_abs sum in
           omega (arith, all, first, size, same, least, now, whole);

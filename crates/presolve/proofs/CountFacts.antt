@@ -4,6 +4,7 @@ use Rattle.std.proofs.lemmas.List.{length-append, length-map, take_more}
 use Rattle.std.proofs.lemmas.List.FromFn.{length-range_with_len}
 use Rattle.std.proofs.lemmas.List.Sums.{sum_by-append, sum_by-cons, sum_by-take-le}
 use Rattle.std.specs.List.{flat_map, range_with_len}
+use Rattle.exact_sums.proofs.RangeFacts.{sum_next}
 use Rattle.flow_types.specs.declared.parts.Parts.{Parts}
 use Rattle.row_arena.specs.declared.entry.Entry.{Entry}
 use Rattle.row_arena.specs.Arena.{live}
@@ -99,20 +100,10 @@ sum_ranged_less part from (suc few) (suc many) less =
     let two = sum_by-cons part from (range_with_len (from + 1) many) in
     omega (arith, more, one, two)
 
-pub sum_ranged_next : (part : ℕ → ℕ) (n : ℕ)
-    → sum_by part (range_with_len 0 n) + part n ≡ sum_by part (range_with_len 0 (n + 1))
-sum_ranged_next part n =
-    let one = sum_ranged part 0 n in
-    let here : 0 + n ≡ n = omega arith in
-    let same = ap part here in
-    let next : suc n ≡ n + 1 = omega arith in
-    let all = ap (λ m. sum_by part (range_with_len 0 m)) next in
-    omega (arith, one, same, all)
-
 pub sum_ranged_within : (part : ℕ → ℕ) (n all : ℕ) → n < all
     → sum_by part (range_with_len 0 n) + part n ≤ sum_by part (range_with_len 0 all)
 sum_ranged_within part n all within =
-    let one = sum_ranged_next part n in
+    let one = sum_next part n in
     let more = sum_ranged_less part 0 (n + 1) all (omega (arith, within)) in
     omega (arith, one, more)
 

@@ -11,7 +11,6 @@ use Rattle.time_windows.specs.Boxes.{Box}
 use Rattle.bytime_model.specs.declared.names.RowName.{RowName}
 use Rattle.bytime_model.specs.Rows.{is_row}
 use Rattle.bytime_model.proofs.KindLaws.{kind_each}
-use Rattle.exact_sums.proofs.LoopFacts.{next_number}
 use Rattle.bytime_model.proofs.NameLists.{any_flat, each_any}
 use Rattle.bytime_model.specs.declared.names.RowKind.{RowKind}
 use Rattle.presolve.specs.declared.rows.ProgramDraft.{ProgramDraft}
@@ -56,15 +55,6 @@ front_taken part xs i = record {
   is = sym (ap (flat_map part) (take-append-drop i xs))
       ∙ flat_map-append part (take i xs) (drop i xs);
 }
-
--- one part more
-pub next_ranged : (part : ℕ → List RowName) (n : ℕ) (more : List RowName) → more ≡ part n
-    → flat_map part (range_with_len 0 (n + 1)) ≡ flat_map part (range_with_len 0 n) ++ more
-next_ranged part n more are =
-    let next : n + 1 ≡ suc n = omega arith in
-    let here : 0 + n ≡ n = omega arith in
-    ap (λ m. flat_map part (range_with_len 0 m)) next ∙ next_number part 0 n
-    ∙ ap (λ names. flat_map part (range_with_len 0 n) ++ names) (ap part here ∙ sym are)
 
 -- names after others
 module _ (parts : Parts) (pool : List CutName) (box : Box) where

@@ -60,19 +60,19 @@ own_within numbering columns numbers k d own are within =
     let at = (own k d within).within in
     let count = are.count in omega (arith, at, count)
 
-pub numbers_none : (numbering : Numbering) (columns : List Var) (numbers : List ℕ)
+pub none_numbered : (numbering : Numbering) (columns : List Var) (numbers : List ℕ)
     → numbers ≡ replicate numbering.count 0 → AreNumbers numbering columns 0 numbers
-numbers_none numbering columns numbers are = record {
+none_numbered numbering columns numbers are = record {
   count = ap length are ∙ length-replicate numbering.count 0;
   each = λ k column below here. absurd (omega (arith, below));
 }
 
-pub numbers_more : (numbering : Numbering) (columns : List Var) (numbers : List ℕ) (k : ℕ)
+pub one_more_numbered : (numbering : Numbering) (columns : List Var) (numbers : List ℕ) (k : ℕ)
     (d : Var) → AreOwn numbering columns → AreNumbers numbering columns k numbers
     → k < length columns
     → AreNumbers numbering columns (k + 1)
     (set numbers (position_of numbering.columns (get_or columns k d)) k)
-numbers_more numbering columns numbers k d own are inside = record {
+one_more_numbered numbering columns numbers k d own are inside = record {
   count = length-set numbers at k ∙ are.count;
   each = each;
 }

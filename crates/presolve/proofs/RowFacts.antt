@@ -26,11 +26,11 @@ use Rattle.dual_sums.proofs.RowGrowFacts.{row_small}
 use Rattle.presolve.specs.Gathering.{Gathered, IsLanded, most_factor, most_gathered, size_of}
 use Rattle.presolve.specs.Landed.{coefficient_of, entries_from, fixed_of}
 use Rattle.presolve.specs.Listing.{AddsRow, AddsRows, IsLandedRow, kept_among, kept_if, most_size, with_rows}
-use Rattle.presolve.specs.Relaxed.{at_most_one, flipped_entry, flipped_of, flipped_row, flipped_sum, greatest, is_flipped, kept_row, may_exceed, row_in}
+use Rattle.presolve.specs.Relaxed.{flipped_part, at_most_one, flipped_entry, flipped_of, flipped_row, flipped_sum, greatest, is_flipped, kept_row, may_exceed, row_in}
 use Rattle.presolve.specs.Variables.{columns_of}
 use Rattle.presolve.proofs.FlipFacts.{entries_within, flipped_within}
 use Rattle.presolve.proofs.RaiseFacts.{item_size}
-use Rattle.presolve.proofs.TotalFacts.{flipped_total}
+use Rattle.presolve.proofs.TotalFacts.{flipped_small, size_part, total_small}
 
 abs_less : (a b : ℤ) → unsigned_abs (a -ℤ b) ≤ unsigned_abs a + unsigned_abs b
 abs_less a b = omega (arith, ints)
@@ -238,7 +238,7 @@ module _ (flips : List Bool) where
         (flipped_within flips entries count within);
     near =
         let both = abs_less limit (flipped_sum flips entries) in
-        let sum = flipped_total flips entries in
+        let sum = total_small (flipped_part flips) size_part (flipped_small flips) entries in
         let same = ap unsigned_abs taken in
         omega (arith, both, sum, same, size, near);
   }
@@ -247,7 +247,7 @@ module _ (flips : List Bool) where
       → size_of entries ≤ most_size → unsigned_abs limit ≤ most_size
       → unsigned_abs limit + unsigned_abs sum < 2 ^ 62
   sum_small entries limit sum is size near =
-      let total = flipped_total flips entries in
+      let total = total_small (flipped_part flips) size_part (flipped_small flips) entries in
       let same = ap unsigned_abs is in
       omega (arith, total, same, size, near)
 

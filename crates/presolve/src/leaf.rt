@@ -27,7 +27,7 @@ fn add_row(rows: &mut Multipliers, row: RowName, multiplier: i64) -> Result<(), 
 /// The rows of the Dual leaf that the multipliers give: for each name the multiplier in its place,
 /// where it isn't 0. Those past the names are left out, so these are the program's `kept` and one
 /// multiplier for each of its rows. It takes 24 bytes a row.
-#[tactic(auto, using(crate::proofs::LeafFacts::leaf_none, crate::proofs::LeafFacts::leaf_all))]
+#[tactic(auto, using(exact_sums::proofs::LoopFacts::items_none, crate::proofs::LeafFacts::leaf_all))]
 pub fn leaf_of(
     alloc: Global,
     kept: &[RowName],

@@ -107,7 +107,7 @@ fn zeros(alloc: Global, positions: usize) -> Result<Vec<u32>, OutOfMemory>
 }
 
 // The number of each column, at the position of its variable.
-#[tactic(auto, using(crate::proofs::NumberFacts::own_within, crate::proofs::NumberFacts::own_small, crate::proofs::NumberFacts::numbers_none))]
+#[tactic(auto, using(crate::proofs::NumberFacts::own_within, crate::proofs::NumberFacts::own_small, crate::proofs::NumberFacts::none_numbered))]
 fn numbers_of(alloc: Global, positions: &Columns, columns: &[Var]) -> Result<Vec<u32>, OutOfMemory>
     requires own { AreOwn positions.now columns.now }
     requires few { length columns.now < 2 ^ 32 }

@@ -1,5 +1,5 @@
 -- Sums over a range of numbers.
-use Rattle.std.proofs.Common.{◌≡◌, ◌≢◌, ◌⊎◌, ℕ, zero, suc, ◌+◌, ◌-◌, ◌*◌, ◌<◌, ◌≤◌, ◌==◌, ◌&&◌, nat_le, nat_lt, [], sum_by, refl, ap, ap₂, ◌∙◌, inl, inr, arith}
+use Rattle.std.proofs.Common.{◌≡◌, ◌≢◌, ◌⊎◌, ℕ, zero, suc, ◌+◌, ◌-◌, ◌*◌, ◌<◌, ◌≤◌, ◌==◌, ◌&&◌, nat_le, nat_lt, sum_by, refl, ap, ap₂, ◌∙◌, inl, inr, arith}
 use Rattle.std.specs.List.{range_with_len}
 use Rattle.std.proofs.lemmas.Bool.{cases_eq, cases_lt}
 use Rattle.std.proofs.lemmas.Bool.Decides.{nat_tests}
@@ -210,15 +210,3 @@ summed-since price from n =
   where
     in_day : (t : ℕ) → t < n → one_if (nat_le from t) ≡ one_if (nat_le from t && nat_lt t n)
     in_day t before = grind (arith, nat_tests)
-
--- one more at the end
-pub range_more : (f : ℕ → ℕ) (n : ℕ)
-    → sum_by f (range_with_len 0 (n + 1)) ≡ sum_by f (range_with_len 0 n) + f n
-range_more f n =
-    let parts = range-split f 0 n 1 (n + 1) refl in
-    let last = sum_by-cons f (0 + n) [] in
-    let same : f (0 + n) ≡ f n = ap f (front n) in
-    omega (arith, parts, last, same)
-  where
-    front : (k : ℕ) → 0 + k ≡ k
-    front k = omega arith

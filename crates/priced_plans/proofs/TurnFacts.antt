@@ -6,6 +6,8 @@ use Rattle.std.proofs.lemmas.Bool.Decides.{nat_tests}
 use Rattle.std.proofs.lemmas.Int.{ints}
 use Rattle.std.proofs.lemmas.List.Elements.{All-head, All-tail}
 use Rattle.std.proofs.lemmas.Option.{get_or_from_slice_get}
+use Rattle.exact_sums.proofs.ItemFacts.{item_there}
+use Rattle.time_windows.proofs.PlanFacts.{planned}
 use Rattle.flow_types.specs.declared.flight.Connection.{Connection}
 use Rattle.flow_types.specs.declared.flight.Flight.{Flight}
 use Rattle.flow_types.specs.declared.plan.Stop.{Stop}
@@ -92,19 +94,10 @@ trip_times periods flight plan k (stop ∷ rest) there is =
 trip_at : (periods : ℕ) (flights : List Flight) (plan : List (List Stop)) (k : ℕ)
     → AreTrips periods flights plan → k < length flights
     → (trip : List Stop) × IsTripAt plan k trip
-trip_at periods [] plan k trips within = absurd (omega (arith, within))
-trip_at periods (flight ∷ flights) [] k trips within = absurd trips
-trip_at periods (flight ∷ flights) (trip ∷ plan) zero trips within =
-    (trip, trip_times periods flight (trip ∷ plan) 0 trip refl trips.0)
-trip_at periods (flight ∷ flights) (trip ∷ plan) (suc k) trips within =
-    let later = trip_at periods flights plan k trips.1 (omega (arith, within)) in (
-      later.0,
-      record {
-        there = later.1.there;
-        leaves = later.1.leaves;
-        arrives = later.1.arrives;
-      },
-    )
+trip_at periods flights plan k trips within =
+    let flight = item_there flights k within in
+    let own = planned periods flights plan k flight.0 trips flight.1 in
+    (own.trip, trip_times periods flight.0 plan k own.trip own.is own.valid)
 
 module _ (periods : ℕ) (flights : List Flight) (plan : List (List Stop))
     (trips : AreTrips periods flights plan) where

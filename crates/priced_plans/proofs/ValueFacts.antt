@@ -1,19 +1,18 @@
 -- The value of prices is no more than what a feasible plan in the box costs.
-use Rattle.std.proofs.Common.{◌≡◌, ℕ, zero, suc, ◌+◌, ◌<◌, ◌≤◌, List, [], ◌∷◌, ◌++◌, get_or, length, slice_get, Some, ℤ, pos, ◌+ℤ◌, ◌*ℤ◌, ◌≤ℤ◌, refl, sym, ap, ◌∙◌, subst, arith}
+use Rattle.std.proofs.Common.{◌≡◌, ℕ, zero, suc, ◌+◌, ◌<◌, ◌≤◌, List, [], ◌∷◌, get_or, length, slice_get, Some, ℤ, pos, ◌+ℤ◌, ◌*ℤ◌, ◌≤ℤ◌, sym, ap, ◌∙◌, subst, arith}
 use Rattle.std.specs.List.{range_with_len}
 use Rattle.std.proofs.Math.IntN.{*ℤ-zero, zero-*ℤ}
 use Rattle.std.proofs.lemmas.Int.{ints}
 use Rattle.std.proofs.lemmas.Option.{get_or_from_slice_get}
 use Rattle.exact_sums.specs.Sums.{total}
-use Rattle.exact_sums.proofs.ItemFacts.{item_there}
 use Rattle.exact_sums.proofs.ProductFacts.{times-more}
-use Rattle.exact_sums.proofs.SumFacts.{total-push}
+use Rattle.exact_sums.proofs.RangeFacts.{total_next}
+use Rattle.flight_routes.proofs.InsideFacts.{trip_inside}
 use Rattle.flow_types.specs.declared.flight.Flight.{Flight}
 use Rattle.flow_types.specs.declared.parts.Parts.{Parts}
 use Rattle.flow_types.specs.declared.plan.Stop.{Stop}
 use Rattle.flow_types.specs.Costs.{plan_cost, trip_cost}
 use Rattle.flow_types.specs.Feasible.{AreTrips, IsFeasible}
-use Rattle.flow_types.specs.Trips.{IsTrip}
 use Rattle.flow_types.specs.Valid.{IsScenario}
 use Rattle.plan_rules.proofs.TripFacts.{AreTrips-length}
 use Rattle.flight_routes.specs.Inside.{IsTripIn}
@@ -27,44 +26,8 @@ times-plus zero a b = omega (arith, ints, zero-*ℤ (a +ℤ b), zero-*ℤ a, zer
 times-plus (suc w) a b =
     omega (arith, ints, times-more w (a +ℤ b), times-more w a, times-more w b, times-plus w a b)
 
--- a range from the front, and one more at the end
-range-push : (from n : ℕ)
-    → range_with_len from (suc n) ≡ range_with_len from n ++ (from + n) ∷ []
-range-push from zero = ap (λ k. k ∷ []) (omega arith)
-range-push from (suc n) =
-    ap (λ xs. from ∷ xs) (range-push (from + 1) n
-    ∙ ap (λ k. range_with_len (from + 1) n ++ k ∷ []) (omega arith))
-
--- the trip of a flight in a plan
-trip_of : (periods : ℕ) (flights : List Flight) (plan : List (List Stop)) (k : ℕ)
-    (flight : Flight) → AreTrips periods flights plan → slice_get flights k ≡ Some flight
-    → (trip : List Stop) × (slice_get plan k ≡ Some trip) × IsTrip periods flight trip
-trip_of periods [] plan k flight trips here = absurd (let e : ⊥ = cc in e)
-trip_of periods (f ∷ flights) [] k flight trips here = absurd trips
-trip_of periods (f ∷ flights) (trip ∷ plan) zero flight trips here =
-    let same : f ≡ flight = cc in
-    (trip, refl, subst (λ (g : Flight). IsTrip periods g trip) same trips.0)
-trip_of periods (f ∷ flights) (trip ∷ plan) (suc k) flight trips here =
-    trip_of periods flights plan k flight trips.1 here
-
 module _ (parts : Parts) (box : Box) (plan : List (List Stop))
     (trips : AreTrips parts.day.periods parts.flights plan) (inside : IsInBox box plan) where
-  -- a flight's trip in the plan is one in the box
-  pub trip-inside : (number : ℕ) → number < length parts.flights
-      → (trip : List Stop) × (slice_get plan number ≡ Some trip) × IsTripIn parts box number trip
-  trip-inside number within =
-      let flight = item_there parts.flights number within in
-      let trip = trip_of parts.day.periods parts.flights plan number flight.0 trips flight.1 in (
-        trip.0,
-        trip.1,
-        record {
-          flight = flight.0;
-          there = flight.1;
-          trip = trip.2;
-          inside = inside number trip.0 trip.1;
-        },
-      )
-
   module _ (weight : ℕ) (table : PriceTable) where
     -- the least costs are no more than those of the plan
     sum-below : (n : ℕ) → n ≤ length parts.flights → (sum : ℤ)
@@ -75,18 +38,14 @@ module _ (parts : Parts) (box : Box) (plan : List (List Stop))
     sum-below (suc n) upto sum is =
         let cost = λ (k : ℕ). priced_cost weight table parts k (get_or plan k []) in
         let before = sum-below n (omega (arith, upto)) is.0 is.2 in
-        let trip = trip-inside n (omega (arith, upto)) in
+        let trip = trip_inside parts box plan trips inside n (omega (arith, upto)) in
         let at : get_or plan n [] ≡ trip.0 = get_or_from_slice_get plan n trip.0 [] trip.1 in
         let least = is.3.below trip.0 trip.2 in
         let here : is.1 ≤ℤ cost n =
         subst (λ t. is.1 ≤ℤ priced_cost weight table parts n t) (sym at) least in
-        let more = ap (total cost) (range-push 0 n) ∙ total-push cost (range_with_len 0 n) (0 + n)
-        in
-        let same : cost (0 + n) ≡ cost n = ap cost (front n) in
-        omega (arith, ints, before, here, more, same, is.4)
-      where
-        front : (k : ℕ) → 0 + k ≡ k
-        front k = omega arith
+        let next : suc n ≡ n + 1 = omega arith in
+        let more = ap (λ m. total cost (range_with_len 0 m)) next ∙ total_next cost n in
+        omega (arith, ints, before, here, more, is.4)
 
 -- the priced costs of a plan are the weight times its cost, and what it pays
 priced_is : (parts : Parts) (weight : ℕ) (table : PriceTable) (cost : ℕ → ℤ) (from : ℕ)
@@ -148,5 +107,5 @@ pub none-inside : (parts : Parts) (box : Box) (number : ℕ) (plan : List (List 
     → ((stops : List Stop) → IsTripIn parts box number stops → ⊥) → IsFeasible parts plan
     → IsInBox box plan → ⊥
 none-inside parts box number plan within none feasible inside =
-    let trip = trip-inside parts box plan feasible.trips inside number within in
+    let trip = trip_inside parts box plan feasible.trips inside number within in
     none trip.0 trip.2

@@ -80,7 +80,7 @@ pub fn limit_price(s: &Scenario, prices: &Prices) -> u128
 }
 
 // What the capacities of this kind would pay.
-#[tactic(auto, using(crate::proofs::RangeFacts::range_more))]
+#[tactic(auto, using(exact_sums::proofs::RangeFacts::sum_next))]
 fn capacity_price(kind: CapKind, s: &Scenario, prices: &Prices) -> u128
     requires { ArePricesOf (parts_of s.now) prices.now }
     ensures value { result
@@ -95,7 +95,7 @@ fn capacity_price(kind: CapKind, s: &Scenario, prices: &Prices) -> u128
 }
 
 // What the place's capacities of this kind would pay in all periods.
-#[tactic(auto, using(crate::proofs::RangeFacts::range_more))]
+#[tactic(auto, using(exact_sums::proofs::RangeFacts::sum_next))]
 fn row_price(kind: CapKind, s: &Scenario, prices: &Prices, place: u32) -> u128
     requires prices { ArePricesOf (parts_of s.now) prices.now }
     requires place { place < length (parts_of s.now).places }

@@ -1,7 +1,7 @@
 -- Times that are set one after the other.
-use Rattle.std.proofs.Common.{◌≡◌, ℕ, ◌+◌, ◌*◌, ◌^◌, ◌<◌, ◌≤◌, ◌==◌, List, [], ◌∷◌, ◌++◌, length, get_or, take, Bool, true, false, if◌then◌else◌, All, Option, None, Some, slice_index, inl, inr, refl, sym, ◌∙◌, ap, subst, arith}
+use Rattle.std.proofs.Common.{◌≡◌, ℕ, ◌+◌, ◌*◌, ◌^◌, ◌<◌, ◌≤◌, ◌==◌, List, [], ◌∷◌, ◌++◌, length, get_or, take, Bool, true, false, if◌then◌else◌, All, Option, None, Some, slice_index, inl, inr, refl, sym, ◌∙◌, ap, arith}
 use Rattle.std.proofs.lemmas.Bool.{cases_lt}
-use Rattle.std.proofs.lemmas.List.{get_or_append_left, get_or_past, get_or_push, length-append, take_more}
+use Rattle.std.proofs.lemmas.List.{get_or_past, take_more}
 use Rattle.std.proofs.lemmas.List.Elements.{All-weaker}
 use Rattle.flow_types.specs.declared.flight.Leg.{Leg}
 use Rattle.flow_types.specs.Limits.{most_delay, most_nodes}
@@ -9,31 +9,6 @@ use Rattle.flow_types.specs.Routes.{IsLeg}
 use Rattle.route_distances.specs.Walks.{far_upto, least_into, least_with, or_zero, shortest_of, sooner}
 use Rattle.route_distances.specs.Ways.{AreShortest}
 use Rattle.route_distances.proofs.WalkFacts.{far_is, far_past, far_small, far_stays, least_same}
-
-pub none_yet : (legs : List Leg) → AreShortest legs 0 []
-none_yet legs = record { long = refl; each = λ node below. absurd (omega (arith, below)) }
-
-time_more : (legs : List Leg) (count : ℕ) (times : List ℕ) (time : ℕ)
-    → AreShortest legs count times → time ≡ shortest_of legs count
-    → AreShortest legs (count + 1) (times ++ time ∷ [])
-time_more legs count times time before is = record {
-  long = omega (arith, length-append times (time ∷ []), before.long);
-  each = λ node below. elim (cases_lt node count)
-      as (λ _. get_or (times ++ time ∷ []) node 0 ≡ shortest_of legs node) [
-        | inl less ↦ get_or_append_left times (time ∷ []) 0 node (omega (arith, less, before.long))
-            ∙ before.each node less
-        | inr more ↦
-            let here : node ≡ count = omega (arith, more, below) in
-            subst (λ n. get_or (times ++ time ∷ []) n 0 ≡ shortest_of legs n) (sym here)
-            (get_or_push times time 0 count before.long ∙ is)
-      ];
-}
-
-pub one_more : (legs : List Leg) (count : ℕ) (times now : List ℕ) (time : ℕ)
-    → AreShortest legs count times → time ≡ shortest_of legs count → now ≡ times ++ time ∷ []
-    → AreShortest legs (count + 1) now
-one_more legs count times now time before is new =
-    subst (AreShortest legs (count + 1)) (sym new) (time_more legs count times time before is)
 
 -- those of later nodes are at 0
 pub times_upto : (legs : List Leg) (count : ℕ) (times : List ℕ) → AreShortest legs count times

@@ -1,5 +1,6 @@
 -- What is known of the walks along a flight's legs.
-use Rattle.std.specs.Prelude.{◌≡◌, ℕ, ◌<◌, Bool, false, List, [], length, slice_index, slice_index_or}
+use Rattle.std.specs.Prelude.{◌≡◌, ℕ, Bool, false, List, [], slice_index, slice_index_or}
+use Rattle.exact_sums.specs.Lists.{AreEach}
 use Rattle.flow_types.specs.declared.flight.Leg.{Leg}
 use Rattle.route_distances.specs.Walks.{reaches_of, shortest_of}
 
@@ -21,17 +22,12 @@ pub record AreWaysAlong (legs : List Leg) (ways : Ways) : Type 0 where
   pub reaches : (from to : ℕ) → reaches_in ways from to ≡ reaches_of legs from to
 
 -- How they are made: for the first so many nodes. No public clause cites what follows.
-pub record AreShortest (legs : List Leg) (count : ℕ) (times : List ℕ) : Type 0 where
-  pub long : length times ≡ count
-  pub each : (node : ℕ) → node < count → slice_index times node ≡ shortest_of legs node
+abbrev pub AreShortest : List Leg → ℕ → List ℕ → Type 0
+AreShortest legs = AreEach (λ node time. time ≡ shortest_of legs node) 0
 
-pub record AreReached (legs : List Leg) (from count : ℕ) (marks : List Bool) : Type 0 where
-  pub long : length marks ≡ count
-  pub each : (node : ℕ) → node < count
-      → slice_index_or marks node false ≡ reaches_of legs from node
+abbrev pub AreReached : List Leg → ℕ → ℕ → List Bool → Type 0
+AreReached legs from = AreEach (λ node mark. mark ≡ reaches_of legs from node) false
 
 -- marks for each of so many nodes to start from
-pub record AreAllReached (legs : List Leg) (nodes count : ℕ) (marks : List (List Bool)) : Type 0
-  where
-    pub long : length marks ≡ count
-    pub each : (from : ℕ) → from < count → AreReached legs from nodes (slice_index_or marks from [])
+abbrev pub AreAllReached : List Leg → ℕ → ℕ → List (List Bool) → Type 0
+AreAllReached legs nodes = AreEach (λ from marks. AreReached legs from nodes marks) []

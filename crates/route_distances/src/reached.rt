@@ -7,7 +7,7 @@ use flow_types::{Leg, OutOfMemory, Sequence};
 use std::alloc::Global;
 
 /// For each of so many nodes marks of those that it leads to.
-#[tactic(auto, using(crate::proofs::ReachFacts::no_rows))]
+#[tactic(auto, using(exact_sums::proofs::EachFacts::each_none))]
 pub fn all_reached(
     alloc: Global,
     legs: &[Leg],
@@ -23,7 +23,7 @@ pub fn all_reached(
 }
 
 // Marks of the nodes that the one leads to.
-#[tactic(auto, using(crate::proofs::ReachFacts::none_yet))]
+#[tactic(auto, using(exact_sums::proofs::EachFacts::each_none))]
 fn reached_from(
     alloc: Global,
     legs: &[Leg],

@@ -9,7 +9,7 @@ use flow_types::{Leg, OutOfMemory, Sequence};
 use std::alloc::Global;
 
 /// The least time from node 0 to each of so many nodes, from the first on.
-#[tactic(auto, using(crate::proofs::TimeFacts::none_yet, crate::proofs::TimeFacts::one_more, crate::proofs::TimeFacts::legs_within))]
+#[tactic(auto, using(exact_sums::proofs::EachFacts::each_none, exact_sums::proofs::EachFacts::each_more, crate::proofs::TimeFacts::legs_within))]
 pub fn shortest_times(alloc: Global, legs: &[Leg], nodes: u16) -> Result<Sequence<u16>, OutOfMemory>
     requires legs { All (IsLeg nodes) legs.now }
     requires few { nodes ≤ most_nodes }

@@ -1,8 +1,7 @@
 -- The least number by which the values of the first columns are whole, column by column; and the
 -- numerators over it.
-use Rattle.std.proofs.Common.{◌≡◌, ◌⊎◌, inl, inr, ℕ, ◌+◌, ◌*◌, ◌%◌, ◌<◌, ◌≤◌, List, [], ◌∷◌, ◌++◌, get_or, length, ℤ, pos, negsuc, nat_abs, ◌*ℤ◌, ◌≤ℤ◌, ◌<ℤ◌, refl, sym, ap, ◌∙◌, arith}
+use Rattle.std.proofs.Common.{◌≡◌, ◌⊎◌, inl, inr, ℕ, ◌+◌, ◌*◌, ◌%◌, ◌<◌, ◌≤◌, ℤ, pos, negsuc, nat_abs, ◌*ℤ◌, ◌≤ℤ◌, ◌<ℤ◌, refl, sym, ap, ◌∙◌, arith}
 use Rattle.std.proofs.lemmas.Int.{ints}
-use Rattle.std.proofs.lemmas.List.{get_or_append_left, get_or_push}
 use Rattle.std.proofs.lemmas.Nat.Gcd.{dvd_of_mod-eq-zero, dvd_trans, le_of_dvd, mod-eq-zero_of_dvd}
 use Rattle.std.proofs.Math.Nat.{mul-dvd-mul_left}
 use Rattle.row_arena.specs.Rows.{most_entry}
@@ -87,22 +86,3 @@ module _ (problem : Problem) (tableau : Tableau) where
 
       weaker : {z : ℤ} → pos 0 <ℤ z → pos 0 ≤ℤ z
       weaker {z} less = omega (arith, ints, less)
-
-  -- one numerator more
-  pub numerators_more : (numerators : List ℤ) (column : ℕ) (denominator numerator : ℤ)
-      → length numerators ≡ column
-      → ((k : ℕ) → k < column
-      → IsValueAt problem tableau k (get_or numerators k (pos 0)) denominator)
-      → IsValueAt problem tableau column numerator denominator → (k : ℕ) → k < column + 1
-      → IsValueAt problem tableau k (get_or (numerators ++ numerator ∷ []) k (pos 0)) denominator
-  numerators_more numerators column denominator numerator count each own k small =
-      by (last_or k column small)
-    where
-      by : (k < column) ⊎ (k ≡ column)
-          → IsValueAt problem tableau k (get_or (numerators ++ numerator ∷ []) k (pos 0))
-          denominator
-      by (inl before) =
-          rw (get_or_append_left numerators (numerator ∷ []) (pos 0) k
-          (omega (arith, count, before))) (each k before)
-      by (inr at) =
-          rw (get_or_push numerators numerator (pos 0) k (count ∙ sym at), at) own

@@ -92,7 +92,7 @@ impl Basis {
 }
 
 // So many numbers from one on.
-#[tactic(auto, using(crate::proofs::ListFacts::range_more))]
+#[tactic(auto, using(exact_sums::proofs::RangeFacts::range_more))]
 fn numbers_from(alloc: Global, from: u32, count: u32) -> Result<Vec<u32>, OutOfMemory>
     requires { from + count < 2 ^ 32 }
     ensures { IfOk result (λ numbers. numbers.items ≡ range_with_len from count) }

@@ -23,7 +23,8 @@ use Rattle.flow_types.specs.declared.parts.Parts.{Parts}
 use Rattle.flow_types.specs.declared.place.Place.{Place}
 use Rattle.scenario_maker.specs.Order.{all_follow, AreInOrder}
 use Rattle.scenario_maker.specs.Made.{made_airport, made_connection, made_connections, made_flight, made_flights, made_leg, made_parts, made_places, made_sector, made_text, ways_legs, ways_nodes}
-use Rattle.scenario_maker.specs.Courses.{airport_id, all_below, course_alone, course_back, course_by, course_of, course_out, first_sector, second_sector, sector_id, third_sector}
+use Rattle.exact_sums.specs.Lists.{all_below}
+use Rattle.scenario_maker.specs.Courses.{airport_id, course_alone, course_back, course_by, course_of, course_out, first_sector, second_sector, sector_id, third_sector}
 use Rattle.scenario_maker.specs.declared.courses.Course.{Course}
 use Rattle.scenario_maker.specs.Writing.{scenario_text}
 use Rattle.scenario_maker.proofs.StepFacts.{seam}
@@ -80,15 +81,6 @@ module _ {X : Type 0} (x : ℕ → X) where
       ap (λ (xs : List X). slice_get xs k) found.1
       ∙ ap (slice_get (items k ++ x k ∷ found.0)) (sym (below_count k))
       ∙ seam (items k) (x k) found.0
-
--- one item more
-pub below_more : {X : Type 0} (x : ℕ → X) (n : ℕ) (start so_far more : List X)
-    → so_far ≡ start ++ all_below n (λ k. x k ∷ []) → more ≡ so_far ++ x n ∷ []
-    → more ≡ start ++ all_below (n + 1) (λ k. x k ∷ [])
-below_more {X} x n start so_far more is one =
-    one ∙ ap (λ (xs : List X). xs ++ x n ∷ []) is
-    ∙ append_assoc start (all_below n (λ k. x k ∷ [])) (x n ∷ [])
-    ∙ ap (λ k. start ++ all_below k (λ k. x k ∷ [])) (sym (add-one n))
 
 -- names of a letter and a number
 digit_in_name : (b : ℕ) → is_ascii_digit b ≡ true → is_name_byte b ≡ true

@@ -22,7 +22,7 @@ use Rattle.flow_types.specs.declared.place.Place.{Place}
 use Rattle.flow_types.specs.declared.parts.Parts.{Parts}
 use Rattle.text_records.specs.Lines.{field_text}
 use Rattle.text_records.specs.Rows.{Fields}
-use Rattle.scenario_maker.specs.Courses.{all_below}
+use Rattle.exact_sums.specs.Lists.{all_below}
 use Rattle.scenario_maker.specs.Made.{made_airport, made_day, made_flight, made_flights, made_parts, made_places, made_sector, made_text, ways_legs}
 use Rattle.scenario_maker.specs.Writing.{airborne_of, beginning_text, cap_rows, change_rows, change_rows_of, connection_row, cost_rows, day_row, flight_name, flight_row, flight_rows, leg_row, more_text, on_ground_of, place_name, place_row, row_text, rows_text, scenario_rows, standing, table_name, traffic_rows, waiting}
 use Rattle.scenario_maker.proofs.ConnectionFacts.{all_front}

@@ -3,11 +3,6 @@ use Rattle.std.specs.Prelude.{ℕ, zero, suc, ◌+◌, ◌*◌, ◌/◌, ◌%◌
 use Rattle.std.specs.Fmt.{decimal}
 use Rattle.scenario_maker.specs.declared.courses.Course.{Course}
 
--- what is made of the numbers below n, one after the other
-abbrev pub all_below : {X : Type 0} → ℕ → (ℕ → List X) → List X
-all_below zero items = []
-all_below (suc n) items = all_below n items ++ items n
-
 -- the names of airports, sectors and flights
 abbrev pub airport_id : ℕ → List ℕ
 airport_id k = codes "P" ++ decimal k

@@ -8,7 +8,8 @@ use Rattle.flow_types.specs.declared.flight.Leg.{Leg}
 use Rattle.flow_types.specs.declared.parts.Parts.{Parts}
 use Rattle.flow_types.specs.declared.place.Place.{Place}
 use Rattle.flow_types.specs.declared.place.PlaceKind.TheVariants.{Airport, Sector}
-use Rattle.scenario_maker.specs.Courses.{airport_id, all_below, course_of, first_sector, flight_id, second_sector, sector_id, third_sector}
+use Rattle.exact_sums.specs.Lists.{all_below}
+use Rattle.scenario_maker.specs.Courses.{airport_id, course_of, first_sector, flight_id, second_sector, sector_id, third_sector}
 use Rattle.scenario_maker.specs.Writing.{scenario_text}
 
 -- 96 periods of 15 minutes

@@ -3,7 +3,8 @@ ghost use Rattle.std.specs.Prelude.{◌≡◌, ◌≤◌, ◌<◌, ◌==◌, ◌
 ghost use Rattle.std.specs.Fmt.{decimal};
 ghost use Rattle.flow_types.specs.Scenario.{parts_of};
 ghost use Rattle.scenario_reader.specs.Reading.{scenario_of};
-ghost use Rattle.scenario_maker.specs.Courses.{all_below, course_of};
+ghost use Rattle.exact_sums.specs.Lists.{all_below};
+ghost use Rattle.scenario_maker.specs.Courses.{course_of};
 ghost use Rattle.scenario_maker.specs.Made.{made_airport, made_connections, made_flight, made_flights, made_leg, made_parts, made_places, made_sector, made_text, ways_legs, ways_nodes};
 
 use crate::courses::{Course, course_of, first_sector, second_sector, third_sector};

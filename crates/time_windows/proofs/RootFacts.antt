@@ -1,16 +1,17 @@
 -- The root box and the list that holds it.
-use Rattle.std.proofs.Common.{◌≡◌, ◌⊎◌, ℕ, ◌+◌, ◌*◌, ◌-◌, ◌/◌, ◌%◌, ◌^◌, ◌<◌, ◌≤◌, ◌==◌, ◌||◌, min, List, [], ◌∷◌, ◌++◌, length, get_or, if◌then◌else◌, Option, None, Some, slice_get, inl, inr, refl, sym, ◌∙◌, ap, ap₂, subst, arith}
+use Rattle.std.proofs.Common.{◌≡◌, ◌⊎◌, ℕ, ◌+◌, ◌*◌, ◌-◌, ◌/◌, ◌%◌, ◌^◌, ◌<◌, ◌≤◌, ◌==◌, ◌||◌, min, List, length, get_or, if◌then◌else◌, Option, None, Some, slice_get, inl, inr, refl, sym, ◌∙◌, ap₂, subst, arith}
 use Rattle.std.proofs.lemmas.Bool.{cases_eq, cases_lt}
 use Rattle.std.proofs.lemmas.Bool.Decides.{eqb_tells, nat_tests}
-use Rattle.std.proofs.lemmas.List.{get_or_append_left, get_or_past, get_or_push, length_push}
+use Rattle.std.proofs.lemmas.List.{get_or_past}
 use Rattle.std.proofs.lemmas.Option.{get_or_from_slice_get, slice_get_past, slice_get_within}
+use Rattle.exact_sums.specs.Lists.{AreEach}
 use Rattle.flow_types.specs.declared.flight.Flight.{Flight}
 use Rattle.flow_types.specs.declared.parts.Parts.{Parts}
 use Rattle.flow_types.specs.Limits.{most_nodes}
 use Rattle.flow_types.specs.Trips.{earliest_of, latest_of}
 use Rattle.flow_types.specs.Valid.{IsFlight, IsScenario}
 use Rattle.time_windows.specs.declared.access.Access.{Access}
-use Rattle.time_windows.specs.Boxes.{closed, root_access, root_box, root_row}
+use Rattle.time_windows.specs.Boxes.{closed, root_box, root_row}
 use Rattle.time_windows.specs.Held.{access_at}
 use Rattle.time_windows.specs.Narrowing.{AreAccesses, IsSound}
 use Rattle.time_windows.proofs.WindowFacts.{if_lt}
@@ -69,38 +70,10 @@ root_sound parts k node valid (Some flight) is =
     }) closed (λ _. hours) (λ _. tt)
 
 -- the list holds the root box as far as the index
-pub record IsRootTo (parts : Parts) (accesses : List Access) (index : ℕ) : Type 0 where
-  pub count : length accesses ≡ index
-  pub each : (k : ℕ) → k < index
-      → get_or accesses k closed
-      ≡ root_row parts.day.periods (slice_get parts.flights (k / 32)) (k % 32)
-
-pub root_none : (parts : Parts) → IsRootTo parts [] 0
-root_none parts = record { count = refl; each = λ k below. absurd (omega arith) }
-
-pub root_more : (parts : Parts) (accesses : List Access) (index : ℕ) (flight : Flight)
-    → slice_get parts.flights (index / 32) ≡ Some flight → IsRootTo parts accesses index
-    → IsRootTo parts
-    (accesses ++ root_access parts.day.periods flight (index % 32) ∷ []) (index + 1)
-root_more parts accesses index flight is so_far = record {
-  count = length_push accesses (root_access parts.day.periods flight (index % 32))
-      ∙ ap (λ i. i + 1) so_far.count;
-  each = λ k below. at k below (cases_eq k index);
-}
-  where
-    now : List Access
-    now = accesses ++ root_access parts.day.periods flight (index % 32) ∷ []
-
-    at : (k : ℕ) → k < index + 1 → (k ≡ index) ⊎ (k ≡ index → ⊥)
-        → get_or (accesses ++ root_access parts.day.periods flight (index % 32) ∷ []) k closed
-        ≡ root_row parts.day.periods (slice_get parts.flights (k / 32)) (k % 32)
-    at k below (inl last) = rw (last, is)
-        (get_or_push accesses (root_access parts.day.periods flight (index % 32)) closed index
-        so_far.count)
-    at k below (inr apart) =
-        get_or_append_left accesses (root_access parts.day.periods flight (index % 32) ∷ []) closed
-        k
-        (omega (arith, so_far.count)) ∙ so_far.each k (omega arith)
+abbrev pub IsRootTo : Parts → List Access → ℕ → Type 0
+IsRootTo parts accesses index =
+    AreEach (λ k access. access
+    ≡ root_row parts.day.periods (slice_get parts.flights (k / 32)) (k % 32)) closed index accesses
 
 pub place_flight : (f n : ℕ) → n < 32 → (f * 32 + n) / 32 ≡ f
 place_flight f n few = omega arith
@@ -142,7 +115,7 @@ root_all parts accesses index valid all so_far f n =
     at few (inr past) =
         rw (
           slice_get_past parts.flights f past,
-          get_or_past accesses (f * 32 + n) closed (omega (arith, so_far.count)),
+          get_or_past accesses (f * 32 + n) closed (omega (arith, so_far.long)),
         ) refl
 
 pub root_accesses : (parts : Parts) (accesses : List Access) (index : ℕ) → IsScenario parts
@@ -151,5 +124,5 @@ root_accesses parts accesses index valid all so_far = record {
   sound = λ f n. subst (λ (a : Access). IsSound a.window)
       (sym (root_all parts accesses index valid all so_far f n))
       (root_sound parts f n valid (slice_get parts.flights f) refl);
-  few = omega (arith, so_far.count, valid.flights.few);
+  few = omega (arith, so_far.long, valid.flights.few);
 }

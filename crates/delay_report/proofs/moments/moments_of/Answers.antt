@@ -1,6 +1,7 @@
 use Rattle.std.proofs.Common.{◌≡◌, subst, arith, rules}
+use Rattle.exact_sums.proofs.EachFacts.{each_more}
 use Rattle.delay_report.specs.Moments.{AreMoments, IsMoment}
-use Rattle.delay_report.proofs.MomentFacts.{AreFirst, all_moments, one_more}
+use Rattle.delay_report.proofs.MomentFacts.{AreFirst, all_moments}
 use Rattle.delay_report.proofs.moments.moments_of.Goals as goal
 
 pub loop-period-preserved : goal.loop-period-preserved
@@ -15,8 +16,7 @@ loop-period-preserved c =
       };
       spelled = c.moment_text.ensures;
     } in
-    one_more day c.loop-period.moments.items c.moment_text.result c.loop-period.period
-    c.push.new.self.items (search rules) c.loop-period.invariant last
+    each_more c.loop-period.invariant last c.in_ok-push.ensures.items
 
 pub returns : goal.returns
 returns c =

@@ -1,10 +1,11 @@
-use Rattle.std.proofs.Common.{◌+◌, ap, arith, length, sum_by}
+use Rattle.std.proofs.Common.{◌+◌, ap, arith, length, sum_by, sym}
 use Rattle.std.proofs.lemmas.Result.{err_from_is_err_and}
 use Rattle.std.specs.List.{range_with_len}
 use Rattle.time_windows.specs.Subproblems.{box_in, parts_in}
 use Rattle.exact_sums.proofs.LoopFacts.{numbers_more}
+use Rattle.exact_sums.proofs.RangeFacts.{sum_next}
 use Rattle.presolve.specs.Counting.{column_entries, flight_entries}
-use Rattle.presolve.proofs.CountFacts.{counted_both, sum_ranged_next, sum_ranged_within, wide_both}
+use Rattle.presolve.proofs.CountFacts.{counted_both, sum_ranged_within, wide_both}
 use Rattle.presolve.proofs.columns.add_all.Goals as goal
 
 pub returns-in_err-add_counted-clause-wide : goal.returns-in_err-add_counted-clause-wide
@@ -28,5 +29,5 @@ loop-flight-preserved c =
           (part c.loop-flight.flight) (sum_by part (range_with_len 0 (c.loop-flight.flight + 1)))
           c.args.tally.now c.loop-flight.tally c.add_counted.new.tally
           c.loop-flight.invariant.counted c.in_ok-add_counted.ensures.counted
-          (sum_ranged_next part c.loop-flight.flight);
+          (sym (sum_next part c.loop-flight.flight));
     }

@@ -1,11 +1,12 @@
 use Rattle.std.proofs.Common.{◌∙◌, arith, ◌+◌}
 use Rattle.std.proofs.lemmas.Result.{err_from_is_err_and}
 use Rattle.std.specs.List.{flat_map, range_with_len}
+use Rattle.exact_sums.proofs.RangeFacts.{flat_map_next}
 use Rattle.scaled_simplex.specs.Program.{most_indices}
 use Rattle.bytime_model.specs.AllRows.{kind_rows, part_rows}
 use Rattle.bytime_model.specs.Kinds.{part_count}
 use Rattle.presolve.specs.Frames.{box_in, parts_in, pool_in}
-use Rattle.presolve.proofs.NamesFacts.{adds_both, adds_room, adds_wide, front_ranged, next_ranged}
+use Rattle.presolve.proofs.NamesFacts.{adds_both, adds_room, adds_wide, front_ranged}
 use Rattle.presolve.proofs.kinds.add_kind.Goals as goal
 
 pub add_rows-requires-clause-few : goal.add_rows-requires-clause-few
@@ -16,7 +17,7 @@ add_rows-requires-clause-few c =
     (flat_map part (range_with_len 0 i)) c.items.result.now
     (flat_map part (range_with_len 0 (i + 1))) (kind_rows (parts_in c.args.frame.now) c.args.kind)
     c.args.draft.now c.loop-position.draft most_indices c.loop-position.invariant
-    (next_ranged part i c.items.result.now (c.items.ensures ∙ c.in_ok-names.ensures))
+    (flat_map_next part i c.items.result.now (c.items.ensures ∙ c.in_ok-names.ensures))
     (front_ranged part 0 (i + 1) (part_count (parts_in c.args.frame.now) c.args.kind)
     (omega (arith, c.loop-position-test.true, c.part_count-position-end.ensures)))
     c.requires.few
@@ -32,7 +33,7 @@ returns-in_err-add_rows-clause-wide c =
     (flat_map part (range_with_len 0 i)) c.items.result.now
     (flat_map part (range_with_len 0 (i + 1))) (kind_rows (parts_in c.args.frame.now) c.args.kind)
     c.args.draft.now c.loop-position.draft c.in_err-add_rows.field-0.0 c.loop-position.invariant
-    (next_ranged part i c.items.result.now (c.items.ensures ∙ c.in_ok-names.ensures))
+    (flat_map_next part i c.items.result.now (c.items.ensures ∙ c.in_ok-names.ensures))
     (front_ranged part 0 (i + 1) (part_count (parts_in c.args.frame.now) c.args.kind)
     (omega (arith, c.loop-position-test.true, c.part_count-position-end.ensures)))
     c.in_err-add_rows.ensures.wide)
@@ -45,4 +46,4 @@ loop-position-preserved c =
     (flat_map part (range_with_len 0 i)) c.items.result.now
     (flat_map part (range_with_len 0 (i + 1))) c.args.draft.now c.loop-position.draft
     c.add_rows.new.draft c.loop-position.invariant c.in_ok-add_rows.ensures.adds
-    (next_ranged part i c.items.result.now (c.items.ensures ∙ c.in_ok-names.ensures))
+    (flat_map_next part i c.items.result.now (c.items.ensures ∙ c.in_ok-names.ensures))

@@ -1,10 +1,9 @@
-use Rattle.std.proofs.Common.{[], ap, get_or, length, pos, subst, sym, ◌+◌, ◌++◌, ◌∙◌, ◌∷◌}
+use Rattle.std.proofs.Common.{[], ap, ◌++◌, ◌∙◌, ◌∷◌}
 use Rattle.std.specs.Int.{w128}
 use Rattle.std.proofs.lemmas.Int.{to_z-of_z}
-use Rattle.std.proofs.lemmas.List.{length_push}
+use Rattle.exact_sums.proofs.EachFacts.{each_more}
 use Rattle.scaled_simplex.specs.BoardOf.{tableau_of}
-use Rattle.scaled_simplex.specs.Fractions.{IsValueAt}
-use Rattle.scaled_simplex.proofs.CommonFacts.{numerators_more, value_at}
+use Rattle.scaled_simplex.proofs.CommonFacts.{value_at}
 use Rattle.scaled_simplex.proofs.QuotientFacts.{bottom_above, top_low}
 use Rattle.scaled_simplex.proofs.fractions.numerators_over.Goals as goal
 
@@ -18,18 +17,8 @@ loop-column-preserved c =
     let items = c.loop-column.numerators.items in
     let back = to_z-of_z w128 number (record { sfits = c.numerator_over.type_inv }) in
     let pushed = c.in_ok-push.ensures.items ∙ ap (λ n. items ++ n ∷ []) back in
-    record {
-      count = ap length pushed ∙ length_push items number
-          ∙ ap (λ n. n + 1) c.loop-column.invariant.count;
-      each = λ k small.
-          subst (λ items. IsValueAt problem tableau k (get_or items k (pos 0))
-          (pos c.args.denominator)) (sym pushed)
-          (numerators_more problem tableau items column
-          (pos c.args.denominator) number c.loop-column.invariant.count
-          c.loop-column.invariant.each
-          (value_at problem tableau column value.result.top value.result.bottom c.args.denominator
-          number value.ensures.top value.ensures.bottom
-          (top_low problem tableau column c.requires.last.none)
-          (bottom_above problem tableau column c.requires.last.basic) c.numerator_over.ensures)
-          k small);
-    }
+    each_more c.loop-column.invariant
+    (value_at problem tableau column value.result.top value.result.bottom c.args.denominator
+    number value.ensures.top value.ensures.bottom
+    (top_low problem tableau column c.requires.last.none)
+    (bottom_above problem tableau column c.requires.last.basic) c.numerator_over.ensures) pushed

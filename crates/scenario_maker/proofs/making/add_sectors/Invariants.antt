@@ -1,5 +1,5 @@
 use Rattle.std.proofs.Common.{◌≡◌, ◌++◌, ◌∷◌, []}
-use Rattle.scenario_maker.specs.Courses.{all_below}
+use Rattle.exact_sums.specs.Lists.{all_below}
 use Rattle.scenario_maker.specs.Made.{made_sector}
 use Rattle.scenario_maker.proofs.making.add_sectors.Given as goal
 

@@ -1,9 +1,11 @@
-use Rattle.std.proofs.Common.{◌<◌, ◌/◌, length, refl, ap, arith}
+use Rattle.std.proofs.Common.{◌≡◌, ◌<◌, ◌/◌, ◌%◌, Some, length, slice_get, refl, sym, ap, arith}
 use Rattle.std.proofs.lemmas.Option.{slice_get_read}
+use Rattle.exact_sums.proofs.EachFacts.{each_more}
 use Rattle.flow_types.specs.Scenario.{parts_of}
+use Rattle.time_windows.specs.Boxes.{root_row}
 use Rattle.time_windows.specs.Held.{access_at}
 use Rattle.time_windows.proofs.MadeFacts.{root_inside}
-use Rattle.time_windows.proofs.RootFacts.{root_accesses, root_all, root_more}
+use Rattle.time_windows.proofs.RootFacts.{root_accesses, root_all}
 use Rattle.time_windows.proofs.boxes.Boxes.root.Goals as goal
 
 pub loop-index-preserved : goal.loop-index-preserved
@@ -13,10 +15,12 @@ loop-index-preserved c =
     let flight = c.index-flights-index.result in
     let below : index / 32 < length parts.flights =
     omega (arith, c.loop-index-test.true, ap length c.flights-flights.ensures) in
+    let here : slice_get parts.flights (index / 32) ≡ Some flight =
+    slice_get_read parts.flights (length parts.flights) (index / 32) flight refl below
+    (rw c.flights-flights.ensures at c.index-flights-index.is) in
     rw (c.in_ok-push.ensures.items, c.root_access.ensures, c.day-periods.ensures)
-    (root_more parts c.loop-index.accesses.items index flight
-    (slice_get_read parts.flights (length parts.flights) (index / 32) flight refl below
-    (rw c.flights-flights.ensures at c.index-flights-index.is)) c.loop-index.invariant)
+    (each_more c.loop-index.invariant
+    (ap (λ found. root_row parts.day.periods found (index % 32)) (sym here)) refl)
 
 pub invariant_of-result : goal.invariant_of-result
 invariant_of-result c =
