@@ -1,25 +1,21 @@
 -- The legs of a text that reads stand in an order in which they can be read.
-use Rattle.std.proofs.Common.{◌≡◌, ◌≢◌, ◌⊎◌, ℕ, ◌+◌, ◌==◌, ◌<◌, Bool, true, false, not, ◌&&◌, ◌||◌, List, [], ◌∷◌, ◌++◌, map, length, get_or, slice_get, Option, Some, None, Result, Ok, Err, All, IsTrue, refl, sym, ap, subst, ◌∙◌, inl, inr, arith, append_assoc}
-use Rattle.std.specs.List.{list_all, list_any}
+use Rattle.std.proofs.Common.{◌≡◌, ℕ, ◌==◌, Bool, true, false, not, ◌&&◌, ◌||◌, List, [], ◌∷◌, ◌++◌, map, get_or, Ok, All, IsTrue, refl, sym, ap, subst, ◌∙◌, inl, inr, arith, append_assoc}
+use Rattle.std.specs.List.{list_all}
 use Rattle.std.proofs.lemmas.Bool.{and_from, and_parts, cases_Bool, eq-eqb, eqb-true, ne_eqb, not_from_false, or_cases, or_from, or_left, or_parts, or_right}
 use Rattle.std.proofs.lemmas.List.{append-nil, map-append}
 use Rattle.std.proofs.lemmas.List.Elements.{All-cons, All-push}
 use Rattle.std.proofs.lemmas.List.Folds.{list_any-append}
-use Rattle.std.proofs.lemmas.List.Sums.{AllPass-from_list_all}
 use Rattle.std.proofs.lemmas.Option.{same_Some}
 use Rattle.flow_types.specs.Routes.{is_entered, is_left}
-use Rattle.flow_types.specs.declared.day.Day.{Day}
-use Rattle.flow_types.specs.declared.fault.Fault.{Fault}
 use Rattle.flow_types.specs.declared.flight.Cost.{Cost}
 use Rattle.flow_types.specs.declared.flight.Cost.TheVariants.{Tables}
 use Rattle.flow_types.specs.declared.flight.Flight.{Flight}
 use Rattle.flow_types.specs.declared.flight.Leg.{Leg}
 use Rattle.flow_types.specs.declared.parts.Parts.{Parts}
 use Rattle.flow_types.specs.declared.place.Place.{Place}
-use Rattle.text_records.specs.Errors.{◌>>=◌, in_record}
+use Rattle.text_records.specs.Errors.{◌>>=◌}
 use Rattle.text_records.specs.Fields.{field_in}
-use Rattle.text_records.specs.Rows.{Fields, rows_of}
-use Rattle.text_records.specs.declared.error.FieldFault.{FieldFault}
+use Rattle.text_records.specs.Rows.{Fields}
 use Rattle.text_records.proofs.StepFacts.{bound, given, needed, ok_is}
 use Rattle.scenario_reader.specs.Capacities.{cap_change_of}
 use Rattle.scenario_reader.specs.Connections.{connection_of}
@@ -27,18 +23,17 @@ use Rattle.scenario_reader.specs.DraftParts.{DraftParts, flight_names, node_tota
 use Rattle.scenario_reader.specs.Finish.{finished, finished_flight, finished_flights, flight_with, has_route, leads_on, leg_between, node_of, nodes_of}
 use Rattle.scenario_reader.specs.Flights.{cost_in, destination_in, flight_name_of, flight_of, hours_in, origin_in}
 use Rattle.scenario_reader.specs.Kinds.{kind_of}
-use Rattle.scenario_reader.specs.Legs.{adds_node, is_among, is_back, leg_in, passes_new, with_leg, with_new}
+use Rattle.scenario_reader.specs.Legs.{adds_node, is_among, leg_in, passes_new, with_leg, with_new}
 use Rattle.scenario_reader.specs.Places.{airport_of, sector_of}
-use Rattle.scenario_reader.specs.Reading.{airport_step, cap_step, connect_step, cost_step, day_by_kind, first_step, flight_step, leg_step, record_step, records_step, scenario_from, scenario_of, sector_step, step_of, table_step}
+use Rattle.scenario_reader.specs.Reading.{airport_step, cap_step, connect_step, cost_step, day_by_kind, first_step, flight_step, leg_step, scenario_of, sector_step, table_step}
 use Rattle.scenario_reader.specs.Tables.{pricing_of, table_of, with_cost}
 use Rattle.scenario_reader.specs.Validity.{IsNewLeg, ends_leg, starts_leg}
 use Rattle.scenario_reader.specs.declared.flight_draft.FlightDraft.{FlightDraft}
 use Rattle.scenario_reader.specs.declared.flight_draft.PlaceLeg.{PlaceLeg}
-use Rattle.scenario_reader.specs.declared.kind.Kind.{Kind}
-use Rattle.scenario_reader.specs.declared.kind.Kind.TheVariants as kind
 use Rattle.scenario_reader.proofs.ChangeFacts.{All-changed}
 use Rattle.scenario_reader.proofs.NetworkFacts.{clash, not_both_not}
 use Rattle.scenario_reader.proofs.PlaceFacts.{All-new, among_added, among_back, among_first, among_front, among_more, among_new, holds_among, node_at}
+use Rattle.scenario_reader.proofs.KeptFacts.{IsKept, draft_of}
 use Rattle.scenario_reader.proofs.ValidLegs.{leg_found}
 use Rattle.scenario_maker.specs.Order.{AreInOrder, all_follow}
 use Rattle.scenario_maker.proofs.PlainFacts.{first_holds, others_hold}
@@ -297,41 +292,6 @@ after_leg draft next fields are e =
     (subst (λ (f : FlightDraft). IsNewLeg draft.places (node_total draft.flights) f found.0.1)
     (same_Some new.flight d (sym new.here ∙ there)) new.valid) is))
 
-after_kind : (draft next : DraftParts) (at : ℕ) (fields : Fields) (of_kind : Option Kind)
-    → AreOrdered draft → step_of draft at fields of_kind ≡ Ok next → AreOrdered next
-after_kind draft next at fields None are e = absurd cc
-after_kind draft next at fields (Some kind.Day) are e = absurd cc
-after_kind draft next at fields (Some kind.Airport) are e = after_airport draft next fields are e
-after_kind draft next at fields (Some kind.Sector) are e = after_sector draft next fields are e
-after_kind draft next at fields (Some kind.Flight) are e = after_flight draft next at fields are e
-after_kind draft next at fields (Some kind.Leg) are e = after_leg draft next fields are e
-after_kind draft next at fields (Some kind.Connect) are e = after_connect draft next fields are e
-after_kind draft next at fields (Some kind.Table) are e = after_table draft next fields are e
-after_kind draft next at fields (Some kind.Cost) are e = after_cost draft next fields are e
-after_kind draft next at fields (Some kind.Cap) are e = after_cap draft next fields are e
-after_kind draft next at fields (Some kind.Note) are e = subst AreOrdered (ok_is draft next e) are
-
-after_record : (draft next : DraftParts) (at : ℕ) (fields : Fields) → AreOrdered draft
-    → record_step draft at fields ≡ Ok next → AreOrdered next
-unfolding record_step
-after_record draft next at fields are e =
-    let word = bound (field_in fields 1) _ next e in
-    after_kind draft next at fields (kind_of word.0) are word.2
-
-in_record_ok : {A : Type 0} (at : ℕ) (read : Result A FieldFault) (next : A)
-    → in_record at read ≡ Ok next → read ≡ Ok next
-in_record_ok at (Ok x) next e = cc
-in_record_ok at (Err fault) next e = absurd cc
-
-after_records : (at : ℕ) (draft last : DraftParts) (rows : List Fields) → AreOrdered draft
-    → records_step at draft rows ≡ Ok last → AreOrdered last
-unfolding records_step
-after_records at draft last [] are e = subst AreOrdered (ok_is draft last e) are
-after_records at draft last (fields ∷ rows) are e =
-    let next = bound (in_record at (record_step draft at fields)) _ last e in
-    let step = in_record_ok at (record_step draft at fields) next.0 next.1 in
-    after_records (at + 1) next.0 last rows (after_record draft next.0 at fields are step) next.2
-
 after_first : (fields : Fields) (draft : DraftParts) → first_step fields ≡ Ok draft
     → AreOrdered draft
 unfolding first_step
@@ -470,16 +430,21 @@ ended_in_order draft parts are e =
     subst (λ (p : Parts). AreInOrder p.flights) (ok_is _ parts flights.2)
     (all_in_order draft.flights flights.0 are flights.1)
 
-rows_in_order : (rows : List Fields) (parts : Parts) → scenario_from rows ≡ Ok parts
-    → AreInOrder parts.flights
-unfolding scenario_from
-rows_in_order [] parts e = absurd cc
-rows_in_order (fields ∷ rows) parts e =
-    let first = bound (in_record 1 (first_step fields)) _ parts e in
-    let last = bound (records_step 2 first.0 rows) _ parts first.2 in
-    let begins = after_first fields first.0 (in_record_ok 1 (first_step fields) first.0 first.1) in
-    ended_in_order last.0 parts (after_records 2 first.0 last.0 rows begins last.1) last.2
+kept : IsKept AreOrdered
+kept = record {
+  first = after_first;
+  airport = after_airport;
+  sector = after_sector;
+  flight = λ at draft next fields. after_flight draft next at fields;
+  leg = after_leg;
+  connect = after_connect;
+  table = after_table;
+  cost = after_cost;
+  cap = after_cap;
+}
 
 pub text_in_order : (bytes : List ℕ) (parts : Parts) → scenario_of bytes ≡ Ok parts
     → AreInOrder parts.flights
-text_in_order bytes parts e = rows_in_order (rows_of bytes) parts e
+text_in_order bytes parts e =
+    let read = draft_of AreOrdered kept bytes parts e in
+    ended_in_order read.0 parts read.1 read.2

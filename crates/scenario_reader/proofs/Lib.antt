@@ -13,5 +13,6 @@ pub mod ValidFields
 pub mod ValidRecords
 pub mod ValidLegs
 pub mod ValidTables
+pub mod KeptFacts
 pub mod ValidTexts
 mod Worked

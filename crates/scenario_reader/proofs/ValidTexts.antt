@@ -1,15 +1,13 @@
 -- A text that reads is the text of a valid scenario.
-use Rattle.std.proofs.Common.{◌≡◌, ℕ, ◌+◌, List, [], ◌∷◌, Option, Some, None, Result, Ok, Err, subst, arith}
+use Rattle.std.proofs.Common.{◌≡◌, ℕ, List, Option, Some, None, Ok, subst, arith}
 use Rattle.std.proofs.lemmas.List.{length-map}
 use Rattle.flow_types.specs.Valid.{IsDay, IsScenario}
 use Rattle.flow_types.specs.declared.day.Day.{Day}
 use Rattle.flow_types.specs.declared.flight.CostTable.{CostTable}
 use Rattle.flow_types.specs.declared.parts.Parts.{Parts}
 use Rattle.flow_types.specs.declared.place.Place.{Place}
-use Rattle.text_records.specs.Errors.{in_record}
 use Rattle.text_records.specs.Fields.{field_in}
-use Rattle.text_records.specs.Rows.{Fields, rows_of}
-use Rattle.text_records.specs.declared.error.FieldFault.{FieldFault}
+use Rattle.text_records.specs.Rows.{Fields}
 use Rattle.scenario_reader.specs.Capacities.{cap_change_of}
 use Rattle.scenario_reader.specs.Connections.{connection_of}
 use Rattle.scenario_reader.specs.DraftParts.{DraftParts, place_names, table_names}
@@ -18,7 +16,7 @@ use Rattle.scenario_reader.specs.Flights.{flight_of}
 use Rattle.scenario_reader.specs.Kinds.{kind_of}
 use Rattle.scenario_reader.specs.Legs.{leg_in}
 use Rattle.scenario_reader.specs.Places.{airport_of, sector_of}
-use Rattle.scenario_reader.specs.Reading.{airport_step, cap_step, connect_step, cost_step, day_by_kind, first_step, flight_step, leg_step, no_parts, record_step, records_step, scenario_from, scenario_of, sector_step, step_of, table_step, with_place}
+use Rattle.scenario_reader.specs.Reading.{airport_step, cap_step, connect_step, cost_step, day_by_kind, first_step, flight_step, leg_step, no_parts, scenario_of, sector_step, table_step, with_place}
 use Rattle.scenario_reader.specs.Tables.{pricing_of, table_of}
 use Rattle.scenario_reader.specs.Validity.{IsValidDraft}
 use Rattle.scenario_reader.specs.declared.flight_draft.FlightDraft.{FlightDraft}
@@ -27,6 +25,7 @@ use Rattle.scenario_reader.specs.declared.kind.Kind.TheVariants as kind
 use Rattle.scenario_reader.proofs.DraftFacts.{parts_with_change, parts_with_connection, parts_with_flight, parts_with_leg, parts_with_place, parts_with_pricing, parts_with_table}
 use Rattle.scenario_reader.proofs.FinishFacts.{scenario_is}
 use Rattle.text_records.proofs.StepFacts.{bound, ok_is}
+use Rattle.scenario_reader.proofs.KeptFacts.{IsKept, draft_of}
 use Rattle.scenario_reader.proofs.ValidLegs.{leg_found}
 use Rattle.scenario_reader.proofs.ValidRecords.{airport_is, change_is, connection_is, day_is, flight_is, IsNewPlace, sector_is}
 use Rattle.scenario_reader.proofs.ValidTables.{pricing_is, table_is}
@@ -115,45 +114,6 @@ after_cap draft next fields valid e =
     (parts_with_change draft change.0 valid
     (change_is draft.day.periods draft.places fields change.0 valid.day.periods_from change.1))
 
-after_kind : (draft next : DraftParts) (at : ℕ) (fields : Fields) (of_kind : Option Kind)
-    → IsValidDraft draft → step_of draft at fields of_kind ≡ Ok next → IsValidDraft next
-after_kind draft next at fields None valid e = absurd cc
-after_kind draft next at fields (Some kind.Day) valid e = absurd cc
-after_kind draft next at fields (Some kind.Airport) valid e =
-    after_airport draft next fields valid e
-after_kind draft next at fields (Some kind.Sector) valid e = after_sector draft next fields valid e
-after_kind draft next at fields (Some kind.Flight) valid e =
-    after_flight draft next at fields valid e
-after_kind draft next at fields (Some kind.Leg) valid e = after_leg draft next fields valid e
-after_kind draft next at fields (Some kind.Connect) valid e =
-    after_connect draft next fields valid e
-after_kind draft next at fields (Some kind.Table) valid e = after_table draft next fields valid e
-after_kind draft next at fields (Some kind.Cost) valid e = after_cost draft next fields valid e
-after_kind draft next at fields (Some kind.Cap) valid e = after_cap draft next fields valid e
-after_kind draft next at fields (Some kind.Note) valid e =
-    subst IsValidDraft (ok_is draft next e) valid
-
-after_record : (draft next : DraftParts) (at : ℕ) (fields : Fields) → IsValidDraft draft
-    → record_step draft at fields ≡ Ok next → IsValidDraft next
-unfolding record_step
-after_record draft next at fields valid e =
-    let word = bound (field_in fields 1) _ next e in
-    after_kind draft next at fields (kind_of word.0) valid word.2
-
-in_record_ok : (at : ℕ) (read : Result DraftParts FieldFault) (next : DraftParts)
-    → in_record at read ≡ Ok next → read ≡ Ok next
-in_record_ok at (Ok x) next e = cc
-in_record_ok at (Err fault) next e = absurd cc
-
-after_records : (at : ℕ) (draft last : DraftParts) (rows : List Fields) → IsValidDraft draft
-    → records_step at draft rows ≡ Ok last → IsValidDraft last
-unfolding records_step
-after_records at draft last [] valid e = subst IsValidDraft (ok_is draft last e) valid
-after_records at draft last (fields ∷ rows) valid e =
-    let next = bound (in_record at (record_step draft at fields)) _ last e in
-    let step = in_record_ok at (record_step draft at fields) next.0 next.1 in
-    after_records (at + 1) next.0 last rows (after_record draft next.0 at fields valid step) next.2
-
 -- a day alone keeps the rules
 day_alone : (day : Day) → IsDay day → IsValidDraft (no_parts day)
 day_alone day valid = record {
@@ -211,14 +171,19 @@ ended draft parts valid e =
     let flights = bound (finished_flights draft.flights) _ parts e in
     subst IsScenario (ok_is _ parts flights.2) (scenario_is draft flights.0 valid flights.1)
 
-rows_are : (rows : List Fields) (parts : Parts) → scenario_from rows ≡ Ok parts → IsScenario parts
-unfolding scenario_from
-rows_are [] parts e = absurd cc
-rows_are (fields ∷ rows) parts e =
-    let first = bound (in_record 1 (first_step fields)) _ parts e in
-    let last = bound (records_step 2 first.0 rows) _ parts first.2 in
-    let begins = after_first fields first.0 (in_record_ok 1 (first_step fields) first.0 first.1) in
-    ended last.0 parts (after_records 2 first.0 last.0 rows begins last.1) last.2
+kept : IsKept IsValidDraft
+kept = record {
+  first = after_first;
+  airport = after_airport;
+  sector = after_sector;
+  flight = λ at draft next fields. after_flight draft next at fields;
+  leg = after_leg;
+  connect = after_connect;
+  table = after_table;
+  cost = after_cost;
+  cap = after_cap;
+}
 
 pub text_is : (bytes : List ℕ) (parts : Parts) → scenario_of bytes ≡ Ok parts → IsScenario parts
-text_is bytes parts e = rows_are (rows_of bytes) parts e
+text_is bytes parts e =
+    let read = draft_of IsValidDraft kept bytes parts e in ended read.0 parts read.1 read.2

@@ -1,4 +1,4 @@
-use Rattle.std.proofs.Common.{◌≡◌, subst, arith, rules}
+use Rattle.std.proofs.Common.{◌≡◌, subst, arith}
 use Rattle.exact_sums.proofs.EachFacts.{each_more}
 use Rattle.delay_report.specs.Moments.{AreMoments, IsMoment}
 use Rattle.delay_report.proofs.MomentFacts.{AreFirst, all_moments}
