@@ -1,7 +1,8 @@
 -- Lines of full capacities, one more; delays together; and what loads count.
-use Rattle.std.proofs.Common.{◌≡◌, ℕ, zero, suc, ◌+◌, ◌*◌, ◌==◌, ◌<◌, ◌≤◌, Bool, true, false, List, [], ◌++◌, append-nil, length, slice_get, Option, Some, ℤ, pos, neg_ℤ, ◌≤ℤ◌, to_z, of_z, w64, refl, sym, ap, ap₂, ◌∙◌, add-one, append_assoc, arith, if◌then◌else◌}
+use Rattle.std.proofs.Common.{◌≡◌, ℕ, zero, suc, ◌+◌, ◌==◌, ◌<◌, Bool, true, false, List, [], ◌++◌, append-nil, length, slice_get, Option, Some, ℤ, pos, neg_ℤ, ◌≤ℤ◌, to_z, of_z, w64, refl, sym, ap, ap₂, ◌∙◌, append_assoc, arith, if◌then◌else◌}
 use Rattle.std.proofs.lemmas.Int.{fits_signed_from_abs, ints, to_z-of_z}
-use Rattle.exact_sums.specs.Near.{IsNear}
+use Rattle.exact_sums.specs.Lists.{all_below}
+use Rattle.exact_sums.proofs.RangeFacts.{below_more}
 use Rattle.flow_types.specs.declared.flight.Flight.{Flight}
 use Rattle.flow_types.specs.declared.parts.Parts.{Parts}
 use Rattle.flow_types.specs.declared.place.CapKind.{CapKind}
@@ -19,8 +20,6 @@ use Rattle.plan_rules.specs.declared.judging.Verdict.{Verdict}
 use Rattle.plan_rules.specs.declared.judging.Verdict.TheVariants.{Keeps, Breaks}
 use Rattle.delay_report.specs.declared.delays.Delay.{Delay}
 use Rattle.delay_report.specs.Delays.{AreShort, all_full, both_delays, count_of, delay_between, flown_at, flown_in, full_at, full_line, full_text, full_texts, stops_in}
-use Rattle.exact_sums.specs.Lists.{all_below}
-use Rattle.exact_sums.proofs.RangeFacts.{below_more}
 
 -- one delay more
 pub more_delay : (n : ℕ) (first second : Delay) → AreShort n first → AreShort 1 second
@@ -41,7 +40,7 @@ pub more_full : (parts : Parts) (moments : List (List ℕ)) (kind : CapKind) (co
     → new ≡ out ++ (if full then full_line parts moments kind place period else [])
     → new ≡ start ++ all_below (period + 1) (full_text parts moments kind count place)
 more_full parts moments kind count place period full start out new so_far is put =
-    below_more period (full_text parts moments kind count place) start out new so_far
+    below_more (full_text parts moments kind count place) period start out new so_far
     (put ∙ ap (λ (b : Bool). out ++ (if b then full_line parts moments kind place period else []))
     is)
 

@@ -1,8 +1,5 @@
 -- Each period of a day begins at a moment that jiff has; and what is known of a list of the first ones.
-use Rattle.std.proofs.Common.{◌≡◌, ◌⊎◌, ℕ, ◌+◌, ◌*◌, ◌<◌, ◌≤◌, List, [], ◌∷◌, ◌++◌, length, slice_index_or, pos, ◌+ℤ◌, ◌<ℤ◌, ◌≤ℤ◌, inl, inr, refl, subst, arith, rules, mul-le-mul, length-append}
-use Rattle.std.proofs.lemmas.Bool.{cases_lt}
-use Rattle.std.proofs.Math.ListN.{get_or-append}
-use Rattle.std.proofs.Math.Seq.{get_or-append_seam}
+use Rattle.std.proofs.Common.{◌≡◌, ℕ, ◌*◌, ◌<◌, ◌≤◌, List, [], pos, ◌+ℤ◌, ◌<ℤ◌, ◌≤ℤ◌, inl, refl, subst, arith, rules, mul-le-mul}
 use Rattle.exact_sums.specs.Lists.{AreEach}
 use Rattle.flow_types.specs.declared.day.Day.{Day}
 use Rattle.flow_types.specs.Valid.{IsDay}

@@ -1,6 +1,7 @@
 //! What is printed of the delays of a plan, and of the capacities that it uses up.
 ghost use Rattle.std.specs.Prelude.{◌≡◌, ◌++◌, ◌==◌, ◌<◌, IfOk, IfSome, IsTrue, OnOk, Some, length, pos, slice_get, ◌-ℤ◌};
 ghost use Rattle.std.specs.Fmt.{signed_decimal};
+ghost use Rattle.exact_sums.specs.Lists.{all_below};
 ghost use Rattle.flow_types.specs.Capacities.{capacity_of, has_kind};
 ghost use Rattle.flow_types.specs.Feasible.{IsFeasible};
 ghost use Rattle.flow_types.specs.Limits.{most_flights};

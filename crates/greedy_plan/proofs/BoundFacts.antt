@@ -7,6 +7,7 @@ use Rattle.exact_sums.specs.Leasts.{IsLeast, IsLeastAt}
 use Rattle.exact_sums.specs.Sums.{total, plus}
 use Rattle.exact_sums.proofs.RangeFacts.{total_next}
 use Rattle.exact_sums.proofs.LeastFacts.{least_said}
+use Rattle.exact_sums.specs.Near.{IsNear}
 use Rattle.flow_types.specs.declared.bound.Bound.{Bound}
 use Rattle.flow_types.specs.declared.bound.Bound.TheVariants.{AtLeast, NoPlan}
 use Rattle.flow_types.specs.declared.flight.CostTable.{CostTable}
@@ -28,7 +29,6 @@ use Rattle.time_windows.specs.Boxes.{Box, IsInBox}
 use Rattle.time_windows.specs.Plans.{AreTripsIn}
 use Rattle.flow_types.specs.Bounds.{IsLowerBound}
 use Rattle.greedy_plan.specs.FirstBound.{HasNoTrip, IsFirstBound, IsLeastSum}
-use Rattle.exact_sums.specs.Near.{IsNear}
 
 -- what a plan costs, by what the trip of each flight does
 plan_cost_is : (tables : List CostTable) (cost : ℕ → ℤ) (from : ℕ) (flights : List Flight)

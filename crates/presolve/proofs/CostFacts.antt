@@ -8,6 +8,8 @@ use Rattle.std.specs.Int.{int_min}
 use Rattle.std.specs.List.{range_with_len}
 use Rattle.std.specs.Ordering.{int_eq}
 use Rattle.exact_sums.specs.Sums.{total}
+use Rattle.exact_sums.specs.Near.{IsNear}
+use Rattle.exact_sums.specs.Lists.{flat_map_from}
 use Rattle.flow_types.specs.declared.flight.Flight.{Flight}
 use Rattle.flow_types.specs.declared.parts.Parts.{Parts}
 use Rattle.flow_types.specs.Valid.{IsScenario}
@@ -20,7 +22,6 @@ use Rattle.bytime_model.specs.declared.variables.Term.{Term}
 use Rattle.bytime_model.specs.declared.variables.Var.{Var}
 use Rattle.bytime_model.specs.declared.variables.Var.TheVariants.{By}
 use Rattle.bytime_model.specs.CostRow.{Priced, cost_row, flight_terms, late_step, late_terms, most_late, most_wait, steps, wait_step, wait_terms, unless_zero as priced_unless}
-use Rattle.exact_sums.specs.Near.{IsNear}
 use Rattle.bytime_model.specs.Rows.{term_of}
 use Rattle.bytime_model.proofs.SmallFacts.{constant_small, cost_terms_near}
 use Rattle.bytime_model.specs.Columns.{IsThere}
@@ -34,7 +35,6 @@ use Rattle.presolve.proofs.GatherFacts.{none_later}
 use Rattle.presolve.proofs.PointFacts.{cost_there}
 use Rattle.presolve.proofs.RowFacts.{from_le, row_made}
 use Rattle.presolve.proofs.TotalFacts.{below_part, below_small, total_small}
-use Rattle.exact_sums.specs.Lists.{flat_map_from}
 
 -- what landing asks of the cost row's terms
 module _ (parts : Parts) (row : Priced) (terms : List Term) (is : row ≡ cost_row parts)

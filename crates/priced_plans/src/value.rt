@@ -1,10 +1,10 @@
 //! The value of prices in a box.
 ghost use Rattle.std.specs.Prelude.{◌≡◌, ◌*◌, ◌≤◌, ◌<◌, ◌^◌, IfSome, MatchOption, length};
+ghost use Rattle.exact_sums.specs.Near.{IsNear};
 ghost use Rattle.flow_types.specs.Capacities.{capacity_of};
 ghost use Rattle.flow_types.specs.Scenario.{parts_of};
 ghost use Rattle.flow_types.specs.declared.bound.PriceKind.TheVariants.{Capacity};
 ghost use Rattle.flight_routes.specs.Prices.{ArePricesOf, block_of};
-ghost use Rattle.exact_sums.specs.Near.{IsNear};
 ghost use Rattle.flight_routes.specs.Work.{IsWorkFor};
 ghost use Rattle.time_windows.specs.Held.{IsMadeFor, box_of};
 ghost use Rattle.time_windows.specs.Subproblems.{box_in, parts_in};

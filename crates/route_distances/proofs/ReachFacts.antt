@@ -2,8 +2,8 @@
 use Rattle.std.proofs.Common.{◌≡◌, ℕ, ◌+◌, Bool, false, List, [], ◌∷◌, ◌++◌, slice_index_or, inl, inr, sym, ◌∙◌, subst, arith}
 use Rattle.std.proofs.lemmas.Bool.{cases_lt}
 use Rattle.std.proofs.lemmas.List.{get_or_past}
-use Rattle.flow_types.specs.declared.flight.Leg.{Leg}
 use Rattle.exact_sums.proofs.EachFacts.{each_more}
+use Rattle.flow_types.specs.declared.flight.Leg.{Leg}
 use Rattle.route_distances.specs.Walks.{leads_into, reach_upto}
 use Rattle.route_distances.specs.Ways.{AreReached}
 use Rattle.route_distances.proofs.WalkFacts.{leads_same, reach_is, reach_past, reach_stays}

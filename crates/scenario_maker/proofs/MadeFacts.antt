@@ -13,6 +13,7 @@ use Rattle.std.proofs.lemmas.List.Elements.{All-append, All-cons, All-push, All-
 use Rattle.std.proofs.lemmas.List.Quantifiers.{all_pairs_push}
 use Rattle.std.proofs.lemmas.List.Sums.{sum_by-append}
 use Rattle.std.proofs.lemmas.Str.Parse.{numerals_by_value, tells_all_ascii_digits}
+use Rattle.exact_sums.specs.Lists.{all_below}
 use Rattle.flow_types.specs.Limits.{most_capacity}
 use Rattle.flow_types.specs.Routes.{IsLeg, IsOtherLeg, IsRoute, is_airport, is_entered, is_left, is_sector}
 use Rattle.flow_types.specs.Valid.{AreFlights, ArePlaces, IsConnection, IsFlight, IsOtherConnection, IsPlace, IsScenario, IsTable, destination_of, origin_of}
@@ -23,7 +24,6 @@ use Rattle.flow_types.specs.declared.parts.Parts.{Parts}
 use Rattle.flow_types.specs.declared.place.Place.{Place}
 use Rattle.scenario_maker.specs.Order.{all_follow, AreInOrder}
 use Rattle.scenario_maker.specs.Made.{made_airport, made_connection, made_connections, made_flight, made_flights, made_leg, made_parts, made_places, made_sector, made_text, ways_legs, ways_nodes}
-use Rattle.exact_sums.specs.Lists.{all_below}
 use Rattle.scenario_maker.specs.Courses.{airport_id, course_alone, course_back, course_by, course_of, course_out, first_sector, second_sector, sector_id, third_sector}
 use Rattle.scenario_maker.specs.declared.courses.Course.{Course}
 use Rattle.scenario_maker.specs.Writing.{scenario_text}

@@ -7,6 +7,7 @@ use Rattle.std.proofs.Math.Nat.{pow-le-pow_right}
 use Rattle.std.proofs.lemmas.Bool.{and_parts, eq-eqb, leb-true}
 use Rattle.std.proofs.lemmas.Fmt.{length-decimal-le_wide}
 use Rattle.std.proofs.lemmas.List.Elements.{All-append}
+use Rattle.exact_sums.specs.Lists.{all_below}
 use Rattle.flow_types.specs.Limits.{most_delay, most_text_bytes}
 use Rattle.flow_types.specs.Routes.{IsLeg}
 use Rattle.flow_types.specs.Trips.{place_at}
@@ -22,7 +23,6 @@ use Rattle.flow_types.specs.declared.place.Place.{Place}
 use Rattle.flow_types.specs.declared.parts.Parts.{Parts}
 use Rattle.text_records.specs.Lines.{field_text}
 use Rattle.text_records.specs.Rows.{Fields}
-use Rattle.exact_sums.specs.Lists.{all_below}
 use Rattle.scenario_maker.specs.Made.{made_airport, made_day, made_flight, made_flights, made_parts, made_places, made_sector, made_text, ways_legs}
 use Rattle.scenario_maker.specs.Writing.{airborne_of, beginning_text, cap_rows, change_rows, change_rows_of, connection_row, cost_rows, day_row, flight_name, flight_row, flight_rows, leg_row, more_text, on_ground_of, place_name, place_row, row_text, rows_text, scenario_rows, standing, table_name, traffic_rows, waiting}
 use Rattle.scenario_maker.proofs.ConnectionFacts.{all_front}

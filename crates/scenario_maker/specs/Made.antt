@@ -1,5 +1,6 @@
 -- The made day: its scenario, and its text.
 use Rattle.std.specs.Prelude.{ℕ, ◌+◌, ◌-◌, ◌/◌, ◌%◌, ◌==◌, Bool, true, false, List, [], ◌∷◌, ◌++◌, replicate, if◌then◌else◌}
+use Rattle.exact_sums.specs.Lists.{all_below}
 use Rattle.flow_types.specs.declared.day.Day.{Day}
 use Rattle.flow_types.specs.declared.flight.Connection.{Connection}
 use Rattle.flow_types.specs.declared.flight.Cost.TheVariants.{Linear}
@@ -8,7 +9,6 @@ use Rattle.flow_types.specs.declared.flight.Leg.{Leg}
 use Rattle.flow_types.specs.declared.parts.Parts.{Parts}
 use Rattle.flow_types.specs.declared.place.Place.{Place}
 use Rattle.flow_types.specs.declared.place.PlaceKind.TheVariants.{Airport, Sector}
-use Rattle.exact_sums.specs.Lists.{all_below}
 use Rattle.scenario_maker.specs.Courses.{airport_id, course_of, first_sector, flight_id, second_sector, sector_id, third_sector}
 use Rattle.scenario_maker.specs.Writing.{scenario_text}
 

@@ -1,9 +1,9 @@
 //! Days that a rule makes up, for trials.
 ghost use Rattle.std.specs.Prelude.{◌≡◌, ◌≤◌, ◌<◌, ◌==◌, ◌%◌, ◌++◌, ◌∷◌, [], IfOk, Ok, OnOk, replicate};
 ghost use Rattle.std.specs.Fmt.{decimal};
+ghost use Rattle.exact_sums.specs.Lists.{all_below};
 ghost use Rattle.flow_types.specs.Scenario.{parts_of};
 ghost use Rattle.scenario_reader.specs.Reading.{scenario_of};
-ghost use Rattle.exact_sums.specs.Lists.{all_below};
 ghost use Rattle.scenario_maker.specs.Courses.{course_of};
 ghost use Rattle.scenario_maker.specs.Made.{made_airport, made_connections, made_flight, made_flights, made_leg, made_parts, made_places, made_sector, made_text, ways_legs, ways_nodes};
 

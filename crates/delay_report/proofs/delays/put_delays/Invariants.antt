@@ -1,7 +1,7 @@
 use Rattle.std.proofs.Common.{◌≡◌, ◌++◌}
+use Rattle.exact_sums.specs.Lists.{all_below}
 use Rattle.flow_types.specs.Scenario.{parts_of}
 use Rattle.delay_report.specs.Delays.{delay_text}
-use Rattle.exact_sums.specs.Lists.{all_below}
 use Rattle.delay_report.proofs.delays.put_delays.Given as goal
 
 -- the lines of the flights so far

@@ -1,8 +1,8 @@
 use Rattle.std.proofs.Common.{◌≡◌, ◌++◌}
+use Rattle.exact_sums.specs.Lists.{all_below}
 use Rattle.flow_types.specs.Scenario.{parts_of}
 use Rattle.plan_rules.specs.Loads.{load_at}
 use Rattle.delay_report.specs.Delays.{full_text}
-use Rattle.exact_sums.specs.Lists.{all_below}
 use Rattle.delay_report.proofs.delays.put_full_at.Given as goal
 
 -- the lines of the periods so far

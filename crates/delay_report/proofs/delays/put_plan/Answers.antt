@@ -1,9 +1,8 @@
 use Rattle.std.proofs.Common.{◌∙◌, ◌++◌, ap, length, List, ℕ}
 use Rattle.std.proofs.lemmas.Result.{on_ok_weaker}
-use Rattle.flow_types.specs.Scenario.{parts_of}
-use Rattle.plan_rules.specs.Loads.{load_at}
-use Rattle.delay_report.specs.Delays.{all_full, count_of, delay_text, delays_below, total_text}
 use Rattle.exact_sums.specs.Lists.{all_below}
+use Rattle.flow_types.specs.Scenario.{parts_of}
+use Rattle.delay_report.specs.Delays.{all_full, count_of, delay_text, delays_below, total_text}
 use Rattle.delay_report.proofs.DelayFacts.{all_same, three_texts}
 use Rattle.delay_report.proofs.delays.put_plan.Goals as goal
 

@@ -1,9 +1,9 @@
 use Rattle.std.proofs.Common.{◌+◌, ap, arith, length, sum_by, sym}
 use Rattle.std.proofs.lemmas.Result.{err_from_is_err_and}
 use Rattle.std.specs.List.{range_with_len}
-use Rattle.time_windows.specs.Subproblems.{box_in, parts_in}
 use Rattle.exact_sums.proofs.LoopFacts.{numbers_more}
 use Rattle.exact_sums.proofs.RangeFacts.{sum_next}
+use Rattle.time_windows.specs.Subproblems.{box_in, parts_in}
 use Rattle.presolve.specs.Counting.{column_entries, flight_entries}
 use Rattle.presolve.proofs.CountFacts.{counted_both, sum_ranged_within, wide_both}
 use Rattle.presolve.proofs.columns.add_all.Goals as goal

@@ -1,6 +1,6 @@
 use Rattle.std.proofs.Common.{◌≡◌, ◌∙◌, to_z, of_z, w64, rules}
-use Rattle.row_arena.specs.Rows.{entry_at}
 use Rattle.exact_sums.proofs.RangeFacts.{map_next}
+use Rattle.row_arena.specs.Rows.{entry_at}
 use Rattle.presolve.proofs.costs.values_of.Goals as goal
 
 pub loop-column-preserved : goal.loop-column-preserved

@@ -1,7 +1,7 @@
 use Rattle.std.proofs.Common.{◌++◌, ◌∙◌, ◌∷◌, [], ap}
+use Rattle.exact_sums.proofs.RangeFacts.{below_more}
 use Rattle.flow_types.specs.declared.place.Place.{Place}
 use Rattle.scenario_maker.specs.Made.{made_sector}
-use Rattle.exact_sums.proofs.RangeFacts.{below_more}
 use Rattle.scenario_maker.proofs.making.add_sectors.Goals as goal
 
 pub loop-k-preserved : goal.loop-k-preserved
