@@ -208,7 +208,7 @@ fn follows_last(last: &Option<CutName>, cut: &CutName) -> bool
     }
 }
 
-// The same name in memory of its own.
+// The cut's name in memory of its own.
 fn copy_of(alloc: Global, cut: &CutName) -> Result<CutName, OutOfMemory>
     ensures { IfOk result (λ copy. copy ≡ cut.now) }
 {

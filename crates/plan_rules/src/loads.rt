@@ -116,8 +116,8 @@ impl Loads {
         }
     }
 
-    /// Adds the stops as the flight's trip: where they are one, and none of the flight was there, the
-    /// loads count it with the others. They were made for the scenario. It takes no memory.
+    /// Adds the stops as the flight's trip: where they are one, and none of the flight was there,
+    /// the loads count it with the others. They were made for the scenario. It takes no memory.
     pub fn add(&mut self, s: &Scenario, flight: u32, stops: &[Stop])
         requires made { IsMadeFor (parts_of s.now) self.old }
         requires flight { flight < length (parts_of s.now).flights }
