@@ -15,12 +15,12 @@ abbrev pub third_rows : Parts → RowKind → ℕ → ℕ → List RowName
 third_rows parts kind first second =
     map (name_at kind first second) (numbers_in (thirds parts kind first second))
 
--- those that are of one flight, place or connection
+-- the names of a kind that are of one flight, place or connection
 abbrev pub part_rows : Parts → RowKind → ℕ → List RowName
 part_rows parts kind first =
     flat_map (third_rows parts kind first) (range_with_len 0 (second_count parts kind first))
 
--- those of a kind, and of several kinds, one after the other
+-- the names of a kind, and of several kinds, one after the other
 abbrev pub kind_rows : Parts → RowKind → List RowName
 kind_rows parts kind = flat_map (part_rows parts kind) (range_with_len 0 (part_count parts kind))
 

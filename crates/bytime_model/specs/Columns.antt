@@ -38,7 +38,7 @@ abbrev pub position_of : List Column → Var → ℕ
 position_of columns variable =
     position_in (slice_index_or columns (index_of variable) no_column) variable
 
--- and back
+-- the variable of a position
 abbrev pub variable_in : ℕ → Column → ℕ → Var
 variable_in index column position =
     if nat_lt position (column.start + column.width)

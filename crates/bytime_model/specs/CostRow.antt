@@ -80,7 +80,8 @@ cost_row parts = record {
 abbrev pub priced_value : (Var → ℕ) → Priced → ℤ
 priced_value value row = row.constant +ℤ form_value value row.terms
 
--- the same of a flight that may not be there, of which nothing is late, waits or is spared then
+-- the most that a flight is late and waits, and what each period of that costs; nothing of a flight
+-- that isn't there
 abbrev pub most_late_at : ℕ → Option Flight → ℕ
 most_late_at periods None = 0
 most_late_at periods (Some flight) = most_late periods flight

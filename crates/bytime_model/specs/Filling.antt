@@ -22,7 +22,7 @@ pub record Fills (parts : Parts) (name : RowName) (answer : Bool) (held : AtMost
   pub row : answer ≡ true → held ≡ row_of parts name
   pub none : answer ≡ false → held ≡ no_row
 
--- the same of a capacity
+-- what is told of the row of a capacity, and the row that is held then
 pub record FillsCapacity (parts : Parts) (kind : CapKind) (place period : ℕ) (answer : Bool)
     (held : AtMost) : Type 0 where
   pub told : answer ≡ is_capacity parts kind place period
@@ -41,7 +41,7 @@ visit_terms kind.Arr time visit flight =
     if visit.node == length flight.nodes - 1 then enters_in visit.flight visit.node time else []
 visit_terms kind.Sector time visit flight = stay_terms visit.flight flight time visit.node
 
--- the same by its number, nothing where there is no such flight
+-- the terms of a visit, by the flight's number: none where there is no such flight
 abbrev pub visit_terms_in : CapKind → ℕ → List Flight → Visit → List Term
 visit_terms_in kind time flights visit =
     of_flight (visit_terms kind time visit) (slice_get flights visit.flight)

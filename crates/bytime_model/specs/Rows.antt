@@ -28,7 +28,7 @@ minus_one = neg_ℤ (pos 1)
 abbrev pub term_of : ℤ → Var → Term
 term_of factor variable = record { variable = variable; factor = factor }
 
--- the same so many periods before; nothing before the day
+-- so many times the variable of so many periods before; nothing before the day
 abbrev pub by_before : ℤ → ℕ → ℕ → ℕ → ℕ → List Term
 by_before factor flight node time wait =
     if nat_le wait time then term_of factor (By flight node (time - wait)) ∷ [] else []
@@ -179,7 +179,7 @@ row_terms parts (Connect c t) =
     (slice_get parts.connections c)
 row_terms parts (Cut i) = []
 
--- and its limit
+-- the limit of the row of a name
 abbrev pub row_limit : Parts → RowName → ℕ
 row_limit parts (Mono f n t) = 0
 row_limit parts (Top f n) = 1

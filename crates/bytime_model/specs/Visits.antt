@@ -39,7 +39,7 @@ stands_of number flight = stands_from number 0 flight.nodes
 abbrev pub all_stands : List Flight → List Stand
 all_stands flights = flat_map_from stands_of 0 flights
 
--- those at a place
+-- the visits at a place
 abbrev pub visits_in : ℕ → List Stand → List Visit
 visits_in place [] = []
 visits_in place (stand ∷ stands) =
@@ -57,7 +57,8 @@ abbrev pub AreNexts : List Stand → ℕ → List ℕ → Type 0
 AreNexts stands from nexts = (k : ℕ) (stand : Stand) → from ≤ k → slice_get stands k ≡ Some stand
     → IsNextAt stand.place stands (k + 1) (slice_index nexts k)
 
--- and for each place the first one from that position on
+-- for each place the first stand from a position on, and for each stand from there the next one at
+-- its place
 pub record AreLinks (stands : List Stand) (from : ℕ) (firsts nexts : List ℕ) : Type 0 where
   pub first : (place : ℕ) → place < length firsts
       → IsNextAt place stands from (slice_index firsts place)

@@ -45,6 +45,7 @@ impl Column {
     }
 }
 
+// A column without positions.
 const NO_COLUMN: Column = Column {
     start: 0,
     first: 0,
@@ -56,6 +57,7 @@ const NO_COLUMN: Column = Column {
 #[derive(Debug, Drop)]
 pub struct Columns {
     columns: Vec<Column>,
+    // How many positions there are.
     count: usize,
 }
 
@@ -105,7 +107,7 @@ impl Columns {
         }
     }
 
-    // The column of the node, of which none is open where it isn't there.
+    // The column of the node: one without positions where it isn't there.
     fn column(&self, flight: u32, node: u16) -> Column
         ensures { result ≡ slice_index_or self.now.columns (flight * most_nodes + node) no_column }
     {
@@ -152,7 +154,7 @@ fn columns_of(alloc: Global, s: &Scenario, boxes: &Boxes) -> Result<Columns, Out
     Ok(columns)
 }
 
-// The column of a node, from a position on.
+// The column of a node, whose positions begin at this one.
 fn column_at(s: &Scenario, boxes: &Boxes, flight: u32, node: u16, start: usize) -> Column
     requires made { IsMadeFor (parts_of s.now) boxes.now }
     requires node { node < most_nodes }

@@ -14,11 +14,11 @@ use time_windows::Boxes;
 /// Where a variable counts.
 #[derive(Clone, Copy, Debug, PartialEq, Eq)]
 pub enum Landing {
-    /// It is 0.
+    /// The variable is 0.
     Nowhere,
-    /// It is 1, so it counts in the constant.
+    /// The variable is 1, so it counts in the constant.
     Surely,
-    /// It is free, or the same as one that is, which has this position.
+    /// The variable is free, or the same as one that is, which has this position.
     At(usize),
 }
 

@@ -12,7 +12,7 @@ use crate::fill::{last_node, put_entry, put_stay, put_uses};
 use crate::visits::{Visit, Visits};
 use flow_types::{CapKind, Flight, Scenario};
 
-// What the flight takes of a capacity of this kind in the period, by its visit to the place.
+// Adds what the flight takes of a capacity of this kind in the period, by its visit to the place.
 fn put_visit(buffer: &mut RowBuffer, kind: CapKind, time: u16, visit: Visit, flight: &Flight)
     requires room { length buffer.old.terms + most_legs + 2 ≤ most_terms }
     requires some { 1 ≤ length flight.now.nodes }
@@ -48,7 +48,7 @@ fn put_visit_in(buffer: &mut RowBuffer, s: &Scenario, kind: CapKind, time: u16, 
     }
 }
 
-// What all of these visits take.
+// Adds what all of the visits take of a capacity of this kind in the period.
 #[tactic(auto, using(crate::proofs::FillFacts::filled_none, crate::proofs::FillFacts::filled_all))]
 fn put_visits(buffer: &mut RowBuffer, s: &Scenario, visits: &[Visit], kind: CapKind, time: u16)
     requires few { length visits.now ≤ most_flights }
@@ -61,7 +61,7 @@ fn put_visits(buffer: &mut RowBuffer, s: &Scenario, visits: &[Visit], kind: CapK
     }
 }
 
-// What all flights take of the place's capacity of this kind in the period.
+// Adds what all flights take of the place's capacity of this kind in the period.
 fn put_visited(
     buffer: &mut RowBuffer,
     s: &Scenario,

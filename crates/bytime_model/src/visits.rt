@@ -12,7 +12,7 @@ use time_windows::Groups;
 /// A flight that has a node at a place.
 #[derive(Clone, Copy, Debug, PartialEq, Eq)]
 pub struct Visit {
-    /// Its position in the list of flights.
+    /// The flight's position in the list of flights.
     pub flight: u32,
     /// The node that it has there.
     pub node: u16,

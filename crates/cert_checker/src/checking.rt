@@ -62,7 +62,7 @@ impl From<CertRefusal> for CheckFault {
     }
 }
 
-// In the line of this number.
+// The fault of a step, told of the line of this number.
 fn in_line(line: u32, error: StepError) -> CheckFault
     ensures { result ≡ check_fault line error }
 {
@@ -74,7 +74,7 @@ fn in_line(line: u32, error: StepError) -> CheckFault
     }
 }
 
-// At the first box, where nothing was told.
+// Where a check begins: at the tight first box, with nothing told yet.
 fn start(alloc: Global, s: &Scenario, root: &Boxes) -> Result<Standing, OutOfMemory>
     requires { IsMadeFor (parts_of s.now) root.now }
     ensures { IfOk result (IsStarted (parts_of s.now) (box_of root.now)) }
@@ -119,7 +119,7 @@ fn claim_of(now: Standing) -> Result<CertClaim, StepFault>
     }
 }
 
-// Reads on to the end.
+// Takes the steps of the items that are left, to the end of the text.
 fn read_on<F: Files>(
     files: &mut F,
     given: Given,

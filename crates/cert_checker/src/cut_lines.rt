@@ -13,15 +13,15 @@ use certificate::TextCause;
 use cut_rows::{CutName, is_cut};
 use flow_types::Scenario;
 
-// What is wrong with a cut, by its field.
+// A fault of a cut, told of its field: the second one of its line.
 fn cut_fault(found: TextCause) -> StepError
     ensures { result ≡ error.Fault (fault_in 2 (cause.Text found)) }
 {
     StepError::Fault(in_field(2, CertCause::Text(found)))
 }
 
-/// A cut, which has to come after those before it, and to be one of the scenario. A reader finds
-/// both; a step is said of every item, and asks too.
+/// A cut, which has to come after those before it, and to be one of the scenario. A reader refuses
+/// other cuts; but a step is defined for every item, so it asks too.
 pub fn cut_line(
     rooms: &Rooms,
     s: &Scenario,

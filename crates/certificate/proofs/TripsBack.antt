@@ -15,7 +15,7 @@ use Rattle.flow_types.specs.Trips.{place_at}
 use Rattle.flow_types.specs.Valid.{IsScenario}
 use Rattle.plan_text.specs.Lines.{place_name}
 use Rattle.plan_text.proofs.TripsAgain.{is_flight, place_there}
-use Rattle.plan_text.proofs.WrittenTrips.{found_at}
+use Rattle.plan_text.proofs.ReadBack.{found_at}
 use Rattle.certificate.specs.Items.{name_at, node_called, stop_from, stops_from, trip_for}
 use Rattle.certificate.specs.Limits.{most_period}
 use Rattle.certificate.specs.Lines.{stop_fields}

@@ -9,7 +9,7 @@ abbrev pub Finds : {X Y E : Type 0} → (X → Y) → Result X E → Result Y E 
 Finds view (Ok x) found = found ≡ Ok (view x)
 Finds view (Err e) found = found ≡ Err e
 
--- and of one that may answer want of memory, where nothing is said
+-- the error of a call that may answer want of memory, where nothing is said
 abbrev pub Stops : {Y : Type 0} → LineError → Result Y LineFault → Type 0
 Stops error.OutOfMemory found = Unit {0}
 Stops (error.Fault fault) found = found ≡ Err fault

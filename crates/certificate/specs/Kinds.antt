@@ -18,7 +18,7 @@ word_of kind.Trip = codes "trip"
 word_of kind.Bound = codes "bound"
 word_of kind.End = codes "end"
 
--- those that a tree is made of
+-- the kind of line of a tree that a word begins
 abbrev pub node_kind : List ℕ → Option LineKind
 node_kind word =
     if bytes_eq word (codes "split") then Some kind.Split

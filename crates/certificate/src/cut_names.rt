@@ -23,7 +23,7 @@ fn nodes_from(alloc: Global, most: usize, fields: &mut LineFields<'_>) -> Result
     Ok(nodes)
 }
 
-// That there are so many nodes at least; else the field of this number isn't there.
+// That there are so many nodes at least; else the field of this number is bad.
 fn enough_or_bad(field: usize, least: usize, nodes: &[u16]) -> Result<(), LineFault>
     ensures { Finds (λ done. done) result (enough_or_bad field least nodes.now) }
 {

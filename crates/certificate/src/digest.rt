@@ -42,7 +42,7 @@ impl Digest {
         Digest { bytes: self.bytes }
     }
 
-    /// Its 64 digits, letters in lower case.
+    /// The digest's 64 digits, letters in lower case.
     pub fn digits(&self) -> [u8; 64]
         ensures { result ≡ encode_lower self.now }
     {
@@ -51,7 +51,7 @@ impl Digest {
         word
     }
 
-    /// Its bytes.
+    /// The digest's bytes.
     pub fn bytes(&self) -> &[u8]
         ensures bytes { result.now ≡ self.now }
         ensures size { length result.now ≡ 32 }

@@ -27,7 +27,7 @@ impl Digits {
     ghost use Rattle.std.specs.Prelude.{◌≡◌};
     ghost use Rattle.std.specs.Fmt.{decimal};
 
-    /// Those of the number.
+    /// The digits of the number.
     pub fn of(number: u128) -> Digits
         ensures { result ≡ decimal number }
     {

@@ -12,7 +12,7 @@ pub enum TextCause {
     Missing,
     /// The line has more bytes than a line may have.
     LongLine,
-    /// Its first field is no word that may stand here.
+    /// The line's first field is no word that may stand here.
     BadKind,
     /// A field isn't there, is one too many, isn't of its form or out of its range; in a trip, a
     /// flight that isn't the next one, or a place where it has no node.
@@ -55,7 +55,7 @@ impl From<OutOfMemory> for LineError {
     }
 }
 
-/// A field isn't what it has to be.
+/// That the field of this number isn't what it has to be.
 pub fn bad(field: usize) -> LineFault
     ensures { result ≡ bad field }
 {

@@ -29,7 +29,7 @@ pub enum CertItem {
         weight: u64,
         rows: u32,
     },
-    /// The same of a Lag leaf: its weight, and how many rows follow.
+    /// The weight of a Lag leaf, and how many rows follow.
     Lag {
         weight: u64,
         rows: u32,

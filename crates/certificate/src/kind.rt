@@ -2,7 +2,7 @@
 ghost use Rattle.std.specs.Prelude.{◌≡◌};
 ghost use Rattle.certificate.specs.Kinds.{kind_of, node_kind, word_of};
 
-/// What a line tells.
+/// The kind of a line, by the word in its first field.
 #[derive(Clone, Copy, Debug, PartialEq, Eq)]
 pub enum LineKind {
     Head,
@@ -19,7 +19,7 @@ pub enum LineKind {
     End,
 }
 
-// The kind that the word is of, of those that a tree is made of.
+// The kind of line of a tree that the word begins.
 fn node_kind(word: &[u8]) -> Option<LineKind>
     ensures { result ≡ node_kind word.now }
 {
@@ -38,7 +38,7 @@ fn node_kind(word: &[u8]) -> Option<LineKind>
     }
 }
 
-/// The kind that the first field of a line is the word of.
+/// The kind of line that the word begins.
 pub fn kind_of(word: &[u8]) -> Option<LineKind>
     ensures { result ≡ kind_of word.now }
 {

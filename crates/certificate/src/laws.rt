@@ -21,8 +21,8 @@ pub fn texts_are_read()
         ≡ read_whole (cert_items parts cert) }
 {}
 
-/// A certificate has one text, and no text of one begins that of another: for a valid scenario, and
-/// certificates as above.
+/// A certificate has one text, and no text of one begins that of another: for a valid scenario,
+/// trees whose leaves' rows ascend, and numbers and lists of nodes within the limits.
 pub fn texts_are_one()
     ensures { (parts : Parts) (first second : Certified) (more : List ℕ) → IsScenario parts
         → IsWritable parts first → IsWritable parts second

@@ -26,7 +26,7 @@ pub fn in_first(cause: TextCause) -> LineFault
     LineFault { field: 1, cause }
 }
 
-// That nothing stands there.
+// What is wrong with bytes behind the last line, if there are any.
 fn past_end(bytes: &[u8]) -> Option<LineFault>
     ensures { result ≡ past_end bytes.now }
 {
@@ -61,7 +61,7 @@ pub fn long_fault(stage: &Stage) -> LineFault
     }
 }
 
-// The kind, if there is one and it may stand here.
+// The kind of a line, if it has one and such a line may stand here.
 fn kind_here(stage: &Stage, kind: Option<LineKind>) -> Result<LineKind, LineFault>
     ensures { Finds (λ kind. kind) result (kind_here stage.now kind) }
 {
@@ -71,6 +71,7 @@ fn kind_here(stage: &Stage, kind: Option<LineKind>) -> Result<LineKind, LineFaul
     }
 }
 
+// What the fields of a line tell, and what may stand after it.
 #[tactic(auto, unfolding(crate::specs::Reading::fields_step))]
 fn fields_step(
     alloc: Global,

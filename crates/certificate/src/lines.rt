@@ -19,7 +19,7 @@ pub enum LineEnd {
     Feed,
     /// By the end of the text.
     Text,
-    /// It has more bytes than a line may have, and goes on.
+    /// By neither: the line has more bytes than a line may have, and goes on.
     Long,
 }
 

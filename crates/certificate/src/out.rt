@@ -25,7 +25,7 @@ pub struct Text {
     bytes: Vec<u8>,
 }
 
-/// How many bytes there are, up to the last number of 64 bits. It takes no memory.
+/// A count of the text's bytes, up to the last number of 64 bits. It takes no memory.
 #[derive(Drop)]
 pub struct Count {
     bytes: u64,

@@ -18,7 +18,7 @@ pub struct Pieces {
     size: u64,
     offset: u64,
     piece: Vec<u8>,
-    // Those of the piece from `start` to `end` aren't taken yet.
+    // The bytes of the piece from `start` to `end` aren't taken yet.
     start: usize,
     end: usize,
 }
@@ -121,7 +121,7 @@ impl Pieces {
         &self.piece[self.start..self.end]
     }
 
-    /// Takes so many of these bytes.
+    /// Takes so many of the bytes that are ahead.
     pub fn take(&mut self, count: usize)
         requires { count ≤ length self.old.ahead }
         ensures ahead { self.new.ahead ≡ drop count self.old.ahead }

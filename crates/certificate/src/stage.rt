@@ -48,7 +48,7 @@ pub enum Stage {
     Ended,
 }
 
-/// The first field is no word that may stand there.
+/// That a line's first field is no word that may stand there.
 pub fn bad_kind() -> LineFault
     ensures { result ≡ bad_kind }
 {
@@ -121,7 +121,7 @@ pub fn next_at(stage: &Stage) -> u32
     }
 }
 
-// Where so many trees wait still.
+// What may stand where so many trees wait still.
 fn trees_left(waiting: u64) -> Stage
     ensures { result ≡ trees_left waiting }
 {
@@ -132,7 +132,7 @@ fn trees_left(waiting: u64) -> Stage
     }
 }
 
-// Where so many rows of a leaf are left.
+// What may stand where so many rows of a leaf are left.
 fn rows_left(left: u32, last: Option<RowName>, waiting: u64) -> Stage
     ensures { result ≡ rows_left left last waiting }
 {
@@ -147,7 +147,7 @@ fn rows_left(left: u32, last: Option<RowName>, waiting: u64) -> Stage
     }
 }
 
-// Where the trips of the flights from this one on are left.
+// What may stand where the trips of the flights from this one on are left.
 fn trips_left(s: &Scenario, next: u32) -> Stage
     ensures { result ≡ trips_left (parts_of s.now) next }
 {
@@ -158,6 +158,7 @@ fn trips_left(s: &Scenario, next: u32) -> Stage
     }
 }
 
+// What may stand after the cost of a plan, or after the word that there is none.
 fn after_cost(s: &Scenario, cost: Option<i64>) -> Stage
     ensures { result ≡ after_cost (parts_of s.now) cost }
 {
@@ -167,6 +168,7 @@ fn after_cost(s: &Scenario, cost: Option<i64>) -> Stage
     }
 }
 
+// Whether a row comes after the last one, if there is one.
 fn is_above(last: Option<RowName>, name: RowName) -> bool
     ensures { result ≡ is_above last name }
 {
@@ -176,7 +178,7 @@ fn is_above(last: Option<RowName>, name: RowName) -> bool
     }
 }
 
-// After a row of a leaf, which has to be above the last one.
+// What may stand after a row of a leaf, which has to come after the last one.
 fn row_at(stage: &Stage, name: RowName) -> Result<Stage, LineFault>
     ensures { Finds (λ stage. stage) result (row_at stage.now name) }
 {
@@ -208,7 +210,7 @@ fn follows_last(last: &Option<CutName>, cut: &CutName) -> bool
     }
 }
 
-// The same name in memory of its own.
+// The cut's name in memory of its own.
 fn copy_of(alloc: Global, cut: &CutName) -> Result<CutName, OutOfMemory>
     ensures { IfOk result (λ copy. copy ≡ cut.now) }
 {
@@ -241,6 +243,7 @@ fn copy_of(alloc: Global, cut: &CutName) -> Result<CutName, OutOfMemory>
     }
 }
 
+// The nodes in memory of their own.
 fn list_of(alloc: Global, nodes: &Heads) -> Result<Heads, OutOfMemory>
     ensures { IfOk result (λ copy. copy ≡ nodes.now) }
 {
@@ -254,7 +257,7 @@ fn cut_fault(cause: TextCause) -> LineError
     LineError::Fault(LineFault { field: 2, cause })
 }
 
-// After a cut, which has to come after the last one, and to be one of the scenario.
+// What may stand after a cut, which has to come after the last one, and to be one of the scenario.
 fn cut_at(
     alloc: Global,
     s: &Scenario,

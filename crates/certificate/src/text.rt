@@ -56,6 +56,7 @@ fn put_whole<O: Out>(out: &mut O, number: Option<i128>) -> Result<(), O::Error>
     }
 }
 
+// Adds a field that is a number, which may be below 0.
 fn put_signed<O: Out>(out: &mut O, number: i128) -> Result<(), O::Error>
     ensures { Puts (O.holds out.old) (O.holds out.new) result
         (field_text (signed_decimal number)) }
@@ -67,6 +68,7 @@ fn put_signed<O: Out>(out: &mut O, number: i128) -> Result<(), O::Error>
     }
 }
 
+// Adds the first line: the version, and the digest of the day's text.
 fn put_head<O: Out>(out: &mut O, digest: &Digest) -> Result<(), O::Error>
     ensures { Puts (O.holds out.old) (O.holds out.new) result
         (head_text digest.now) }
@@ -214,7 +216,7 @@ fn put_row_word<O: Out>(out: &mut O, word: &[u8]) -> Result<(), O::Error>
     put_field(out, word)
 }
 
-// Adds its end: the last number of the name, and the multiplier.
+// Adds the end of the line of a row: the last number of the name, and the multiplier.
 fn put_row_end<O: Out>(out: &mut O, number: u32, value: u64) -> Result<(), O::Error>
     ensures { Puts (O.holds out.old) (O.holds out.new) result
         (fields_text (decimal number ∷ decimal value ∷ [])) }
@@ -239,7 +241,7 @@ fn put_row2<O: Out>(
     put_row_end(out, second.into(), value)
 }
 
-// Adds the line of a row whose name has a third one.
+// Adds the line of a row whose name has three numbers.
 fn put_row3<O: Out>(
     out: &mut O,
     word: &[u8],

@@ -8,7 +8,7 @@ ghost use Rattle.command_words.specs.Words.{asked, is_word_for_name};
 use crate::options::{Range, count_range, limit_of, range_of};
 use flow_types::parse_number;
 
-// How many digits a number may have.
+// How many digits a number may have at the most.
 const MOST_DIGITS: usize = 8;
 
 /// Whether the words are a command.
@@ -21,7 +21,7 @@ pub fn is_command(words: &[String]) -> bool
     }
 }
 
-// Whether the words are those behind this command.
+// Whether the words may stand behind this command.
 fn is_form_of(command: &str, words: &[String]) -> bool
     ensures { result ≡ is_form_of command.now (map string_bytes words.now) }
 {
@@ -33,7 +33,7 @@ fn is_form_of(command: &str, words: &[String]) -> bool
     }
 }
 
-// Whether the words are those behind `plan`: a name, with options before it and behind it.
+// Whether the words may stand behind `plan`: a name, with options before it and behind it.
 fn is_plan(words: &[String]) -> bool
     ensures { result ≡ is_plan (map string_bytes words.now) }
 {
@@ -82,7 +82,7 @@ fn fits(option: &str, value: &str) -> bool
     }
 }
 
-// Whether this is one of the words.
+// Whether the word is among the words.
 fn has_word(word: &str, words: &[String]) -> bool
     ensures { result ≡ has_word word.now (map string_bytes words.now) }
 {
@@ -99,7 +99,7 @@ fn are_two_names(words: &[String]) -> bool
     }
 }
 
-// Whether the words are the number behind `make` or `trial`.
+// Whether the words are one number, as it may stand behind `make` or `trial`.
 fn is_count(words: &[String]) -> bool
     ensures { result ≡ is_count (map string_bytes words.now) }
 {

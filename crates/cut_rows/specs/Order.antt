@@ -16,7 +16,7 @@ comes_before (x ∷ xs) (y ∷ ys) = nat_lt x y || ((x == y) && comes_before xs 
 abbrev pub IsBefore : CutName → CutName → Type 0
 IsBefore a b = IsTrue (comes_before (numbers_of a) (numbers_of b))
 
--- it comes after the last cut of the pool, if there is one
+-- a cut comes after the last one of the pool, if there is one
 abbrev pub follows_last : Option CutName → CutName → Bool
 follows_last None cut = true
 follows_last (Some last) cut = comes_before (numbers_of last) (numbers_of cut)

@@ -5,7 +5,7 @@ use Rattle.flow_types.specs.declared.parts.Parts.{Parts}
 use Rattle.route_distances.specs.Walks.{legs_of}
 use Rattle.route_distances.specs.Ways.{AreWaysAlong, Ways}
 
--- those of a flight that isn't there
+-- the distances of a flight that isn't there
 abbrev pub no_ways : Ways
 no_ways = record { times = []; reached = [] }
 
@@ -16,7 +16,7 @@ abbrev pub AreRoutesOf : Parts → List Ways → Type 0
 AreRoutesOf parts routes = (flight : ℕ)
     → AreWaysAlong (legs_of (slice_get parts.flights flight)) (ways_of routes flight)
 
--- those of the first so many flights. No public clause cites this.
+-- the distances of the first so many flights. No public clause cites this.
 abbrev pub AreRoutesTo : Parts → ℕ → List Ways → Type 0
 AreRoutesTo parts =
     AreEach (λ flight ways. AreWaysAlong (legs_of (slice_get parts.flights flight)) ways) no_ways

@@ -25,7 +25,7 @@ pub fn is_before(a: &CutName, b: &CutName) -> bool
     }
 }
 
-// The same of a cut of heads.
+// Whether a cut of all heads of a node comes before the other cut.
 fn is_before_heads(flight: u32, node: u16, time: u16, heads: &[u16], b: &CutName) -> bool
     ensures { result ≡ comes_before (0 ∷ flight ∷ node ∷ time ∷ heads.now) (numbers_of b.now) }
 {
@@ -58,7 +58,7 @@ fn is_sooner(time: u16, heads: &[u16], by: u16, others: &[u16]) -> bool
     time < by || (time == by && nodes_before(heads, others))
 }
 
-// The same of a cut of nodes that are apart.
+// Whether a cut of nodes that are apart comes before the other cut.
 fn is_before_apart(flight: u32, time: u16, heads: &[u16], b: &CutName) -> bool
     ensures { result ≡ comes_before (1 ∷ flight ∷ time ∷ heads.now) (numbers_of b.now) }
 {
@@ -73,7 +73,7 @@ fn is_before_apart(flight: u32, time: u16, heads: &[u16], b: &CutName) -> bool
     }
 }
 
-// The same of a cut of having departed.
+// Whether a cut of having departed in time comes before the other cut.
 fn is_before_departed(flight: u32, node: u16, time: u16, b: &CutName) -> bool
     ensures { result ≡ comes_before (2 ∷ flight ∷ node ∷ time ∷ []) (numbers_of b.now) }
 {

@@ -25,8 +25,8 @@ impl Routes {
     ghost use Rattle.route_distances.specs.Ways.{reaches_in, shortest_in};
     ghost use Rattle.cut_rows.specs.Routes.{AreRoutesOf, ways_of};
 
-    /// Those of the scenario's flights. It takes a byte for each two nodes of a flight and 34 for
-    /// each node, or up to twice that, since the lists grow.
+    /// The distances of each of the scenario's flights. It takes a byte for each two nodes of a
+    /// flight and 34 for each node, or up to twice that, since the lists grow.
     #[tactic(auto, using(exact_sums::proofs::EachFacts::each_none, crate::proofs::RouteFacts::all_routes))]
     pub fn new(alloc: Global, s: &Scenario) -> Result<Routes, OutOfMemory>
         ensures routes { IfOk result (AreRoutesOf (parts_of s.now)) }

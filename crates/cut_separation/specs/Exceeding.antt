@@ -17,7 +17,7 @@ use Rattle.cut_separation.specs.Whole.{whole_cuts}
 abbrev pub form_at : (Var → ℤ) → List Term → ℤ
 form_at value terms = total (λ term. term.factor *ℤ value term.variable) terms
 
--- it is above the limit
+-- the row's sum is above its limit
 abbrev pub is_exceeded : (Var → ℤ) → ℤ → AtMost → Bool
 is_exceeded value denominator row = int_lt (row.limit *ℤ denominator) (form_at value row.terms)
 

@@ -15,7 +15,7 @@ use Rattle.bytime_model.specs.Landing.{landing_of}
 use Rattle.bytime_model.specs.Left.{left_of}
 use Rattle.cut_separation.specs.declared.point.FreePoint.{FreePoint}
 
--- it is one and the same variable
+-- whether two are one and the same variable
 abbrev pub is_same : Var → Var → Bool
 is_same (By f n t) (By g m u) = (f == g) && ((n == m) && (t == u))
 is_same (By f n t) (Inside g m u) = false
@@ -33,7 +33,7 @@ numerator_in variable (column ∷ columns) (numerator ∷ numerators) given =
 abbrev pub free_at : FreePoint → Var → ℤ
 free_at point variable = numerator_in variable point.columns point.numerators (pos 0)
 
--- that of any variable, by what the box leaves of it
+-- the numerator of any variable, by what the box leaves of it
 abbrev pub fraction_by : FreePoint → Var → Left → ℤ
 fraction_by point variable Zero = pos 0
 fraction_by point variable One = point.denominator
@@ -62,7 +62,7 @@ pub record IsPointOf (parts : Parts) (box : Box) (point : FreePoint) : Type 0 wh
   pub small : point.denominator <ℤ pos (2 ^ 62)
   pub each : All (IsFraction point.denominator) point.numerators
 
--- The same by positions. No public clause cites what follows.
+-- The numerators by positions. No public clause cites what follows.
 abbrev pub read_at : List ℤ → ℤ → Landing → ℤ
 read_at numerators denominator Nowhere = pos 0
 read_at numerators denominator Surely = denominator
@@ -81,7 +81,7 @@ pub record AreByPosition (parts : Parts) (numbering : Numbering) (box : Box) (po
       → slice_index_or numerators (position_of numbering.columns variable) (pos 0)
       ≡ free_at point variable
 
--- and once the first so many are: the others are yet to be read
+-- the numerators of the first so many are set: the others are yet to be read
 pub record AreSetTo (parts : Parts) (numbering : Numbering) (box : Box) (point : FreePoint)
     (count : ℕ) (numerators : List ℤ) : Type 0 where
   pub long : length numerators ≡ numbering.count

@@ -26,7 +26,7 @@ IsWhole parts (Departed f n t) = Unit {0}
 abbrev pub over_day : Parts → (ℕ → CutName) → List CutName
 over_day parts name = map name (range_with_len 0 parts.day.periods)
 
--- those of a node: of all its heads, where it has some, and of having departed, but for node 0
+-- the cuts of a node: of all its heads, where it has some, and of having departed, but for node 0
 abbrev pub heads_cuts : Parts → ℕ → ℕ → List ℕ → List CutName
 heads_cuts parts f n heads =
     if nat_lt 0 (length heads) then over_day parts (λ t. Heads f n t heads) else []

@@ -42,7 +42,7 @@ fn legs_at(s: &Scenario, flight: u32) -> &[Leg]
     }
 }
 
-// Those of so many nodes that are heads of the node.
+// The first so many nodes, those of them that are heads of the node.
 fn heads_among(alloc: Global, legs: &[Leg], node: u16, count: u16) -> Result<Heads, OutOfMemory>
     ensures { IfOk result (λ heads. heads
         ≡ filter (is_head legs.now node) (range_with_len 0 count)) }
@@ -64,7 +64,7 @@ fn heads_of(alloc: Global, s: &Scenario, flight: u32, node: u16) -> Result<Heads
     heads_among(alloc, legs_at(s, flight), node, node_count(s, flight))
 }
 
-// The same nodes in a list of their own.
+// The nodes in a list of their own.
 fn copy_of(alloc: Global, heads: &[u16]) -> Result<Heads, OutOfMemory>
     ensures { IfOk result (λ copy. copy ≡ heads.now) }
 {

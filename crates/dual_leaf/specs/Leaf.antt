@@ -65,8 +65,8 @@ pub record IsDualBound (parts : Parts) (pool : List CutName) (box : Box) (weight
   pub least : IsDualValue parts pool box weight rows value
   pub answered : IsAnswerOf weight value answer
 
--- or it has no value: the first node that must be entered and is closed, or, in a live box, the
--- first row that isn't there
+-- why a Dual leaf has no value: the first node that must be entered and is closed, or, in a live
+-- box, the first row that isn't there
 abbrev pub IsDualFault : Parts → List CutName → Box → List Multiplier → Result Bound LeafFault
     → Type 0
 IsDualFault parts pool box rows (Ok bound) = ⊥
@@ -87,7 +87,7 @@ pub record IsLackAnswer (parts : Parts) (box : Box) (answer : Result Bound LeafF
   pub lacks : LacksTrip parts box
   pub none : answer ≡ Ok NoPlan
 
--- or what the value of the prices says
+-- the answer is what the value of the prices says
 pub record IsPriceAnswer (parts : Parts) (box : Box) (weight : ℕ) (table : PriceTable)
     (answer : Result Bound LeafFault) : Type 0 where
   pub value : ℤ
@@ -107,8 +107,8 @@ pub record IsLagBound (parts : Parts) (box : Box) (weight : ℕ) (rows : List Mu
   pub prices : ArePricedBy parts rows table
   pub answered : IsTableAnswer parts box weight table answer
 
--- or there are none: the first node that must be entered and is closed, or, in a live box, the
--- first row that may have no price
+-- why a Lag leaf has no prices: the first node that must be entered and is closed, or, in a live
+-- box, the first row that may have no price
 abbrev pub IsLagFault : Parts → Box → List Multiplier → Result Bound LeafFault → Type 0
 IsLagFault parts box rows (Ok bound) = ⊥
 IsLagFault parts box rows (Err NotEmpty) = ⊥

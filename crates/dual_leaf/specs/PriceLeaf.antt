@@ -32,7 +32,7 @@ TellsAs parts weight table leaf =
     → IsPricedBound parts box weight table bound
     → IsLeafBound parts pool box leaf (Ok bound)
 
--- and where their value at weight 0 is above 0, the leaf says that there is no plan
+-- where the value of the prices at weight 0 is above 0, the leaf says that there is no plan
 abbrev pub Closes : Parts → PriceTable → Leaf → Type 0
 Closes parts table leaf =
     (pool : List CutName) (box : Box) (value : ℤ) → IsLive box

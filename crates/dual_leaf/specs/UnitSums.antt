@@ -39,7 +39,7 @@ pub record IsSumOf (parts : Parts) (box : Box) (count : ℕ) (loads : Tally)
   pub least : IsLeastSum parts box count sum
   pub near : IsNear (count * most_trip_cost) sum
 
--- that, or there is no plan
+-- what the first so many flights cost at the least is this sum, or there is no plan
 abbrev pub IsSoFar : Parts → Box → ℕ → Tally → Option ℤ → Type 0
 IsSoFar parts box count loads None = IsCostIn parts box NoPlan
 IsSoFar parts box count loads (Some sum) = IsSumOf parts box count loads sum

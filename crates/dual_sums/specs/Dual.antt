@@ -19,7 +19,7 @@ use Rattle.cut_rows.specs.Pools.{is_row_with, row_with}
 abbrev pub excess : (Var → ℕ) → AtMost → ℤ
 excess value row = form_value value row.terms -ℤ row.limit
 
--- the same of each row, so many times, added up
+-- how far each row is above its limit, so many times, added up
 abbrev pub excesses : Parts → List CutName → List Multiplier → (Var → ℕ) → ℤ
 excesses parts pool rows value =
     total (λ multiplier. pos multiplier.value *ℤ excess value (row_with parts pool multiplier.row))

@@ -1,4 +1,4 @@
-//! What leaving and arriving in a period cost a flight.
+//! What leaving and arriving in a period cost a flight, and its last node.
 ghost use Rattle.std.specs.Prelude.{◌≡◌, ◌≤◌, ◌<◌, ◌+◌, IfSome, Some, length};
 ghost use Rattle.flow_types.specs.Limits.{most_delay_cost, most_nodes};
 ghost use Rattle.flow_types.specs.Scenario.{flight_at, parts_of};
@@ -7,7 +7,7 @@ ghost use Rattle.flight_routes.specs.TimeCosts.{credit_then, total_then};
 
 use flow_types::{Flight, Scenario};
 
-/// What the ground delay of a departure is credited.
+/// What the ground delay of a departure is credited: always something, as a rate that is there.
 pub fn credit_then(s: &Scenario, flight: u32, time: u16) -> Option<i64>
     requires { flight < length (parts_of s.now).flights }
     ensures value { result
@@ -18,7 +18,7 @@ pub fn credit_then(s: &Scenario, flight: u32, time: u16) -> Option<i64>
     Some(s.credit(flight, delay))
 }
 
-/// What the delay of an arrival costs.
+/// What the delay of an arrival costs: always something, as a rate that is there.
 pub fn total_then(s: &Scenario, flight: u32, time: u16) -> Option<i64>
     requires { flight < length (parts_of s.now).flights }
     ensures value { result

@@ -32,13 +32,14 @@ pub record HoldsBytes (most : ℕ) (held : Option Held) (name bytes : List ℕ) 
   pub told : bytes_told held name ≡ Some bytes
   pub within : length bytes ≤ most
 
--- they are the text of this scenario
+-- the files tell that the name holds the text of this scenario
 pub record HoldsDay (held : Option Held) (name : List ℕ) (parts : Parts) : Type 0 where
   pub bytes : List ℕ
   pub holds : HoldsBytes most_text_bytes held name bytes
   pub read : scenario_of bytes ≡ Ok parts
 
--- they are a certificate without a fault, for the day whose text has this digest
+-- the files tell that the name holds a certificate without a fault, for the day whose text has this
+-- digest
 pub record HoldsCertificate (held : Option Held) (name : List ℕ) (parts : Parts)
     (digest : List ℕ) : Type 0 where
   pub bytes : List ℕ
@@ -46,7 +47,7 @@ pub record HoldsCertificate (held : Option Held) (name : List ℕ) (parts : Part
   pub claim : CertClaim
   pub accepted : IsVerdict parts (root_box parts) digest bytes (Ok claim)
 
--- they are the text of a plan of the day, which keeps every rule
+-- the files tell that the name holds the text of a plan of the day, which keeps every rule
 pub record HoldsPlan (held : Option Held) (name : List ℕ) (parts : Parts) : Type 0 where
   pub bytes : List ℕ
   pub holds : HoldsBytes most_text_bytes held name bytes
@@ -54,7 +55,7 @@ pub record HoldsPlan (held : Option Held) (name : List ℕ) (parts : Parts) : Ty
   pub read : plan_of parts bytes ≡ Ok plan
   pub feasible : IsFeasible parts plan
 
--- it is done, or there was no memory for it
+-- the work is done, or there was no memory for it
 abbrev pub EndsDone : Status → Type 0
 EndsDone Done = Unit {0}
 EndsDone OutOfMemory = Unit {0}
@@ -68,8 +69,8 @@ EndsPlanned parts budget OpenGap = IsEnough parts budget → ⊥
 EndsPlanned parts budget OutOfMemory = Unit {0}
 EndsPlanned parts budget other = ⊥
 
--- The same, or the certificate of the record that is handed back is too long, for the day whose
--- text has this digest.
+-- The day is planned, or there was no memory for it, or the certificate of the record that is
+-- handed back is too long, for the day whose text has this digest.
 abbrev pub EndsCertified : Parts → List ℕ → Budget → Ran → Type 0
 EndsCertified parts digest budget ran =
     EndsPlanned parts budget ran.status

@@ -18,9 +18,8 @@ ghost use Rattle.tree_search.specs.Records.{IsSearchRecord};
 use certificate::{Certificate, Digest};
 use tree_search::Found;
 
-/// The certificate of a search's record: its cuts, its tree, its last plan, if there is one, and its
-/// bound.
-/// It borrows these, and takes no memory. The digest is that of the day's text.
+/// The certificate of a search's record: its cuts, its tree, its last plan, if there is one, and
+/// its bound. It borrows these, and takes no memory. The digest is that of the day's text.
 pub fn certificate_of<'a>(digest: Digest, found: &'a Found) -> Certificate<'a>
     ensures certified { result ≡ certified digest found.now }
 {

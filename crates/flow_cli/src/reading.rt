@@ -60,7 +60,8 @@ pub fn day_of<F: Files>(alloc: Global, files: &mut F, name: &str) -> Result<Scen
     scenario_of(alloc, &text)
 }
 
-/// The scenario as above, and the digest of its text.
+/// The scenario of the text under the name and the digest of the text, or the answer that says why
+/// there is none.
 pub fn signed_day_of<F: Files>(
     alloc: Global,
     files: &mut F,

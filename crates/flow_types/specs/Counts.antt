@@ -1,4 +1,4 @@
--- How many flights depart, arrive, or are inside a sector in a period.
+-- How many flights depart from, arrive at, or are inside a place in a period.
 use Rattle.std.specs.Prelude.{ℕ, ◌+◌, ◌==◌, Bool, ◌&&◌, nat_le, nat_lt, List, [], ◌∷◌, if◌then◌else◌}
 use Rattle.flow_types.specs.declared.flight.Flight.{Flight}
 use Rattle.flow_types.specs.declared.plan.Stop.{Stop}
@@ -42,7 +42,7 @@ counted count [] plan = 0
 counted count (flight ∷ flights) [] = 0
 counted count (flight ∷ flights) (trip ∷ plan) = count flight trip + counted count flights plan
 
--- departures from an airport, arrivals at an airport, and flights inside a sector, in a period
+-- how many flights depart from the place, arrive at it, and are inside it, in the period
 abbrev pub departures_at : List Flight → List (List Stop) → ℕ → ℕ → ℕ
 departures_at flights plan place period = counted (departs_at place period) flights plan
 

@@ -99,7 +99,7 @@ pub record IsConnection (flights : List Flight) (connection : Connection) : Type
 abbrev pub IsOtherConnection : Connection → Connection → Type 0
 IsOtherConnection a b = a.first ≡ b.first → a.second ≢ b.second
 
--- What holds of each list of a day: it passes no limit, each item is as above, and no two have
+-- What holds of each list of a day: it passes no limit, each item is valid, and no two have
 -- one name, or connect one pair of flights.
 
 pub record ArePlaces (periods : ℕ) (places : List Place) : Type 0 where

@@ -20,11 +20,11 @@ use Rattle.flow_types.specs.Trips.{IsOnward, arrival_from}
 use Rattle.flow_types.specs.Valid.{IsScenario}
 use Rattle.flow_types.proofs.CostFacts.{credit_at-within, total_at-within}
 use Rattle.plan_rules.proofs.TripFacts.{AreTrips-length}
-use Rattle.flight_routes.proofs.InsideFacts.{trip_inside}
 use Rattle.flight_routes.specs.Inside.{IsTripIn}
 use Rattle.flight_routes.specs.Prices.{AreFree, PriceTable, priced_cost}
 use Rattle.flight_routes.proofs.FreeFacts.{free_cost}
 use Rattle.flight_routes.proofs.TripFacts.{in_day}
+use Rattle.flight_routes.proofs.InsideFacts.{trip_inside}
 use Rattle.time_windows.specs.Boxes.{Box, IsInBox}
 use Rattle.time_windows.specs.Plans.{AreTripsIn}
 use Rattle.flow_types.specs.Bounds.{IsLowerBound}

@@ -36,7 +36,7 @@ pub record IsGreedy (parts : Parts) (box : Box) (plan : List (List Stop)) : Type
   pub chosen : AreChosen parts box plan
   pub whole : length plan ≡ length parts.flights
 
--- it is stuck at the first flight of which no trip fits
+-- the greedy plan is stuck at the first flight of which no trip fits
 pub record IsStuck (parts : Parts) (box : Box) (kept : List (List Stop))
     (number : ℕ) : Type 0 where
   pub chosen : AreChosen parts box kept

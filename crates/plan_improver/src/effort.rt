@@ -84,7 +84,7 @@ pub struct Effort {
 }
 
 impl Effort {
-    /// That of a search from the first plan.
+    /// The effort of a search from the first plan.
     pub fn first(s: &Scenario, search: Search) -> Effort {
         let shares = match search {
             Search::Long if starts_of(s, search) == 1 => SHARES_OF_ONE,
@@ -97,7 +97,7 @@ impl Effort {
         }
     }
 
-    /// That of a search that goes on from the best plan: twice as long, and half as hot.
+    /// The effort of a search that goes on from the best plan: twice as long, and half as hot.
     pub fn last(s: &Scenario) -> Effort {
         Effort {
             trials: trials_of(s) / SHARES * 2,

@@ -1,11 +1,11 @@
 -- One count that changes, and counts that change one after another.
-use Rattle.std.proofs.Common.{◌≡◌, ◌⊎◌, ℕ, ◌+◌, ◌*◌, ◌^◌, ◌<◌, ◌≤◌, ◌==◌, ◌&&◌, nat_le, nat_lt, min, max, List, length, get_or, set, refl, sym, ap, ap₂, ◌∙◌, subst, inl, inr, arith}
+use Rattle.std.proofs.Common.{◌≡◌, ◌⊎◌, ℕ, ◌+◌, ◌*◌, ◌<◌, ◌≤◌, ◌==◌, ◌&&◌, nat_le, nat_lt, min, max, List, length, get_or, set, refl, sym, ap, ap₂, ◌∙◌, subst, inl, inr, arith}
 use Rattle.std.proofs.lemmas.Bool.{cases_eq}
 use Rattle.std.proofs.lemmas.Bool.Decides.{nat_tests}
 use Rattle.std.proofs.lemmas.List.{get_or-set_same, get_or-set_other, get_or_read}
 use Rattle.std.proofs.lemmas.Nat.{same_from_place}
 use Rattle.flow_types.specs.Counts.{one_if}
-use Rattle.plan_rules.specs.Grid.{Changes, changed, count_at}
+use Rattle.plan_rules.specs.Grid.{Changes, Fits, changed, count_at}
 use Rattle.plan_rules.specs.declared.grid.Change.{Change}
 use Rattle.plan_rules.specs.declared.grid.Change.TheVariants as change
 use Rattle.plan_rules.specs.Tally.{CountGrid}
@@ -19,15 +19,19 @@ changed-then : (change : Change) (count m n : ℕ)
 changed-then change.More count m n = omega arith
 changed-then change.Less count m n = omega arith
 
-changed-fits : (change : Change) (count m n : ℕ) → count + (m + n) < 2 ^ 32
-    → changed change count m + n < 2 ^ 32
-changed-fits change.More count m n fits = omega (arith, fits)
-changed-fits change.Less count m n fits = omega (arith, fits)
+fits-first : (change : Change) (count m n : ℕ) → Fits change count (m + n) → Fits change count m
+fits-first change.More count m n fits = omega (arith, fits)
+fits-first change.Less count m n fits = tt
+
+fits-then : (change : Change) (count m n : ℕ) → Fits change count (m + n)
+    → Fits change (changed change count m) n
+fits-then change.More count m n fits = omega (arith, fits)
+fits-then change.Less count m n fits = tt
 
 one_changed_by : (change : Change) (xs : List ℕ) (w a b k t now : ℕ) → b < w → t < w
     → a * w + b < length xs
-    → (get_or xs (a * w + b) 0 + 1 < 2 ^ 32 → now ≡ changed change (get_or xs (a * w + b) 0) 1)
-    → get_or xs (k * w + t) 0 + one_if ((a == k) && (b == t)) < 2 ^ 32
+    → (Fits change (get_or xs (a * w + b) 0) 1 → now ≡ changed change (get_or xs (a * w + b) 0) 1)
+    → Fits change (get_or xs (k * w + t) 0) (one_if ((a == k) && (b == t)))
     → (a * w + b ≡ k * w + t) ⊎ (a * w + b ≡ k * w + t → ⊥)
     → get_or (set xs (a * w + b) now) (k * w + t) 0
     ≡ changed change (get_or xs (k * w + t) 0) (one_if ((a == k) && (b == t)))
@@ -35,8 +39,10 @@ one_changed_by change xs w a b k t now b_in t_in within is fits (inl same) =
     let both = same_from_place a b k t w b_in t_in same in
     let one : one_if ((a == k) && (b == t)) ≡ 1 = grind (arith, nat_tests) in
     let there = ap (λ i. get_or xs i 0) same in
+    let fits_one = subst (Fits change (get_or xs (k * w + t) 0)) one fits in
     ap (λ i. get_or (set xs (a * w + b) now) i 0) (sym same)
-    ∙ get_or-set_same xs (a * w + b) now 0 within ∙ is (omega arith)
+    ∙ get_or-set_same xs (a * w + b) now 0 within
+    ∙ is (subst (λ count. Fits change count 1) (sym there) fits_one)
     ∙ ap₂ (changed change) there (sym one)
 one_changed_by change xs w a b k t now b_in t_in within is fits (inr other) =
     let none : one_if ((a == k) && (b == t)) ≡ 0 = grind (arith, nat_tests, ap (λ n. n * w + t)) in
@@ -47,14 +53,14 @@ one_changed_by change xs w a b k t now b_in t_in within is fits (inr other) =
 -- the count at place a and period b is changed by one
 pub one_changed : (change : Change) (xs : List ℕ) (w a b k t old now : ℕ) → b < w → t < w
     → a * w + b < length xs → old ≡ get_or xs (a * w + b) old
-    → (old + 1 < 2 ^ 32 → now ≡ changed change old 1)
-    → get_or xs (k * w + t) 0 + one_if ((a == k) && (b == t)) < 2 ^ 32
+    → (Fits change old 1 → now ≡ changed change old 1)
+    → Fits change (get_or xs (k * w + t) 0) (one_if ((a == k) && (b == t)))
     → get_or (set xs (a * w + b) now) (k * w + t) 0
     ≡ changed change (get_or xs (k * w + t) 0) (one_if ((a == k) && (b == t)))
 one_changed change xs w a b k t old now b_in t_in within is changes fits =
     let read : old ≡ get_or xs (a * w + b) 0 = get_or_read xs (a * w + b) old within is 0 in
     one_changed_by change xs w a b k t now b_in t_in within
-    (subst (λ n. n + 1 < 2 ^ 32 → now ≡ changed change n 1) read changes) fits
+    (subst (λ n. Fits change n 1 → now ≡ changed change n 1) read changes) fits
     (cases_eq (a * w + b) (k * w + t))
 
 module _ (change : Change) where
@@ -66,11 +72,11 @@ module _ (change : Change) where
     periods = second.periods ∙ first.periods;
     each = λ k t k_in t_in fits.
         let one : count_at mid k t ≡ changed change (count_at old k t) (m k t) =
-        first.each k t k_in t_in (omega arith) in
-        let room = changed-fits change (count_at old k t) (m k t) (n k t) fits in
+        first.each k t k_in t_in (fits-first change (count_at old k t) (m k t) (n k t) fits) in
+        let room = fits-then change (count_at old k t) (m k t) (n k t) fits in
         let two : count_at new k t ≡ changed change (count_at mid k t) (n k t) =
         second.each k t (omega (arith, first.places)) (omega (arith, first.periods))
-        (subst (λ count. count + n k t < 2 ^ 32) (sym one) room) in
+        (subst (λ count. Fits change count (n k t)) (sym one) room) in
         two ∙ ap (λ count. changed change count (n k t)) one
         ∙ changed-then change (count_at old k t) (m k t) (n k t);
   }
@@ -84,7 +90,8 @@ module _ (change : Change) where
     periods = changes.periods;
     each = λ k t k_in t_in fits.
         let e = same k t k_in t_in in
-        changes.each k t k_in t_in (omega arith) ∙ ap (changed change (count_at old k t)) e;
+        changes.each k t k_in t_in (subst (Fits change (count_at old k t)) (sym e) fits)
+        ∙ ap (changed change (count_at old k t)) e;
   }
 
   -- nothing

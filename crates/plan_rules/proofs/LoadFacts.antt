@@ -1,5 +1,5 @@
 -- Loads with no trips, and with one trip more or less.
-use Rattle.std.proofs.Common.{◌≡◌, ◌≢◌, ◌⊎◌, ℕ, ◌+◌, ◌^◌, ◌<◌, ◌≤◌, List, [], ◌∷◌, length, get_or, set, slice_get, Some, None, Option, refl, sym, ap, ◌∙◌, inl, inr, replicate, arith}
+use Rattle.std.proofs.Common.{◌≡◌, ◌≢◌, ◌⊎◌, ℕ, ◌+◌, ◌<◌, ◌≤◌, List, [], ◌∷◌, length, get_or, set, slice_get, Some, None, Option, refl, sym, ap, ◌∙◌, inl, inr, replicate, arith}
 use Rattle.std.proofs.lemmas.Bool.{cases_eq, cases_lt}
 use Rattle.std.proofs.lemmas.List.{get_or-set_same, get_or-set_other, get_or-replicate, get_or_past, length-replicate, length-set}
 use Rattle.flow_types.specs.declared.flight.Flight.{Flight}
@@ -10,7 +10,7 @@ use Rattle.flow_types.specs.Limits.{most_flights}
 use Rattle.flow_types.specs.Trips.{IsTrip, departure_of, arrival_of}
 use Rattle.plan_rules.specs.Loads.{AreLoads, AreTripsOrNone, ChangesTrip, HasSize, IsClear, IsMadeFor, IsTripOrNone, no_trips, stops_after}
 use Rattle.plan_rules.specs.Tally.{CountGrid, Tally}
-use Rattle.plan_rules.specs.Grid.{Changes, IsEmpty, changed, count_at}
+use Rattle.plan_rules.specs.Grid.{Changes, Fits, IsEmpty, changed, count_at}
 use Rattle.plan_rules.specs.declared.grid.Change.{Change}
 use Rattle.plan_rules.specs.declared.grid.Change.TheVariants as change
 use Rattle.plan_rules.proofs.CountFacts.{counted-none, counted-put, counted-le, departs_at-le, arrives_at-le, stays_at-le, AreTripsOrNone-set, AreTripsOrNone-none, AreTripsOrNone-length, none_at}
@@ -73,12 +73,12 @@ sum_changed : (change : Change) (count : List Stop → ℕ) (moved : List Stop) 
     → count [] ≡ 0 → old ≡ was → was ≤ most_flights
     → now + count (stops_before change moved) ≡ was + count (stops_after change moved)
     → count (stops_after change moved) ≤ 1
-    → (old + count moved < 2 ^ 32 → new ≡ changed change old (count moved)) → new ≡ now
+    → (Fits change old (count moved) → new ≡ changed change old (count moved)) → new ≡ now
 sum_changed change.More count moved old new was now none is few put once changes =
     let grown = changes (omega (arith, is, few, once)) in
     omega (arith, grown, put, none, is)
 sum_changed change.Less count moved old new was now none is few put once changes =
-    let shrunk = changes (omega (arith, is, few, put, none)) in
+    let shrunk = changes tt in
     omega (arith, shrunk, put, none, is)
 
 -- the trips with one more, or one less

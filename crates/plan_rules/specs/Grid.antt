@@ -22,9 +22,14 @@ abbrev pub changed : Change → ℕ → ℕ → ℕ
 changed change.More count by = count + by
 changed change.Less count by = count - by
 
--- each count has changed by so much, where that would fit in 32 bits
+-- a change by so much fits in 32 bits: always, where the count becomes less
+abbrev pub Fits : Change → ℕ → ℕ → Type 0
+Fits change.More count by = count + by < 2 ^ 32
+Fits change.Less count by = Unit {0}
+
+-- each count has changed by so much, where that fits
 pub record Changes (change : Change) (by : ℕ → ℕ → ℕ) (old new : CountGrid) : Type 0 where
   pub places : new.places ≡ old.places
   pub periods : new.periods ≡ old.periods
-  pub each : (k t : ℕ) → k < old.places → t < old.periods → count_at old k t + by k t < 2 ^ 32
+  pub each : (k t : ℕ) → k < old.places → t < old.periods → Fits change (count_at old k t) (by k t)
       → count_at new k t ≡ changed change (count_at old k t) (by k t)

@@ -1,6 +1,6 @@
 //! Counts by place and period.
 ghost use Rattle.std.specs.Prelude.{◌≡◌, ◌+◌, ◌*◌, ◌^◌, ◌<◌, EachIndex, slice_index};
-ghost use Rattle.plan_rules.specs.Grid.{changed};
+ghost use Rattle.plan_rules.specs.Grid.{Fits, changed};
 
 use std::alloc::{AllocError, Global};
 use std::marker::Model;
@@ -99,7 +99,8 @@ impl Grid {
         }
     }
 
-    /// The same at the place in each period from `from` up to, but not including, `to`.
+    /// Counts one more, or one less, at the place in each period from `from` up to, but not
+    /// including, `to`, nothing outside the grid.
     pub fn change_stay(&mut self, change: Change, place: u32, from: u16, to: u16)
         ensures { Changes change
             (λ k t. one_if ((place == k) && nat_le from t && nat_lt t to)) self.old self.new }
@@ -112,7 +113,7 @@ impl Grid {
 
 // The count after a change by one, where that fits in 32 bits.
 fn changed(change: Change, count: u32) -> u32
-    ensures { count + 1 < 2 ^ 32 → result ≡ changed change count 1 }
+    ensures { Fits change count 1 → result ≡ changed change count 1 }
 {
     match change {
         Change::More => count.saturating_add(1),

@@ -74,7 +74,7 @@ fn check_kind(loads: &Loads, s: &Scenario, kind: CapKind) -> Result<(), Broken>
     Ok(())
 }
 
-// Whether they are kept in the place in every period, if it has them.
+// Whether the capacities of this kind are kept in the place in every period, if it has such.
 fn check_place(loads: &Loads, s: &Scenario, kind: CapKind, place: u32) -> Result<(), Broken>
     requires made { IsMadeFor (parts_of s.now) loads.now }
     requires place { place < length (parts_of s.now).places }

@@ -20,7 +20,7 @@
 //! `plans_that_break_nothing_are_feasible` ties the two definitions together.
 //!
 //! Time: `judge` looks at each stop with the legs of its flight, at each period that a flight
-//! spends in a sector, and a few times at each place and period. `Loads` take twelve bytes a place
+//! spends in a place, and a few times at each place and period. `Loads` take twelve bytes a place
 //! and period, and eight a flight.
 #![tactic(auto)]
 

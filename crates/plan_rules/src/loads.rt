@@ -1,4 +1,4 @@
-//! How many flights depart, arrive or are inside a sector in each period.
+//! How many flights depart from, arrive at and are inside each place in each period.
 ghost use Rattle.std.specs.Prelude.{◌≡◌, ℕ, IfOk, None, length, replicate, slice_index_or};
 ghost use Rattle.plan_rules.specs.Loads.{stops_after};
 
@@ -24,11 +24,14 @@ enum Contents {
 /// flight. Contracts see them as a `Tally`.
 #[derive(Debug)]
 pub struct Loads {
+    // How many flights depart from, arrive at and are inside a place in a period.
     departures: Grid,
     arrivals: Grid,
     inside: Grid,
+    // When each flight departs and arrives, nothing where it isn't there.
     leaves: Vec<Option<u16>>,
     arrives: Vec<Option<u16>>,
+    // Whether there may be trips.
     contents: Contents,
 }
 
@@ -113,7 +116,8 @@ impl Loads {
         }
     }
 
-    /// Adds a trip of the flight, which isn't there yet. The loads were made for the scenario.
+    /// Adds the stops as the flight's trip: where they are one, and none of the flight was there,
+    /// the loads count it with the others. They were made for the scenario. It takes no memory.
     pub fn add(&mut self, s: &Scenario, flight: u32, stops: &[Stop])
         requires made { IsMadeFor (parts_of s.now) self.old }
         requires flight { flight < length (parts_of s.now).flights }
@@ -130,8 +134,8 @@ impl Loads {
         );
     }
 
-    /// Takes the flight's trip out again, which is the one that was added. The loads were made for
-    /// the scenario. It takes no memory.
+    /// Takes the stops out as the flight's trip: where they are the one that was added, the loads
+    /// count the others alone. They were made for the scenario. It takes no memory.
     pub fn remove(&mut self, s: &Scenario, flight: u32, stops: &[Stop])
         requires made { IsMadeFor (parts_of s.now) self.old }
         requires flight { flight < length (parts_of s.now).flights }
@@ -148,7 +152,7 @@ impl Loads {
         );
     }
 
-    // Adds a trip of the flight, which has that number, or takes it out.
+    // Adds the stops as the trip of the flight with this number, or takes them out.
     fn change_trip(&mut self, change: Change, flight: &Flight, number: usize, stops: &[Stop])
         requires leaves { number < length self.old.leaves }
         requires arrives { number < length self.old.arrives }

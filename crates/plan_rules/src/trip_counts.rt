@@ -1,4 +1,4 @@
-//! What counts change by with one trip.
+//! When a trip departs and arrives, and counts that it is added to or taken out of.
 ghost use Rattle.std.specs.Prelude.{◌≡◌};
 ghost use Rattle.flow_types.specs.Counts.{arrives_at, departs_at, stays_at, stays_from};
 ghost use Rattle.flow_types.specs.Trips.{arrival_of, departure_of};
@@ -45,8 +45,8 @@ pub fn change_arrival(grid: &mut Grid, change: Change, flight: &Flight, stops: &
     }
 }
 
-/// Counts the trip in each of its places, from the period in which it enters up to the one before
-/// it enters the next, or counts it there no more.
+/// Counts the trip in each of its places but the last, from the period in which it enters up to the
+/// one before it enters the next, or counts it there no more.
 pub fn change_stays(grid: &mut Grid, change: Change, flight: &Flight, stops: &[Stop])
     ensures { Changes change (λ k t. stays_at k t flight.now stops.now) grid.old grid.new }
 {
@@ -55,7 +55,8 @@ pub fn change_stays(grid: &mut Grid, change: Change, flight: &Flight, stops: &[S
     }
 }
 
-// The same from a stop on.
+// Counts the rest of a trip, from its stop `first` on, in each place but the last, from the period
+// in which it enters up to the one before it enters the next, or counts it there no more.
 fn change_stays_from(grid: &mut Grid, change: Change, flight: &Flight, first: Stop, rest: &[Stop])
     ensures { Changes change (λ k t. stays_from k t flight.now first rest.now) grid.old grid.new }
 {

@@ -137,7 +137,7 @@ fn is_last(flight: &Flight, node: u16) -> bool
     usize::from(node) + 1 == flight.nodes.items().len()
 }
 
-// Whether its time is neither before the window nor after it.
+// Whether the stop's time is neither before its node's window nor after it.
 fn is_within_hours(periods: u16, flight: &Flight, stop: Stop) -> bool
     ensures { result ≡ is_within_hours periods flight.now stop }
 {

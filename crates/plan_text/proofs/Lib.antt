@@ -2,6 +2,7 @@ pub mod NameFacts
 pub mod TripFacts
 pub mod ReadingFacts
 mod Worked
+pub mod ReadBack
 pub mod WrittenTrips
 pub mod TripsAgain
 pub mod PlansAgain

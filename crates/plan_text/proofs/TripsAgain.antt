@@ -20,7 +20,7 @@ use Rattle.text_records.specs.Rows.{Fields}
 use Rattle.plan_text.specs.Lines.{place_name}
 use Rattle.plan_text.specs.Names.{flight_names, node_named}
 use Rattle.plan_text.specs.Trips.{TripsRead, flight_in, stop_in, stops_from, trip_of}
-use Rattle.plan_text.proofs.WrittenTrips.{name_back, named_at, node_back, number_in_back}
+use Rattle.plan_text.proofs.ReadBack.{name_back, named_at, node_back, number_in_back}
 
 pub record IsReadBack (periods : ℕ) (flight : Flight) (stop : Stop) : Type 0 where
   pub node : stop.node < length flight.nodes

@@ -21,7 +21,7 @@ pub record Numbered : Type 0 where
   pub positions : Numbering
   pub numbers : List ℕ
 
--- that of each column of the box
+-- each column of the box has its number, at its position
 pub record IsNumberedFor (parts : Parts) (held : Held) (numbered : Numbered) : Type 0 where
   pub ready : IsReady parts numbered.positions held
   pub count : length numbered.numbers ≡ numbered.positions.count

@@ -54,7 +54,7 @@ pub record AddsRows (parts : Parts) (pool : List CutName) (box : Box) (names : L
       ≡ with_rows old (map (kept_row parts pool box) (kept_among parts pool box names))
   pub kept : after ≡ before ++ kept_among parts pool box names
 
--- the same of a draft, whose entries are counted
+-- the rows of these names are added to a draft, whose entries are counted
 pub record AddsNames (parts : Parts) (pool : List CutName) (box : Box) (names : List RowName)
     (old new : ProgramDraft) : Type 0 where
   pub rows : AddsRows parts pool box names old.program new.program old.kept new.kept

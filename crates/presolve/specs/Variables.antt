@@ -11,7 +11,7 @@ use Rattle.bytime_model.specs.Left.{left_of}
 use Rattle.bytime_model.specs.Rows.{node_count}
 use Rattle.bytime_model.specs.Values.{has_inside}
 
--- it is one and the same variable
+-- whether two are one and the same variable
 abbrev pub is_same : Var → Var → Bool
 is_same (By f n t) (By g m u) = (f == g) && ((n == m) && (t == u))
 is_same (By f n t) (Inside g m u) = false

@@ -52,7 +52,7 @@ struct Base<'a> {
     flips: Vec<bool>,
 }
 
-// That of these columns.
+// The base of a program of these columns.
 fn base_of<'a>(
     alloc: Global,
     relaxation: Relaxation<'a>,

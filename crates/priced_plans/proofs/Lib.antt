@@ -9,6 +9,7 @@ pub mod NodeFacts
 pub mod NearFacts
 pub mod SmallFacts
 pub mod RoundFacts
+pub mod RoundingFacts
 pub mod PartFacts
 pub mod WorkedPrices
 pub mod SameFacts

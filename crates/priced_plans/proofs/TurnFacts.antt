@@ -7,7 +7,6 @@ use Rattle.std.proofs.lemmas.Int.{ints}
 use Rattle.std.proofs.lemmas.List.Elements.{All-head, All-tail}
 use Rattle.std.proofs.lemmas.Option.{get_or_from_slice_get}
 use Rattle.exact_sums.proofs.ItemFacts.{item_there}
-use Rattle.time_windows.proofs.PlanFacts.{planned}
 use Rattle.flow_types.specs.declared.flight.Connection.{Connection}
 use Rattle.flow_types.specs.declared.flight.Flight.{Flight}
 use Rattle.flow_types.specs.declared.plan.Stop.{Stop}
@@ -15,6 +14,7 @@ use Rattle.flow_types.specs.Counts.{one_if}
 use Rattle.flow_types.specs.Feasible.{AreTrips, KeepsTurn}
 use Rattle.flow_types.specs.Trips.{IsTrip, arrival_of, departure_of}
 use Rattle.flow_types.specs.Valid.{IsConnection}
+use Rattle.time_windows.proofs.PlanFacts.{planned}
 use Rattle.flight_routes.specs.Prices.{PriceTable, price_in, summed, turns_back, turns_paid}
 use Rattle.priced_plans.specs.Values.{arrives_in, has_left, is_ready, leaves_in, over_day, turns_price}
 use Rattle.priced_plans.proofs.RangeFacts.{range-le, summed-since}

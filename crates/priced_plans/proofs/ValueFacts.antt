@@ -1,13 +1,15 @@
--- The value of prices is no more than what a feasible plan in the box costs.
-use Rattle.std.proofs.Common.{◌≡◌, ℕ, zero, suc, ◌+◌, ◌<◌, ◌≤◌, List, [], ◌∷◌, get_or, length, slice_get, Some, ℤ, pos, ◌+ℤ◌, ◌*ℤ◌, ◌≤ℤ◌, sym, ap, ◌∙◌, subst, arith}
+-- The value of prices is no more than what a feasible plan in the box costs, and neither is the bound
+-- that they tell.
+use Rattle.std.proofs.Common.{◌≡◌, ℕ, zero, suc, ◌+◌, ◌<◌, ◌≤◌, List, [], ◌∷◌, ◌++◌, get_or, length, slice_get, Some, ℤ, pos, ◌+ℤ◌, ◌*ℤ◌, ◌≤ℤ◌, refl, sym, ap, ◌∙◌, subst, arith}
 use Rattle.std.specs.List.{range_with_len}
-use Rattle.std.proofs.Math.IntN.{*ℤ-zero, zero-*ℤ}
+use Rattle.std.proofs.Math.IntN.{*ℤ-zero, *ℤ_comm, zero-*ℤ}
 use Rattle.std.proofs.lemmas.Int.{ints}
 use Rattle.std.proofs.lemmas.Option.{get_or_from_slice_get}
 use Rattle.exact_sums.specs.Sums.{total}
 use Rattle.exact_sums.proofs.ProductFacts.{times-more}
 use Rattle.exact_sums.proofs.RangeFacts.{total_next}
-use Rattle.flight_routes.proofs.InsideFacts.{trip_inside}
+use Rattle.flow_types.specs.declared.bound.Bound.{Bound}
+use Rattle.flow_types.specs.declared.bound.Bound.TheVariants.{AtLeast, NoPlan}
 use Rattle.flow_types.specs.declared.flight.Flight.{Flight}
 use Rattle.flow_types.specs.declared.parts.Parts.{Parts}
 use Rattle.flow_types.specs.declared.plan.Stop.{Stop}
@@ -17,7 +19,10 @@ use Rattle.flow_types.specs.Valid.{IsScenario}
 use Rattle.plan_rules.proofs.TripFacts.{AreTrips-length}
 use Rattle.flight_routes.specs.Inside.{IsTripIn}
 use Rattle.flight_routes.specs.Prices.{PriceTable, priced_cost, priced_cost_of}
+use Rattle.flight_routes.proofs.InsideFacts.{trip_inside}
 use Rattle.time_windows.specs.Boxes.{Box, IsInBox}
+use Rattle.time_windows.specs.Plans.{IsBoundIn}
+use Rattle.priced_plans.specs.PricedBound.{IsPricedBound}
 use Rattle.priced_plans.specs.Values.{IsPricedSum, IsPricedValue, plan_price}
 use Rattle.priced_plans.proofs.PayFacts.{feasible-pays}
 
@@ -109,3 +114,15 @@ pub none-inside : (parts : Parts) (box : Box) (number : ℕ) (plan : List (List 
 none-inside parts box number plan within none feasible inside =
     let trip = trip_inside parts box plan feasible.trips inside number within in
     none trip.0 trip.2
+
+-- a bound that prices tell is one of the feasible plans
+pub bound-below : (parts : Parts) (box : Box) (weight : ℕ) (table : PriceTable) (bound : Bound)
+    → IsScenario parts → IsPricedBound parts box weight table bound
+    → IsBoundIn parts box bound
+bound-below parts box weight table NoPlan valid is = λ plan kept.
+    none-inside parts box is.number plan is.within is.none kept.feasible kept.inside
+bound-below parts box weight table (AtLeast least) valid is = λ plan kept.
+    let below = value-below parts box weight table is.0 plan valid is.1 kept.feasible kept.inside
+    in
+    let cost = plan_cost parts.tables parts.flights plan in
+    is.2.below cost (subst (λ z. is.0 ≤ℤ z) (*ℤ_comm (pos weight) cost) below)

@@ -21,7 +21,7 @@ pub record Traffic : Type 0 where
   pub leaves : ℕ → Option ℕ
   pub arrives : ℕ → Option ℕ
 
--- that of trips
+-- how many flights depart, arrive or are inside by these trips, and the traffic that trips are
 abbrev pub count_at : Parts → List (List Stop) → CapKind → ℕ → ℕ → ℕ
 count_at parts trips cap.Dep = departures_at parts.flights trips
 count_at parts trips cap.Arr = arrivals_at parts.flights trips
@@ -34,7 +34,7 @@ traffic_of parts trips = record {
   arrives = λ f. arrival_of (slice_index_or trips f []);
 }
 
--- that which loads count
+-- the traffic that loads count
 abbrev pub traffic_in : Tally → Traffic
 traffic_in loads = record {
   count = load_at loads;

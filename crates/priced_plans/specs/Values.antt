@@ -99,7 +99,7 @@ IsPricedSum parts box weight table (suc number) sum =
     × IsLeastAt (IsTripIn parts box number) (priced_cost weight table parts number) least
     × (sum ≡ before +ℤ least)
 
--- that of all flights, less what all capacities would pay
+-- the value of prices: the least trips of all flights, less what all capacities would pay
 pub record IsPricedValue (parts : Parts) (box : Box) (weight : ℕ) (table : PriceTable)
     (value : ℤ) : Type 0 where
   pub sum : ℤ

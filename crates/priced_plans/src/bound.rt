@@ -59,7 +59,7 @@ pub fn told_by(value: Option<i128>, weight: u64) -> Bound
 /// The least number that is no less than the value divided by the weight. The value is no further
 /// from 0 than 2^123, and the weight is above 0. The number is no further from 0 than the value,
 /// and with a weight of at least 2^10 it is nearer than 2^115.
-#[tactic(auto, using(crate::proofs::RoundFacts::rounded_above, crate::proofs::RoundFacts::rounded_below, crate::proofs::RoundFacts::rounded_near, crate::proofs::RoundFacts::rounded_within))]
+#[tactic(auto, using(crate::proofs::RoundingFacts::rounded_above, crate::proofs::RoundingFacts::rounded_below, crate::proofs::RoundingFacts::rounded_near, crate::proofs::RoundingFacts::rounded_within))]
 pub fn rounded_up(value: i128, weight: u64) -> i128
     requires near { IsNear (2 ^ 123) value }
     requires weight { 0 < weight }

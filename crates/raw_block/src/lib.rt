@@ -25,8 +25,8 @@
 //! folder), with places that may be written twice and a block that may be given back while its
 //! places hold values. The values are `Copy`, so they need no step at their end.
 //!
-//! Memory: the size of a value for each place, in one block, taken by `new` alone; what no value was
-//! put in isn't touched. Time: each call takes the same for any block.
+//! Memory: the size of a value for each place, in one block, taken by `new` alone; what no value
+//! was put in isn't touched. Time: each call takes the same for any block.
 #![tactic(auto)]
 
 mod block;

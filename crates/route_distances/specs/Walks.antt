@@ -24,8 +24,8 @@ pub record IsShortest (legs : List Leg) (node time : ℕ) : Type 0 where
 abbrev pub IsReached : List Leg → ℕ → ℕ → Type 0
 IsReached legs from to = (leg : Leg) × (walk : List Leg) × IsWalk legs from (leg ∷ walk) to
 
--- The same node by node, since legs lead from lower nodes to higher ones: the least that the legs
--- into a node come to, by the times of where they are from.
+-- The least times node by node, since legs lead from lower nodes to higher ones: the least that the
+-- legs into a node come to, by the times of where they are from.
 abbrev pub sooner : ℕ → Option ℕ → ℕ
 sooner time None = time
 sooner time (Some other) = min time other

@@ -16,7 +16,7 @@ shortest_in ways node = slice_index ways.times node
 abbrev pub reaches_in : Ways → ℕ → ℕ → Bool
 reaches_in ways from to = slice_index_or (slice_index_or ways.reached from []) to false
 
--- those along the legs
+-- these are the ways along the legs
 pub record AreWaysAlong (legs : List Leg) (ways : Ways) : Type 0 where
   pub shortest : (node : ℕ) → shortest_in ways node ≡ shortest_of legs node
   pub reaches : (from to : ℕ) → reaches_in ways from to ≡ reaches_of legs from to

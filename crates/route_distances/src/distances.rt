@@ -33,8 +33,8 @@ impl Distances {
     ghost use Rattle.route_distances.specs.Walks.{HasNode, IsReached, IsShortest, legs_of};
     ghost use Rattle.route_distances.specs.Ways.{AreWaysAlong, reaches_in, shortest_in};
 
-    /// Those of the flight, which is one of the scenario's. It takes a byte for each two nodes of
-    /// the flight and 34 for each node, or up to twice that, since the lists grow.
+    /// The distances of the flight, which is one of the scenario's. It takes a byte for each two
+    /// nodes of the flight and 34 for each node, or up to twice that, since the lists grow.
     #[tactic(auto, using(crate::proofs::WayFacts::ways_along, crate::proofs::WayFacts::ways_least, crate::proofs::WayFacts::ways_lead))]
     pub fn new(alloc: Global, s: &Scenario, flight: u32) -> Result<Distances, OutOfMemory>
         requires { flight < length (parts_of s.now).flights }
@@ -71,7 +71,7 @@ impl Distances {
     }
 }
 
-// Those along the legs of a flight.
+// The distances along the legs of a flight.
 fn distances_along(alloc: Global, flight: &Flight) -> Result<Distances, OutOfMemory>
     requires legs { All (IsLeg (length flight.now.nodes)) flight.now.legs }
     requires few { length flight.now.nodes ≤ most_nodes }

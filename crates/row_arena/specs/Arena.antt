@@ -46,7 +46,8 @@ with_row cells rows target row =
     if has_room cells rows row then Ok (set rows target row)
     else Err (Cells (live rows) (length row))
 
--- the same, where no entry is too far from 0; else the first that is
+-- the rows with this one at the target, where there is room and no entry is too far from 0; else
+-- the first that is, or how many entries there are
 abbrev pub replaced : Option Entry → ℕ → List (List Entry) → ℕ → List Entry
     → Result (List (List Entry)) Wide
 replaced None cells rows target row = with_row cells rows target row

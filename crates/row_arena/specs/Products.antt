@@ -20,7 +20,7 @@ entries_of wides = map entry_of wides
 abbrev pub difference_in : ℤ → ℤ → Pair → List Entry
 difference_in p a pair = unless_zero pair.column ((p *ℤ pair.target) -ℤ (a *ℤ pair.pivot))
 
--- the same as an entry, which may be 0
+-- what a pair comes to, as an entry, which may be 0
 abbrev pub came_of : Factors → Pair → Entry
 came_of by pair = record {
   column = pair.column;

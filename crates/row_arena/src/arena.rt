@@ -127,8 +127,8 @@ impl RowArena {
         entry_in(self.row(row), column)
     }
 
-    /// Adds a row at the end. `Wide::Cells` comes exactly where the entries that are there and these
-    /// together pass the cells. After an error all is as before. It takes no memory.
+    /// Adds a row at the end. `Wide::Cells` comes exactly where the entries that are there and
+    /// these together pass the cells. After an error all is as before. It takes no memory.
     pub fn push_row(&mut self, entries: &[Entry]) -> Result<(), Wide>
         requires place { length self.old.rows < self.old.most_rows }
         requires valid { IsRow entries.now }

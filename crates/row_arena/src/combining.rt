@@ -97,7 +97,7 @@ fn reach_of(size: u64) -> i64
     }
 }
 
-// Their greatest common divisor.
+// The greatest common divisor of both factors.
 fn common(by: Factors) -> u64
     requires { AreNear by }
     ensures { IsGcd (nat_abs by.target) (nat_abs by.pivot) result }
@@ -112,7 +112,7 @@ struct Share {
     divisor: u64,
 }
 
-// The quotient.
+// The number, divided by its divisor.
 #[tactic(auto, using(crate::proofs::DividedFacts::parts))]
 fn share_of(share: Share) -> i64
     requires some { 0 < share.divisor }
@@ -189,7 +189,8 @@ fn write_narrow(
     fill_narrow(narrow, filled, by, target, pivot)
 }
 
-// The same, in a list that is long enough.
+// Writes the difference in 64 bits into a list that is long enough, divided by its divisor, where
+// none of it is too far from 0 before that. Else what is written tells nothing.
 fn fill_narrow(
     out: &mut [Entry],
     filled: &mut Vec<u32>,
@@ -262,7 +263,8 @@ fn write_wide(
     fill_wide(wides, filled, by, target, pivot)
 }
 
-// The same, in a list that is long enough.
+// Writes the difference in 128 bits into a list that is long enough, divided by its divisor, and
+// says how many numbers that are.
 fn fill_wide(
     out: &mut [WideEntry],
     filled: &mut Vec<u32>,
@@ -302,7 +304,7 @@ fn reduce(wides: &mut [WideEntry])
     divide_by(wides, divisor);
 }
 
-// Divides each value, if that changes any.
+// Divides each value by the divisor, if that changes any.
 #[tactic(auto, using(crate::proofs::DividedFacts::divided_one))]
 fn divide_by(wides: &mut [WideEntry], divisor: u128)
     requires some { 0 < divisor }

@@ -13,8 +13,8 @@ pub struct WideEntry {
     pub value: i128,
 }
 
-/// How often the target is taken, and how often the pivot is taken away; and how far from 0 an entry
-/// may be for its product with either not to be too far.
+/// How often the target is taken, and how often the pivot is taken away; and how far from 0 an
+/// entry may be for its product with either not to be too far.
 #[derive(Clone, Copy, Debug, PartialEq, Eq)]
 pub struct Factors {
     pub target: i64,

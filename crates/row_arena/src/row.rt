@@ -68,7 +68,7 @@ pub fn first_far(wides: &[WideEntry]) -> Option<WideEntry>
     None
 }
 
-// It is too far from 0.
+// Whether the entry is too far from 0.
 #[inline(always)]
 pub fn is_far(wide: WideEntry) -> bool
     ensures { result ≡ is_far (entry_of wide) }

@@ -119,7 +119,8 @@ impl Shelf {
     fn rewrite(&mut self, row: usize, entries: &[Entry])
         requires shelf { IsShelf self.old }
         requires within { row < length self.old.places.items }
-        requires room { (d : Place) → length entries.now ≤ (get_or self.old.places.items row d).room }
+        requires room { (d : Place)
+            → length entries.now ≤ (get_or self.old.places.items row d).room }
         ensures shelf { IsShelf self.new }
         ensures rows { rows_of self.new ≡ set (rows_of self.old) row entries.now }
         ensures half { self.new.half ≡ self.old.half }
@@ -278,7 +279,8 @@ fn negate_at(block: &mut Block<Entry>, place: Place)
     requires within { place.from + place.len ≤ length block.old }
     requires small { length block.old < 2 ^ 36 }
     requires valid { IsRow (row_in block.old place) }
-    ensures { block.new ≡ written block.old place.from (map Some (negated (row_in block.old place))) }
+    ensures { block.new
+        ≡ written block.old place.from (map Some (negated (row_in block.old place))) }
 {
     for k in 0..place.len {
         block.put(place.from + k, turned(block.get(place.from + k)));

@@ -79,7 +79,7 @@ module _ (problem : Problem) (tableau : Tableau) where
   AreFractions (Point numerators denominator) = ArePoint numerators denominator
   AreFractions (TooWide count multiple) = AreTooWide count multiple
 
--- those of the last tableau, whose cost row tells
+-- the fractions of the last tableau, whose cost row the outcome has
 pub record AreLast (problem : Problem) (outcome : Outcome) (fractions : Fractions) : Type 0 where
   pub tableau : Tableau
   pub last : IsLastTableau problem tableau

@@ -34,7 +34,7 @@ pub record IsReached (problem : Problem) (cells : ℕ) (tableau : Tableau) : Typ
   pub pivots : ℕ
   pub is : tableau_after problem cells pivots ≡ Some tableau
 
--- and no row leaves
+-- a tableau that pivots lead to, and of which no row leaves
 pub record IsLastTableau (problem : Problem) (tableau : Tableau) : Type 0 where
   pub cells : ℕ
   pub reached : IsReached problem cells tableau

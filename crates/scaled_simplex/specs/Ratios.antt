@@ -16,7 +16,7 @@ pub record IsNear (candidate : Candidate) : Type 0 where
   pub cost : nat_abs candidate.cost ≤ most_entry
   pub repair : nat_abs candidate.repair ≤ most_entry
 
--- it costs less for what it repairs
+-- the first candidate costs less for what it repairs
 abbrev pub is_cheaper : Candidate → Candidate → Bool
 is_cheaper a b = int_lt (a.cost *ℤ b.repair) (b.cost *ℤ a.repair)
 

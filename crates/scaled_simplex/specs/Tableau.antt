@@ -37,7 +37,7 @@ abbrev pub bare_row : Problem → List Entry
 bare_row problem =
     unless_zero (right_side problem) problem.constant ++ one_at (weight_index problem)
 
--- the same less the cost of each column
+-- what is paid, for one unit of the cost, with all columns at 0, less the cost of each column
 abbrev pub cost_row : Problem → List Entry
 cost_row problem =
     row_from (λ column. neg_ℤ (slice_index_or problem.costs column (pos 0))) 0 (columns problem)

@@ -150,7 +150,7 @@ fn quotient_at(board: &Board, program: &Program, column: u32) -> Quotient
     }
 }
 
-// That of a column which this row stands for.
+// The quotient of a column which this row stands for.
 fn quotient_in(board: &Board, program: &Program, row: u32, column: u32) -> Quotient
     requires board { IsBoard program.now board.now }
     requires row { row < length program.now.constraints }

@@ -15,8 +15,8 @@ pub fn last_tableaus_are_one()
         → IsLastTableau problem second → first ≡ second }
 {}
 
-/// And so it has one point in numbers at the most: those of two runs that ended Optimal are the
-/// same.
+/// A program has one point in numbers at the most: the points of two runs that ended Optimal are
+/// the same.
 pub fn points_are_one()
     ensures { (problem : Problem) (outcome other : Outcome) (first second : Fractions)
         → IsProblem problem → AreLast problem outcome first → AreLast problem other second

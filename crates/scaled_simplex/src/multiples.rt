@@ -24,7 +24,8 @@ pub fn multiple_with(denominator: u64, of: Quotient) -> u128
     product(denominator, factor)
 }
 
-// What is left of the fraction, so often.
+// What is left when the fraction's top, times the denominator, is divided by its bottom: 0 where
+// the denominator makes the fraction whole.
 fn rest_of(denominator: u64, of: Quotient) -> u64
     requires { denominator ≤ most_entry }
     ensures { result ≡ (of.top * denominator) % of.bottom }
@@ -43,6 +44,7 @@ pub fn numerator_over(denominator: u64, of: Quotient) -> i128
     size as i128
 }
 
+// The product of two numbers that are no greater than an entry may be.
 #[tactic(auto, using(crate::proofs::MultipleFacts::product_near))]
 fn product(left: u64, right: u64) -> u128
     requires left { left ≤ most_entry }

@@ -105,7 +105,7 @@ fn cheaper(best: Option<Candidate>, next: Candidate) -> Candidate
     }
 }
 
-// It costs less for what it repairs.
+// Whether the first candidate costs less for what it repairs than the second.
 fn is_cheaper(a: Candidate, b: Candidate) -> bool
     requires a { IsNear a }
     requires b { IsNear b }

@@ -36,8 +36,8 @@ pub fn make(alloc: Global, n: u32) -> Result<Vec<u8>, OutOfMemory>
 }
 
 /// A day of so many flights, at most 2,000, between six airports and through ten sectors, whose
-/// capacities grow with the flights. It is the day that its text is read as. It takes memory for its
-/// lists.
+/// capacities grow with the flights. It is the day that its text is read as. It takes memory for
+/// its lists.
 pub fn made_day(alloc: Global, n: u32) -> Result<Scenario, OutOfMemory>
     requires { n ≤ 2000 }
     ensures parts { IfOk result (λ s. parts_of s ≡ made_parts n) }

@@ -81,7 +81,7 @@ impl<T: Named> NamedList<T> {
         &self.items
     }
 
-    /// Their names.
+    /// The names of the items.
     pub fn names(&self) -> &NameIndex
         ensures { result.now ≡ map T.name_of self.now }
     {

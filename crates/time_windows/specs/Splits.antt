@@ -17,7 +17,7 @@ after (Some window) time =
     if nat_lt time window.hi then Some (record { lo = max window.lo (time + 1); hi = window.hi })
     else None
 
--- the same but at one node of one flight
+-- a box that is changed at one node of one flight alone
 abbrev pub changed_at : ℕ → ℕ → Access → Box → Box
 changed_at flight node access box f n =
     if (f == flight) && (n == node) then access else box f n

@@ -44,7 +44,7 @@ AreNexts end connections from nexts = (k : ℕ) (connection : Connection) → fr
     → slice_get connections k ≡ Some connection
     → IsNextAt end (flight_at end connection) connections (k + 1) (slice_index nexts k)
 
--- and for each flight the first one from that position on
+-- for each flight its first connection from a position on, and for each from there the next one
 pub record AreLinks (end : End) (connections : List Connection) (from : ℕ)
     (firsts nexts : List ℕ) : Type 0 where
   pub first : (number : ℕ) → number < length firsts

@@ -288,7 +288,7 @@ fn note_change(
     Ok(())
 }
 
-// Whether they say the same.
+// Whether two accesses say the same.
 fn is_same(a: Access, b: Access) -> bool
     ensures { IsTrue result ↔ a ≡ b }
 {

@@ -1,7 +1,7 @@
 use Rattle.std.proofs.Common.{◌≡◌, ◌∙◌, ◌+◌, ◌-◌, ◌/◌, ◌<◌, ◌^◌, true, false, neg_ℤ, ap, arith, pos, subst, sym, unsigned_abs}
 use Rattle.std.specs.Prelude.{int_lt}
 use Rattle.priced_plans.specs.PricedBound.{IsRoundedUp}
-use Rattle.priced_plans.proofs.RoundFacts.{above_small, below_small, rounded_closer, rounded_near, rounded_negative, rounded_positive, rounded_within, size_small, whole, whole_wide}
+use Rattle.priced_plans.proofs.RoundingFacts.{above_small, below_small, rounded_closer, rounded_near, rounded_negative, rounded_positive, rounded_within, size_small, whole, whole_wide}
 use Rattle.priced_plans.proofs.bound.rounded_up.Goals as goal
 
 pub returns-then-value-gt0-clause-rounded : goal.returns-then-value-gt0-clause-rounded

@@ -5,7 +5,6 @@ use Rattle.bytime_model.specs.Columns.{AreColumnsTo}
 use Rattle.bytime_model.proofs.ColumnFacts.{one_more}
 use Rattle.bytime_model.proofs.columns.Columns.add.Goals as goal
 
--- src/columns.rt:66:5
 pub returns : goal.returns
 returns c =
     subst (λ columns. AreColumnsTo (parts_of c.args.s.now).flights (box_of c.args.boxes.now)
