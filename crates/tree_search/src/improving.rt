@@ -48,9 +48,12 @@ fn next_search(known: Option<i64>) -> Search {
     }
 }
 
-/// Looks for a cheaper plan behind the first climb, where it pays.
+/// Looks for a cheaper plan behind the first climb, where there are rounds, so that prices were
+/// looked for, and it pays. By prices of 0 a short search would find what the one before the climb
+/// has found, and a long one what the one behind the bids finds.
 pub fn improve_further(
     start: Start<'_>,
+    rounds: u32,
     rooms: &mut Rooms,
     draft: &mut RecordDraft,
     bound: Bound,
@@ -60,7 +63,7 @@ pub fn improve_further(
         (box_in start.entry.whole) draft.old draft.new) }
     ensures rooms { AreRoomsFor (parts_in start.entry.whole) rooms.new }
 {
-    if !draft.gap(bound).is_far(start.whole.s) {
+    if rounds == 0 || !draft.gap(bound).is_far(start.whole.s) {
         return Ok(());
     }
     let search = next_search(draft.best);

@@ -421,7 +421,7 @@ fn prepare(
     let bound = begin_climb(whole, &mut rooms.prices, rounds, draft.best)?;
     improve(start, rooms, draft, bound, Search::Short)?;
     let bound = climb_further(whole, &mut rooms.prices, rounds, draft.gap(bound));
-    improve_further(start, rooms, draft, bound)?;
+    improve_further(start, rounds, rooms, draft, bound)?;
     let before = climb_again(whole, &mut rooms.prices, rounds, draft.gap(bound))?;
     improve(start, rooms, draft, before, Search::Long)?;
     let best = draft.plans.items().last();
