@@ -41,8 +41,8 @@ pub fn improve(
 
 // How long the search for a cheaper plan is after the first climb: short where one is known, since
 // better prices may still be found then.
-fn next_search(known: Option<i64>) -> Search {
-    match known {
+fn next_search(cutoff: Option<i64>) -> Search {
+    match cutoff {
         None => Search::Long,
         Some(_) => Search::Short,
     }
@@ -131,7 +131,7 @@ fn improve_best(
     }
     let from = match draft.plans.items().last() {
         None => start.plan,
-        Some(best) => best,
+        Some(plan) => plan,
     };
     let found = find_cheaper(start.whole, from, rooms, bound, search)?;
     offer_found(start.whole, draft, found)
