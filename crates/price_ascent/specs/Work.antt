@@ -14,8 +14,8 @@ use Rattle.price_ascent.specs.Slopes.{AreSlopesFor, IsGood}
 abbrev pub climb_weight : ℕ
 climb_weight = 2 ^ 20
 
--- the prices of the last step, those that are kept and those of a plan, the room for trips and
--- their counts, and the prices that may rise
+-- the prices of the last step, the best ones and those of a plan, the room for trips and their
+-- counts, and the prices that may rise
 pub record AscentRoom : Type 0 where
   pub prices : PriceTable
   pub best : PriceTable

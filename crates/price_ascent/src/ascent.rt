@@ -40,7 +40,7 @@ pub struct Ascent {
     slopes: Vec<Slope>,
     // What the least trips under the planned prices cost, weighted, if they pass no limit.
     plan_cost: Option<i128>,
-    // The value of the kept prices in the last climb, and how that went.
+    // The value of the best prices in the last climb, and how that went.
     value: Option<i128>,
     pace: Pace,
 }
@@ -59,7 +59,7 @@ impl Drop for Ascent {
     }
 }
 
-// The prices of the last step, those that are kept, and those of a plan.
+// The prices of the last step, the best ones, and those of a plan.
 #[derive(Debug)]
 struct Tables {
     present: Prices,
@@ -139,8 +139,8 @@ impl Ascent {
         })
     }
 
-    /// Climbs in the box, in so many steps at the most, from the kept prices, which at first are 0,
-    /// and keeps the best prices. Answers what they tell (`tell`).
+    /// Climbs in the box, in so many steps at the most, from the best prices so far, which at first
+    /// are 0, and keeps the best on the way. Answers what they tell (`tell`).
     ///
     /// The first steps aim at a value that is greater by such a part, from 1 on. It ends early
     /// where a flight has no trip, where the bound is the cost or more, if one is known of a plan,
@@ -172,7 +172,7 @@ impl Ascent {
     }
 
     /// Goes on with the last climb in the same box, in so many steps more, where this cost is known
-    /// of a plan; nothing may have been done between them that changes the kept prices.
+    /// of a plan; nothing may have been done between them that changes the best prices.
     pub fn climb_on(&mut self, s: &Scenario, boxes: &Boxes, cost: Option<i64>, steps: u32) -> Bound
         requires made { IsAscentRoomFor (parts_of s.now) self.old }
         requires boxes { IsMadeFor (parts_of s.now) boxes.now }
@@ -188,8 +188,8 @@ impl Ascent {
         self.tell(s, boxes)
     }
 
-    /// Lets the flights bid in turn, in so many passes at the most, from the kept prices, where a
-    /// period of delay costs so much; and keeps the best prices on the way. Answers what they tell
+    /// Lets the flights bid in turn, in so many passes at the most, from the best prices so far,
+    /// where a period of delay costs so much; and keeps the best on the way. Answers what they tell
     /// (`tell`).
     ///
     /// It ends early where a flight has no trip. The room and the box are of the scenario. It takes
@@ -217,8 +217,8 @@ impl Ascent {
     }
 
     /// Makes the trips of the plan the least ones, as far as dearer capacities that it fills can,
-    /// in so many passes at the most, from the kept prices; and keeps the best prices behind a
-    /// pass, though they may tell less than those before. Answers what they tell (`tell`).
+    /// in so many passes at the most, from the best prices so far; and keeps the best behind a pass,
+    /// though they may tell less than those before. Answers what they tell (`tell`).
     ///
     /// The room and the box are of the scenario, and the plan may be any list of trips. It takes no
     /// memory, and for each pass the time of up to five least trips for each flight.
@@ -243,7 +243,7 @@ impl Ascent {
         self.tell(s, boxes)
     }
 
-    /// The value of the kept prices in the box, in parts of a cost of 1 (2^20); nothing where a
+    /// The value of the best prices in the box, in parts of a cost of 1 (2^20); nothing where a
     /// flight has no trip.
     ///
     /// The room and the box are of the scenario. It takes no memory, and time as `tell`.
@@ -257,13 +257,13 @@ impl Ascent {
         self.value
     }
 
-    /// The value of the kept prices as the last climb or the last bids found it, in parts of a cost
+    /// The value of the best prices as the last climb or the last bids found it, in parts of a cost
     /// of 1 (2^20); nothing where a flight had no trip.
     pub fn value(&self) -> Option<i128> {
         self.value
     }
 
-    /// Takes so many times these prices for the kept ones, as far as they may rise.
+    /// Takes so many times these prices for the best ones, as far as they may rise.
     ///
     /// The room and the prices are of the scenario. It takes no memory, and the time of a look at
     /// each price that may rise.
@@ -275,7 +275,15 @@ impl Ascent {
         take_over(&self.slopes, s, prices, times, &mut self.tables.best);
     }
 
-    /// Puts the kept prices by, on top of those that were put by before. It takes 16 bytes for each
+    /// Takes prices of 0 for the best ones. The room is of the scenario.
+    pub fn clear(&mut self, s: &Scenario)
+        requires made { IsAscentRoomFor (parts_of s.now) self.old }
+        ensures made { IsAscentRoomFor (parts_of s.now) self.new }
+    {
+        clear(s, &mut self.tables.best);
+    }
+
+    /// Puts the best prices by, on top of those that were put by before. It takes 16 bytes for each
     /// that isn't 0.
     pub fn put_by(&self, s: &Scenario, kept: &mut KeptPrices) -> Result<(), OutOfMemory>
         requires made { IsAscentRoomFor (parts_of s.now) self.now }
@@ -283,7 +291,7 @@ impl Ascent {
         put_by(&self.slopes, s, &self.tables.best, kept)
     }
 
-    /// Takes the prices that were put by last for the kept ones; prices of 0 where none were put
+    /// Takes the prices that were put by last for the best ones; prices of 0 where none were put
     /// by. The room is of the scenario, and so was that from which they were put by.
     pub fn restore(&mut self, s: &Scenario, kept: &KeptPrices)
         requires made { IsAscentRoomFor (parts_of s.now) self.old }
@@ -293,7 +301,7 @@ impl Ascent {
         restore(&self.slopes, s, kept, &mut self.tables.best);
     }
 
-    /// What the kept prices tell in the box, at the weight of 2^20: no feasible plan in it costs
+    /// What the best prices tell in the box, at the weight of 2^20: no feasible plan in it costs
     /// less, or there is none, since a flight has no trip in the box. The bound is nearer to 0 than
     /// 2^115.
     ///
@@ -315,7 +323,7 @@ impl Ascent {
         bound_of(&mut self.trips.work, problem, &self.tables.best)
     }
 
-    /// Whether the kept prices prove that no plan is in the box: a plan that keeps every rule pays
+    /// Whether the best prices prove that no plan is in the box: a plan that keeps every rule pays
     /// no more than all capacities would, and here even the least trips pay more.
     ///
     /// The room and the box are of the scenario. It takes no memory, and time as `tell`.
@@ -333,7 +341,7 @@ impl Ascent {
         is_positive(value)
     }
 
-    /// The prices that are kept.
+    /// The best prices.
     pub fn prices(&self) -> &Prices
         ensures { result.now ≡ self.now.best }
     {
@@ -358,7 +366,7 @@ impl Ascent {
     /// that cost less than this, if something is given; of several those that cost the least. That
     /// they are a plan that keeps every rule no clause says.
     ///
-    /// It takes memory for the plan, and the time of a least trip for each flight. The kept prices
+    /// It takes memory for the plan, and the time of a least trip for each flight. The best prices
     /// stay; after want of memory all that is told of the last climb does.
     pub fn plan(
         &mut self,
@@ -380,7 +388,7 @@ impl Ascent {
         Ok(Some(plan))
     }
 
-    // Begins a climb with the kept prices.
+    // Begins a climb with the best prices so far.
     fn begin(&mut self, _s: &Scenario)
         requires made { IsAscentRoomFor (parts_of _s.now) self.old }
         ensures made { IsAscentRoomFor (parts_of _s.now) self.new }
@@ -568,23 +576,23 @@ fn clear(s: &Scenario, prices: &mut Prices)
     prices.clear();
 }
 
-// Keeps the prices, if they are better.
-fn keep_if(better: bool, kept: &mut Prices, prices: &Prices)
-    requires { AreAlike kept.old prices.now }
-    ensures { (parts : Parts) → IsGood parts kept.old → IsGood parts prices.now
-        → IsGood parts kept.new }
+// Keeps the prices in the place of those before, if they are better.
+fn keep_if(better: bool, before: &mut Prices, prices: &Prices)
+    requires { AreAlike before.old prices.now }
+    ensures { (parts : Parts) → IsGood parts before.old → IsGood parts prices.now
+        → IsGood parts before.new }
 {
     if better {
-        kept.copy_from(prices);
+        before.copy_from(prices);
     }
 }
 
 // Whether the first cost is below the second; none is above all.
-fn is_below(cost: Option<i128>, kept: Option<i128>) -> bool {
-    match (cost, kept) {
+fn is_below(cost: Option<i128>, other: Option<i128>) -> bool {
+    match (cost, other) {
         (None, _) => false,
         (Some(_), None) => true,
-        (Some(cost), Some(kept)) => cost < kept,
+        (Some(cost), Some(other)) => cost < other,
     }
 }
 
@@ -653,8 +661,8 @@ fn least_sum(
     Some(sum)
 }
 
-// The value of the prices, nothing where a flight has no trip, with the counts and the times of the
-// least trips as above.
+// The value of the prices, nothing where a flight has no trip; the loads then count the least trips
+// under them, whose times are added to the spreads.
 fn value_of(
     work: &mut Work,
     loads: &mut Loads,

@@ -209,16 +209,16 @@ fn raise_turns(land: Landscape<'_>, prices: &mut Prices, bids: Bids, flight: u32
 {
     let end = land.problem.s.day().periods;
     let turns = land.problem.boxes.turns();
-    if let Some(first) = stops.first() {
+    if let Some(departure) = stops.first() {
         for turn in turns.of_flight(flight, End::Departure) {
             let kind = PriceKind::Connection;
-            let span = span_of(land.slopes, kind, turn.connection, first.time, end);
+            let span = span_of(land.slopes, kind, turn.connection, departure.time, end);
             raise(land, prices, span, bids.bid);
         }
     }
-    if let Some(last) = stops.last() {
+    if let Some(arrival) = stops.last() {
         for turn in turns.of_flight(flight, End::Arrival) {
-            let ready = last.time.saturating_add(turn.turnaround);
+            let ready = arrival.time.saturating_add(turn.turnaround);
             let kind = PriceKind::Connection;
             let span = span_of(land.slopes, kind, turn.connection, ready, end);
             lower(land, prices, span, bids.bid);
@@ -241,7 +241,7 @@ fn settle(slopes: &mut [Slope], s: &Scenario, prices: &mut Prices, bids: Bids, s
     }
 }
 
-// Lowers one price so.
+// Lowers one price by what its capacity has taken off since it was settled last.
 fn settle_one(s: &Scenario, slope: Slope, prices: &mut Prices, bids: Bids)
     requires slope { IsSlopeKey (parts_of s.now) slope.key }
     requires prices { IsGood (parts_of s.now) prices.old }

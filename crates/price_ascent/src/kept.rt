@@ -12,7 +12,7 @@ use std::alloc::Global;
 #[derive(Debug)]
 pub struct KeptPrices {
     prices: Vec<KeptPrice>,
-    // Where those of each box begin.
+    // Where the prices of each box begin.
     begins: Vec<usize>,
 }
 
@@ -41,7 +41,7 @@ impl KeptPrices {
         }
     }
 
-    /// Forgets those that were put by last.
+    /// Forgets the prices that were put by last.
     pub fn forget(&mut self) {
         if let Some(begin) = self.begins.pop() {
             self.prices.truncate(begin);
@@ -70,7 +70,7 @@ pub fn put_by(
     Ok(())
 }
 
-/// Sets those prices that were put by last.
+/// Sets the prices that were put by last.
 pub fn restore(slopes: &[Slope], s: &Scenario, kept: &KeptPrices, prices: &mut Prices)
     requires slopes { AreSlopesFor (parts_of s.now) slopes.now }
     requires prices { IsGood (parts_of s.now) prices.old }

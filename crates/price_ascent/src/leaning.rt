@@ -106,8 +106,8 @@ fn lean_for(
     }
 }
 
-// Raises them until no trip is less than these stops, or nothing can be raised; some times at the
-// most. Whether a price rose.
+// Raises the prices of what is full until no trip of the flight is less than these stops, or nothing
+// can be raised; some times at the most. Whether a price rose.
 fn raise_others(
     work: &mut Work,
     loads: &Loads,
@@ -153,12 +153,12 @@ fn raise_least(
     let Some(least) = work.least_trip(land.problem, flight, WEIGHT, prices) else {
         return false;
     };
-    let more = priced(land, prices, flight, stops).saturating_sub(least);
+    let surplus = priced(land, prices, flight, stops).saturating_sub(least);
     let full = full_on(land, loads, flight, work.trip());
-    if more <= 0 || full == 0 {
+    if surplus <= 0 || full == 0 {
         return false;
     }
-    let by = more
+    let by = surplus
         .checked_div(i128::from(full))
         .unwrap_or(0)
         .saturating_add(1);
@@ -183,8 +183,8 @@ fn priced(land: Landscape<'_>, prices: &Prices, flight: u32, stops: &[Stop]) -> 
     sum
 }
 
-// What they pay for connections from their departure on, less what they are paid from their arrival
-// on.
+// What the stops pay for connections from their departure on, less what they are paid from their
+// arrival on.
 fn paid_for_turns(land: Landscape<'_>, prices: &Prices, flight: u32, stops: &[Stop]) -> i128
     requires prices { IsGood (parts_in land.problem) prices.now }
     requires flight { flight < length (parts_in land.problem).flights }
@@ -193,15 +193,15 @@ fn paid_for_turns(land: Landscape<'_>, prices: &Prices, flight: u32, stops: &[St
     let kind = PriceKind::Connection;
     let turns = land.problem.boxes.turns();
     let mut sum = 0i128;
-    if let Some(first) = stops.first() {
+    if let Some(departure) = stops.first() {
         for turn in turns.of_flight(flight, End::Departure) {
-            let span = span_of(land.slopes, kind, turn.connection, first.time, end);
+            let span = span_of(land.slopes, kind, turn.connection, departure.time, end);
             sum = sum.saturating_add(paid_in(land, prices, span));
         }
     }
-    if let Some(last) = stops.last() {
+    if let Some(arrival) = stops.last() {
         for turn in turns.of_flight(flight, End::Arrival) {
-            let ready = last.time.saturating_add(turn.turnaround);
+            let ready = arrival.time.saturating_add(turn.turnaround);
             let span = span_of(land.slopes, kind, turn.connection, ready, end);
             sum = sum.saturating_sub(paid_in(land, prices, span));
         }
@@ -235,7 +235,7 @@ fn full_on(land: Landscape<'_>, loads: &Loads, flight: u32, stops: &[Stop]) -> u
     count
 }
 
-// How many of the span are.
+// How many prices of the span are of what is full.
 fn full_in(land: Landscape<'_>, loads: &Loads, span: Span) -> u32
     requires loads { AreLoadsFor (parts_in land.problem) loads.now }
     requires span { span.end ≤ length land.slopes.now }

@@ -22,7 +22,7 @@
 //! there at once. A search that goes into a part of a box and comes back for the other one puts the
 //! prices by (`put_by`, `restore`), so that both begin with those of the box.
 //!
-//! Proved: the bound is exactly what the kept prices tell (`told`), no plan in the box that keeps
+//! Proved: the bound is exactly what the best prices tell (`told`), no plan in the box that keeps
 //! every rule costs less (`sound`), and a price stands only where there is such a capacity
 //! (`placed`). In a part of a box the same prices tell no less (`priced_plans`). `has_none` says
 //! yes exactly where the value of the prices alone is above 0 (`none`), and then no plan is in the

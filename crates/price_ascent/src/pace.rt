@@ -134,8 +134,8 @@ impl Pace {
 
     /// Whether the climb is at its end: the bound is enough, or the lead was used up.
     pub fn is_over(&self) -> bool {
-        let enough = weighted_cost(self.cost.unwrap_or(MOST_COST).saturating_sub(1));
-        self.best.is_some_and(|best| best > enough) || (self.spent && self.cost.is_some())
+        let short = weighted_cost(self.cost.unwrap_or(MOST_COST).saturating_sub(1));
+        self.best.is_some_and(|best| best > short) || (self.spent && self.cost.is_some())
     }
 
     /// How many fifths of the direction before are kept in the next step: four, but none in the

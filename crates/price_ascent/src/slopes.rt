@@ -47,27 +47,27 @@ pub struct Span {
     pub end: usize,
 }
 
-/// Those of a row of this kind from one period on, up to another.
+/// The prices that may rise of a row of this kind, from one period on, up to another.
 pub fn span_of(slopes: &[Slope], kind: PriceKind, row: u32, from: u16, until: u16) -> Span
     ensures { result.end ≤ length slopes.now }
 {
-    let first = PriceKey {
+    let from = PriceKey {
         kind,
         row,
         period: from,
     };
-    let end = PriceKey {
+    let until = PriceKey {
         kind,
         row,
         period: until,
     };
     Span {
-        first: position_of(slopes, first),
-        end: position_of(slopes, end),
+        first: position_of(slopes, from),
+        end: position_of(slopes, until),
     }
 }
 
-// How many stand before the key: they ascend by kind, row and period.
+// How many slopes stand before the key: they ascend by kind, row and period.
 fn position_of(slopes: &[Slope], key: PriceKey) -> usize
     ensures { result ≤ length slopes.now }
 {
@@ -84,15 +84,15 @@ fn position_of(slopes: &[Slope], key: PriceKey) -> usize
     first
 }
 
-// Whether the first key stands before the second one.
-fn is_before(first: PriceKey, second: PriceKey) -> bool {
-    let (one, other) = (kind_number(first.kind), kind_number(second.kind));
-    if one != other {
-        one < other
-    } else if first.row != second.row {
-        first.row < second.row
+// Whether the key stands before the other one.
+fn is_before(key: PriceKey, other: PriceKey) -> bool {
+    let (kind, other_kind) = (kind_number(key.kind), kind_number(other.kind));
+    if kind != other_kind {
+        kind < other_kind
+    } else if key.row != other.row {
+        key.row < other.row
     } else {
-        first.period < second.period
+        key.period < other.period
     }
 }
 
@@ -126,7 +126,7 @@ pub fn all_slopes(alloc: Global, s: &Scenario) -> Result<Vec<Slope>, OutOfMemory
     Ok(slopes)
 }
 
-// Adds those of a kind.
+// Adds the prices of a kind that may rise.
 fn add_kind(
     s: &Scenario,
     users: &Users,
@@ -142,7 +142,7 @@ fn add_kind(
     Ok(())
 }
 
-// Adds those of a row.
+// Adds the prices of a row that may rise.
 fn add_row(
     s: &Scenario,
     users: &Users,
@@ -160,7 +160,7 @@ fn add_row(
     Ok(())
 }
 
-// Adds one, if it may rise.
+// Adds the price on the key, if it may rise.
 fn add(
     s: &Scenario,
     users: &Users,
@@ -308,7 +308,7 @@ fn with_one(sum: Excess, excess: i64, price: u64) -> Excess
 }
 
 // The direction in which a price moves now: as far as the limit is exceeded, and so many fifths of
-// that before.
+// the direction before.
 fn next_direction(direction: i64, fifths: i64, excess: i64) -> i64 {
     excess
         .saturating_mul(DIRECTION_UNIT)

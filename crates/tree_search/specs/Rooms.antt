@@ -51,7 +51,7 @@ Tells parts box rooms Rounds bound = IsPricedBound parts box cost_weight rooms.r
 Tells parts box rooms Ascent bound = IsPricedBound parts box climb_weight rooms.ascent.best bound
 Tells parts box rooms Closing bound = (bound ≡ NoPlan) × HasNone parts box rooms.ascent.best
 
--- what the kept prices of a climb tell
+-- what the best prices of a climb tell
 pub record IsClimbed (parts : Parts) (box : Box) (prices : PriceTable) (bound : Bound) : Type 0
   where
     pub told : IsPricedBound parts box climb_weight prices bound

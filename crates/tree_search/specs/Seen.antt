@@ -41,7 +41,7 @@ pub record IsRelaxedIn (parts : Parts) (pool : List CutName) (box : Box) (limits
   pub licensed : IsUnreached parts pool box relaxed.leaf cutoff
       → IsLicensed parts pool box limits cutoff
 
--- what was told of the box before it is seen, by a run with these cuts and by the kept prices
+-- what was told of the box before it is seen, by a run with these cuts and by the best prices
 pub record AreTold (parts : Parts) (pool : List CutName) (box : Box) (limits : Limits)
     (cutoff : Option ℤ) (prices : PriceTable) (told : Told) : Type 0 where
   pub relaxed : IfSome told.relaxed (IsRelaxedIn parts pool box limits cutoff)

@@ -30,26 +30,26 @@ pub fn first_choice(problem: Subproblem<'_>) -> Option<Branch>
 }
 
 /// The branch of the box at the variable that is nearest to a half at the point, of several the
-/// first; the known one where the point has none. A node that the point has entered half by a
+/// first; the fallback where the point has none. A node that the point has entered half by a
 /// period splits the flights that wait there for one another.
-pub fn nearest_half(problem: Subproblem<'_>, point: &Point, known: Branch) -> Branch
-    requires { IsBranchOf (parts_in problem) (box_in problem) known }
+pub fn nearest_half(problem: Subproblem<'_>, point: &Point, fallback: Branch) -> Branch
+    requires { IsBranchOf (parts_in problem) (box_in problem) fallback }
     ensures { IsBranchOf (parts_in problem.entry) (box_in problem.entry) result }
 {
     let columns = point.columns.items();
     let numerators = point.numerators.items();
-    let mut best = known;
+    let mut nearest = fallback;
     let mut least = u128::MAX;
     for at in 0..columns.len().min(numerators.len()) {
         let distance = distance_from_half(numerators[at], point.denominator);
         if distance < least {
             if let Some(branch) = branch_at(problem, columns[at]) {
-                best = branch;
+                nearest = branch;
                 least = distance;
             }
         }
     }
-    best
+    nearest
 }
 
 /// The branch that is near, if there is one, and the branches of the box at which the last climb
@@ -142,7 +142,7 @@ fn next_spread(problem: Subproblem<'_>, ascent: &Ascent, below: Rank) -> Option<
     ensures { IfSome result
         (λ found. IsBranchOf (parts_in problem.entry) (box_in problem.entry) found.0) }
 {
-    let mut best: Option<(Branch, Rank)> = None;
+    let mut next: Option<(Branch, Rank)> = None;
     let mut widest = 0;
     for flight in 0..problem.s.flights().len() {
         for node in 0..MOST_NODES {
@@ -154,13 +154,13 @@ fn next_spread(problem: Subproblem<'_>, ascent: &Ascent, below: Rank) -> Option<
             };
             if rank.width > widest && rank.is_after(below) {
                 if let Some(branch) = branch_in(problem, flight as u32, node as u16, spread) {
-                    best = Some((branch, rank));
+                    next = Some((branch, rank));
                     widest = rank.width;
                 }
             }
         }
     }
-    best
+    next
 }
 
 // The branch at the mean, if it is one.
@@ -209,7 +209,8 @@ fn is_branching(access: Access, time: u16) -> bool
     }
 }
 
-// That of the flight.
+// A branch of the box at the flight: the middle of the window of its first node that has several
+// options. None where no node has.
 fn choice_of(boxes: &Boxes, flight: u32) -> Option<Branch>
     ensures { MatchOption result
         ((n : ℕ) → n < most_nodes → options_of (box_of boxes.now flight n) ≤ 1)

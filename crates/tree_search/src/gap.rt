@@ -7,7 +7,7 @@ const MANY_FLIGHTS: usize = 300;
 
 const NARROW_GAP: i128 = 16;
 
-/// What the best plan costs, if one is known, and a bound of all plans.
+/// What the best plan costs, if one is known, and a bound.
 #[derive(Clone, Copy, Debug, PartialEq, Eq)]
 pub struct Gap {
     pub cutoff: Option<i64>,

@@ -41,16 +41,19 @@ pub fn improve(
 
 // How long the search for a cheaper plan is after the first climb: short where one is known, since
 // better prices may still be found then.
-fn next_search(known: Option<i64>) -> Search {
-    match known {
+fn next_search(cutoff: Option<i64>) -> Search {
+    match cutoff {
         None => Search::Long,
         Some(_) => Search::Short,
     }
 }
 
-/// Looks for a cheaper plan behind the first climb, where it pays.
+/// Looks for a cheaper plan behind the first climb, where there are rounds, so that prices were
+/// looked for, and it pays. By prices of 0 a short search would find what the one before the climb
+/// has found, and a long one what the one behind the bids finds.
 pub fn improve_further(
     start: Start<'_>,
+    rounds: u32,
     rooms: &mut Rooms,
     draft: &mut RecordDraft,
     bound: Bound,
@@ -60,7 +63,7 @@ pub fn improve_further(
         (box_in start.entry.whole) draft.old draft.new) }
     ensures rooms { AreRoomsFor (parts_in start.entry.whole) rooms.new }
 {
-    if !draft.gap(bound).is_far(start.whole.s) {
+    if rounds == 0 || !draft.gap(bound).is_far(start.whole.s) {
         return Ok(());
     }
     let search = next_search(draft.best);
@@ -128,7 +131,7 @@ fn improve_best(
     }
     let from = match draft.plans.items().last() {
         None => start.plan,
-        Some(best) => best,
+        Some(plan) => plan,
     };
     let found = find_cheaper(start.whole, from, rooms, bound, search)?;
     offer_found(start.whole, draft, found)

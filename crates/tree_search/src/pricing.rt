@@ -86,17 +86,17 @@ pub fn begin_climb(
         return Ok(Bound::AtLeast(i128::from(cost)));
     }
     let Subproblem { s, boxes } = problem;
-    let first = rooms.ascent.tell(s, boxes);
-    if rounds == 0 || first.is_reached(cutoff) {
-        return Ok(first);
+    let told = rooms.ascent.tell(s, boxes);
+    if rounds == 0 || told.is_reached(cutoff) {
+        return Ok(told);
     }
     let steps = first_steps(s, rooms.ascent.rising(), rounds);
     let climbed = rooms.ascent.climb(s, boxes, cutoff, LEAD_PART, steps / 4);
-    rooms.ascent.put_by(s, &mut rooms.early)?;
+    rooms.ascent.put_by(s, &mut rooms.outset)?;
     Ok(climbed)
 }
 
-/// Goes on with that climb for the rest of its steps, where it has led to a bound that doesn't
+/// Goes on with the first climb for the rest of its steps, where it has led to a bound that doesn't
 /// reach the cutoff; and answers what the prices tell, with no cutoff also that no plan is in the
 /// box.
 pub fn climb_further(
@@ -125,8 +125,8 @@ pub fn climb_further(
 
 /// Where the first plans leave a gap to the bound: lets the flights bid in turn from the prices of
 /// the first steps of the first climb, and climbs on from where that leads. Answers what the better
-/// prices tell, those or the kept ones. Where there are few rounds, or it doesn't pay, it stays at
-/// the bound.
+/// prices tell, those or the best ones before. Where there are few rounds, or it doesn't pay, it
+/// stays at the bound.
 pub fn climb_again(
     problem: Subproblem<'_>,
     rooms: &mut PriceRooms,
@@ -143,7 +143,7 @@ pub fn climb_again(
     }
     let before = rooms.ascent.value().unwrap_or(0);
     rooms.ascent.put_by(s, &mut rooms.kept)?;
-    rooms.ascent.restore(s, &rooms.early);
+    rooms.ascent.restore(s, &rooms.outset);
     let _bid = rooms.ascent.bid(s, boxes, delay_cost(s), BID_PASSES);
     let climbed = rooms
         .ascent
@@ -151,25 +151,25 @@ pub fn climb_again(
     let is_less = rooms.ascent.value().unwrap_or(0) < before;
     restore_if(s, rooms, is_less);
     rooms.kept.forget();
-    rooms.early.forget();
+    rooms.outset.forget();
     Ok(if is_less { gap.bound } else { climbed })
 }
 
 /// Where the best plan leaves a gap to the bound: leans on that plan and climbs on from where that
-/// leads, from the kept prices, once from prices of 0, and then as long as that tells more. Answers
+/// leads, from the best prices, once from prices of 0, and then as long as that tells more. Answers
 /// what the better prices tell. Where there are few rounds, or it doesn't pay, it stays at the
 /// bound.
 pub fn climb_by_plan(
     problem: Subproblem<'_>,
     rooms: &mut PriceRooms,
     rounds: u32,
-    best: Option<&Plan>,
+    plan: Option<&Plan>,
     gap: Gap,
 ) -> Result<Bound, OutOfMemory>
     requires rooms { ArePriceRoomsFor (parts_in problem) rooms.old }
     ensures { ArePriceRoomsFor (parts_in problem.entry) rooms.new }
 {
-    let Some(plan) = best else {
+    let Some(plan) = plan else {
         return Ok(gap.bound);
     };
     let steps = first_steps(problem.s, rooms.ascent.rising(), rounds);
@@ -179,7 +179,8 @@ pub fn climb_by_plan(
     lean_often(problem, rooms, steps / 2, plan, gap)
 }
 
-// Leans and climbs on so, with so many steps for each climb.
+// Leans on the plan and climbs on from where that leads, from the best prices, once from prices of
+// 0, and then as long as that tells more; with so many steps for each climb.
 fn lean_often(
     problem: Subproblem<'_>,
     rooms: &mut PriceRooms,
@@ -209,7 +210,7 @@ fn lean_often(
     Ok(told)
 }
 
-// Leans on the plan once, from the kept prices or from prices of 0, and climbs on. Takes the prices
+// Leans on the plan once, from the best prices or from prices of 0, and climbs on. Takes the prices
 // before again where they told more.
 fn lean_once(
     problem: Subproblem<'_>,
@@ -225,7 +226,9 @@ fn lean_once(
     let Subproblem { s, boxes } = problem;
     let before = rooms.ascent.weigh(s, boxes).unwrap_or(0);
     rooms.ascent.put_by(s, &mut rooms.kept)?;
-    clear_if(s, rooms, from_none);
+    if from_none {
+        rooms.ascent.clear(s);
+    }
     let _leaned = rooms.ascent.lean_on(s, boxes, plan, LEAN_PASSES);
     let climbed = rooms
         .ascent
@@ -236,19 +239,7 @@ fn lean_once(
     Ok(if is_less { gap.bound } else { climbed })
 }
 
-// Takes prices of 0 for the kept ones, where they are wanted: none are put by from the first climb
-// any more.
-fn clear_if(s: &Scenario, rooms: &mut PriceRooms, wanted: bool)
-    requires rooms { ArePriceRoomsFor (parts_of s.now) rooms.old }
-    ensures rooms { ArePriceRoomsFor (parts_of s.now) rooms.new }
-{
-    if wanted {
-        rooms.early.forget();
-        rooms.ascent.restore(s, &rooms.early);
-    }
-}
-
-// Takes the prices that were put by last for the kept ones, where they are wanted.
+// Takes the prices that were put by last for the best ones, where they are wanted.
 fn restore_if(s: &Scenario, rooms: &mut PriceRooms, wanted: bool)
     requires rooms { ArePriceRoomsFor (parts_of s.now) rooms.old }
     ensures rooms { ArePriceRoomsFor (parts_of s.now) rooms.new }
@@ -301,7 +292,7 @@ fn looks_of(s: &Scenario) -> u64 {
 }
 
 /// The greatest bound that rounds of prices tell; or, where the gap to the bound of the run is open
-/// and stays so, what the prices tell that the climb before has kept, if that is more; with no
+/// and stays so, what the best prices of the climb before tell, if that is more; with no
 /// cutoff, also that no plan is in the box. What these prices tell may be known. Where rounds tell
 /// more, climbs go on from their prices. Where a plan in the box is known to cost so much, no more
 /// rounds are played than it takes to reach that.
@@ -348,22 +339,22 @@ pub fn price(
     }
 }
 
-// What the kept prices of the climb tell, which may be known.
-fn told_or_tell(problem: Subproblem<'_>, ascent: &mut Ascent, known: Option<Bound>) -> Bound
+// What the best prices of the climb tell, which may be known.
+fn told_or_tell(problem: Subproblem<'_>, ascent: &mut Ascent, climbed: Option<Bound>) -> Bound
     requires ascent { IsAscentRoomFor (parts_in problem) ascent.old }
-    requires known { IfSome known
+    requires climbed { IfSome climbed
         (IsClimbed (parts_in problem) (box_in problem) ascent.old.best) }
     ensures told { IsClimbed (parts_in problem.entry) (box_in problem.entry) ascent.new.best
         result }
     ensures ascent { IsAscentRoomFor (parts_in problem.entry) ascent.new }
 {
-    match known {
+    match climbed {
         Some(bound) => bound,
         None => ascent.tell(problem.s, problem.boxes),
     }
 }
 
-// Where rounds tell more than the kept prices of the climb, climbs go on from those of the rounds.
+// Where rounds tell more than the best prices of the climb, climbs go on from those of the rounds.
 fn lead_on(s: &Scenario, rooms: &mut PriceRooms, played: Bound, climbed: Bound)
     requires rooms { ArePriceRoomsFor (parts_of s.now) rooms.old }
     ensures rounds { rooms.new.rounds ≡ rooms.old.rounds }

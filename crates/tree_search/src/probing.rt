@@ -42,18 +42,18 @@ struct Tried {
     gain: i128,
 }
 
-/// The branch whose sides gain the most by a few steps of a climb from the kept prices, the lesser
+/// The branch whose sides gain the most by a few steps of a climb from the best prices, the lesser
 /// gain before the greater: of the one that is near, if there is one, and those at which the last
-/// climb left most open. The known one where there is none of these. The kept prices stay; what
+/// climb left most open. The fallback where there is none of these. The best prices stay; what
 /// else is told of the last climb goes.
 pub fn strongest(
     problem: Subproblem<'_>,
     rooms: &mut Rooms,
     cutoff: Option<i64>,
-    known: Branch,
+    fallback: Branch,
     near: Option<Branch>,
 ) -> Result<Branch, OutOfMemory>
-    requires known { IsBranchOf (parts_in problem) (box_in problem) known }
+    requires fallback { IsBranchOf (parts_in problem) (box_in problem) fallback }
     requires near { IfSome near (IsBranchOf (parts_in problem) (box_in problem)) }
     requires rooms { AreRoomsFor (parts_in problem) rooms.old }
     ensures branch { IfOk result (IsBranchOf (parts_in problem.entry) (box_in problem.entry)) }
@@ -65,28 +65,28 @@ pub fn strongest(
         .prices
         .ascent
         .put_by(problem.s, &mut rooms.prices.kept)?;
-    let mut best = Tried {
-        branch: known,
+    let mut chosen = Tried {
+        branch: fallback,
         gain: -1,
     };
     for at in 0..candidates.len() {
         let measure = Measure { before, cutoff };
-        best = better(problem, rooms, measure, best, candidates[at])?;
+        chosen = better(problem, rooms, measure, chosen, candidates[at])?;
     }
     rooms.prices.ascent.restore(problem.s, &rooms.prices.kept);
     rooms.prices.kept.forget();
-    Ok(best.branch)
+    Ok(chosen.branch)
 }
 
-// The branch, if its sides gain more than those of the best so far, and else that one.
+// The branch, if its sides gain more than those of the one chosen so far, and else that one.
 fn better(
     problem: Subproblem<'_>,
     rooms: &mut Rooms,
     measure: Measure,
-    best: Tried,
+    chosen: Tried,
     branch: Branch,
 ) -> Result<Tried, OutOfMemory>
-    requires best { IsBranchOf (parts_in problem) (box_in problem) best.branch }
+    requires chosen { IsBranchOf (parts_in problem) (box_in problem) chosen.branch }
     requires branch { IsBranchOf (parts_in problem) (box_in problem) branch }
     requires rooms { AreRoomsFor (parts_in problem) rooms.old }
     ensures branch { IfOk result
@@ -97,10 +97,10 @@ fn better(
     let late = side_gain(problem, rooms, measure, branch, Side::Late)?;
     let lesser = early.min(late).saturating_mul(LESSER_SIDE);
     let gain = lesser.saturating_add(early.max(late));
-    if gain > best.gain {
+    if gain > chosen.gain {
         Ok(Tried { branch, gain })
     } else {
-        Ok(best)
+        Ok(chosen)
     }
 }
 

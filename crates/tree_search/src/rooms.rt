@@ -47,12 +47,12 @@ impl Drop for PlanRooms {
     }
 }
 
-/// For rounds of prices, and for climbs; the prices to which the first steps of the first climb
-/// led; and those with which the boxes that wait begin.
+/// For rounds of prices, and for climbs; and prices that are put by: those to which the first steps
+/// of the first climb led, and those with which the boxes that wait begin.
 pub struct PriceRooms {
     pub rounds: Rounds,
     pub ascent: Ascent,
-    pub early: KeptPrices,
+    pub outset: KeptPrices,
     pub kept: KeptPrices,
 }
 
@@ -62,7 +62,7 @@ impl Drop for PriceRooms {
         let PriceRooms {
             rounds: _,
             ascent: _,
-            early: _,
+            outset: _,
             kept: _,
         } = self;
     }
@@ -97,7 +97,7 @@ fn price_rooms(alloc: Global, s: &Scenario) -> Result<PriceRooms, OutOfMemory>
     Ok(PriceRooms {
         rounds: Rounds::new(alloc, s)?,
         ascent: Ascent::new(alloc, s)?,
-        early: KeptPrices::new(alloc),
+        outset: KeptPrices::new(alloc),
         kept: KeptPrices::new(alloc),
     })
 }

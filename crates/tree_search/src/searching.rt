@@ -59,7 +59,7 @@ fn visit(
     }
 }
 
-// The same, and gives the plan, or as much of it as there is.
+// Offers the greedy plan of the box, and gives it, or as much of it as there is.
 fn begin(
     problem: Subproblem<'_>,
     rooms: &mut Rooms,
@@ -184,7 +184,7 @@ fn go_on(
     }
 }
 
-// What a climb in a box leads to: what the kept prices tell, where there is one, and a plan of the
+// What a climb in a box leads to: what the best prices tell, where there is one, and a plan of the
 // box, if one is found.
 #[derive(Drop)]
 struct Climbed {
@@ -243,8 +243,9 @@ fn climb_in(
     })
 }
 
-// The same, and offers the plan. Answers what the kept prices tell, where there is a climb.
-fn climb_on(
+// Climbs in the box, and offers the plan to which that leads. Answers what the best prices tell,
+// where there is a climb.
+fn climb_and_offer(
     problem: Subproblem<'_>,
     rooms: &mut Rooms,
     draft: &mut RecordDraft,
@@ -318,17 +319,17 @@ fn advance(
         s,
         boxes: walk.boxes(),
     };
-    let climbed = climb_on(problem, rooms, draft, setting.budget.rounds)?;
+    let climbed = climb_and_offer(problem, rooms, draft, setting.budget.rounds)?;
     let told = Told {
         known: false,
         relaxed: None,
         climbed,
     };
-    let more = step(s, setting, rooms, walk, draft, told)?;
-    Ok(more)
+    let goes_on = step(s, setting, rooms, walk, draft, told)?;
+    Ok(goes_on)
 }
 
-// Searches on from behind the first box, of which this bound is known, until no box waits.
+// Searches on from behind the first box, whose prices tell this bound, until no box waits.
 fn go_through(
     start: Start<'_>,
     setting: Setting<'_>,
@@ -421,11 +422,11 @@ fn prepare(
     let bound = begin_climb(whole, &mut rooms.prices, rounds, draft.best)?;
     improve(start, rooms, draft, bound, Search::Short)?;
     let bound = climb_further(whole, &mut rooms.prices, rounds, draft.gap(bound));
-    improve_further(start, rooms, draft, bound)?;
+    improve_further(start, rounds, rooms, draft, bound)?;
     let before = climb_again(whole, &mut rooms.prices, rounds, draft.gap(bound))?;
     improve(start, rooms, draft, before, Search::Long)?;
-    let best = draft.plans.items().last();
-    let bound = climb_by_plan(whole, &mut rooms.prices, rounds, best, draft.gap(before))?;
+    let plan = draft.plans.items().last();
+    let bound = climb_by_plan(whole, &mut rooms.prices, rounds, plan, draft.gap(before))?;
     improve_again(start, rooms, draft, before, bound)?;
     Ok(bound)
 }
@@ -457,7 +458,7 @@ fn search_from(
         boxes: walk.boxes(),
     };
     let steps = steps_for(budget.rounds, draft.gap(bound));
-    let climbed = climb_on(problem, rooms, draft, steps)?;
+    let climbed = climb_and_offer(problem, rooms, draft, steps)?;
     let Pooled { pool, relaxed } = pool_for(problem, rooms, budget.limits, draft.best)?;
     let setting = Setting {
         budget,

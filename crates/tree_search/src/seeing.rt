@@ -55,7 +55,7 @@ pub struct Told {
     pub known: bool,
     /// What the box's relaxation tells.
     pub relaxed: Option<Relaxed>,
-    /// What the kept prices tell.
+    /// What the best prices tell.
     pub climbed: Option<Bound>,
 }
 
@@ -236,17 +236,17 @@ fn choose(
     rooms: &mut Rooms,
     point: &Option<Point>,
     cutoff: Option<i64>,
-    known: Branch,
+    fallback: Branch,
 ) -> Result<Branch, OutOfMemory>
-    requires known { IsBranchOf (parts_in problem) (box_in problem) known }
+    requires fallback { IsBranchOf (parts_in problem) (box_in problem) fallback }
     requires rooms { AreRoomsFor (parts_in problem) rooms.old }
     ensures branch { IfOk result (IsBranchOf (parts_in problem.entry) (box_in problem.entry)) }
     ensures rooms { AreRoomsFor (parts_in problem.entry) rooms.new }
 {
     match point {
-        None => strongest(problem, rooms, cutoff, known, None),
+        None => strongest(problem, rooms, cutoff, fallback, None),
         Some(point) => {
-            let near = nearest_half(problem, point, known);
+            let near = nearest_half(problem, point, fallback);
             strongest(problem, rooms, cutoff, near, Some(near))
         }
     }

@@ -5,8 +5,8 @@ use Rattle.tree_search.proofs.branching.next_spread.Given as goal
 
 abbrev pub invariant-loop-flight : goal.invariant-loop-flight
 invariant-loop-flight l =
-    IfSome l.best (λ found. IsBranchOf (parts_in l.problem) (box_in l.problem) found.0)
+    IfSome l.next (λ found. IsBranchOf (parts_in l.problem) (box_in l.problem) found.0)
 
 abbrev pub invariant-loop-node : goal.invariant-loop-node
 invariant-loop-node l =
-    IfSome l.best (λ found. IsBranchOf (parts_in l.problem) (box_in l.problem) found.0)
+    IfSome l.next (λ found. IsBranchOf (parts_in l.problem) (box_in l.problem) found.0)

@@ -6,7 +6,7 @@ use Rattle.tree_search.proofs.probing.strongest.Given as goal
 
 abbrev pub invariant-loop-at : goal.invariant-loop-at
 invariant-loop-at l = record {
-  best : IsBranchOf (parts_in l.problem) (box_in l.problem) l.best.branch;
+  chosen : IsBranchOf (parts_in l.problem) (box_in l.problem) l.chosen.branch;
   candidates : All (IsBranchOf (parts_in l.problem) (box_in l.problem)) l.candidates.items;
   rooms : AreRoomsFor (parts_in l.problem) l.rooms;
 }

@@ -8,14 +8,15 @@ use Rattle.tree_search.proofs.searching.advance.Goals as goal
 pub step-requires-clause-searching : goal.step-requires-clause-searching
 step-requires-clause-searching c =
     improved_on (parts_of c.args.s.now) c.args.setting.pool.now c.args.setting.budget
-    c.args.walk.now c.args.draft.now c.climb_on.new.draft
+    c.args.walk.now c.args.draft.now c.climb_and_offer.new.draft
     (subst (λ (h : Held). IsImproved (parts_of c.args.s.now) (box_of h) c.args.draft.now
-    c.climb_on.new.draft) c.boxes.ensures c.in_ok-climbed.ensures.improved) c.requires.searching
+    c.climb_and_offer.new.draft) c.boxes.ensures c.in_ok-climbed.ensures.improved)
+    c.requires.searching
 
 pub returns-clause-stepped : goal.returns-clause-stepped
 returns-clause-stepped c =
     stepped_from (parts_of c.args.s.now) c.args.setting.pool.now c.args.setting.budget
-    c.args.walk.now c.args.draft.now c.climb_on.new.draft c.step.new.walk c.step.new.draft
-    c.in_ok-more.more
+    c.args.walk.now c.args.draft.now c.climb_and_offer.new.draft c.step.new.walk c.step.new.draft
+    c.in_ok-goes_on.goes_on
     (improved_nodes (parts_of c.args.s.now) (box_of c.boxes.result.now) c.args.draft.now
-    c.climb_on.new.draft c.in_ok-climbed.ensures.improved) c.in_ok-more.ensures.stepped
+    c.climb_and_offer.new.draft c.in_ok-climbed.ensures.improved) c.in_ok-goes_on.ensures.stepped

@@ -13,9 +13,9 @@ use Rattle.tree_search.proofs.searching.search_from.Goals.{then-branch+in_ok-go_
 pub step-requires-clause-searching : goal.step-requires-clause-searching
 step-requires-clause-searching c =
     improved_on (parts_in c.args.start.whole) c.in_ok-pool.field-0.pool c.args.budget
-    c.args.walk.now c.prepare.new.draft c.climb_on.new.draft
+    c.args.walk.now c.prepare.new.draft c.climb_and_offer.new.draft
     (subst (λ (h : Held). IsImproved (parts_in c.args.start.whole) (box_of h) c.prepare.new.draft
-    c.climb_on.new.draft) c.boxes.ensures c.in_ok-climbed.ensures.improved)
+    c.climb_and_offer.new.draft) c.boxes.ensures c.in_ok-climbed.ensures.improved)
     (c.in_ok-bound.ensures.improved c.in_ok-pool.field-0.pool c.args.budget c.args.walk.now
     c.requires.whole (c.requires.searching c.in_ok-pool.field-0.pool))
 
@@ -33,7 +33,7 @@ returns-clause-searched c = elim c.if-branch.branch [
   where
     stepped : Bool → Type 0
     stepped = IsStepped (parts_in c.args.start.whole) c.in_ok-pool.field-0.pool c.args.budget
-        c.args.walk.now c.climb_on.new.draft c.step.new.walk c.step.new.draft
+        c.args.walk.now c.climb_and_offer.new.draft c.step.new.walk c.step.new.draft
 
     searched : RecordDraft → Type 0
     searched draft = IsSearched (parts_in c.args.start.whole) c.in_ok-pool.field-0.pool
