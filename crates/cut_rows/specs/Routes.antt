@@ -1,5 +1,5 @@
 -- The distances of all flights of a day.
-use Rattle.std.specs.Prelude.{◌≡◌, ℕ, ◌<◌, [], List, length, slice_get, slice_index_or}
+use Rattle.std.specs.Prelude.{ℕ, [], List, slice_get, slice_index_or}
 use Rattle.exact_sums.specs.Lists.{AreEach}
 use Rattle.flow_types.specs.declared.parts.Parts.{Parts}
 use Rattle.route_distances.specs.Walks.{legs_of}
