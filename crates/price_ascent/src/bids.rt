@@ -34,7 +34,7 @@ pub struct Bids {
     pub bid: u64,
     // How many flights bid in a pass.
     flights: u32,
-    // How many of them have.
+    // How many flights have bid in the pass.
     now: u32,
     // Whether they bid in the reverse of their order.
     back: bool,

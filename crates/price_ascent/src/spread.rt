@@ -26,7 +26,7 @@ impl Spread {
         self.squares = self.squares.saturating_add(time.saturating_mul(time));
     }
 
-    /// Their mean, rounded down; nothing where there are none.
+    /// The mean of the periods, rounded down; nothing where there are none.
     pub fn mean(&self) -> Option<u64> {
         self.sum.checked_div(self.count)
     }

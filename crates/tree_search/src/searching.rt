@@ -298,7 +298,8 @@ fn step(
     Ok(true)
 }
 
-// Climbs in the present box, which isn't the first, and sees it and goes on so.
+// Climbs in the present box, which isn't the first, sees it, goes on to the next one, if one waits,
+// and offers that one's greedy plan.
 fn advance(
     s: &Scenario,
     setting: Setting<'_>,
