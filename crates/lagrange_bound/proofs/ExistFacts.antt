@@ -20,7 +20,7 @@ use Rattle.priced_plans.specs.PricedBound.{IsRoundedUp}
 use Rattle.priced_plans.specs.Usage.{traffic_of}
 use Rattle.priced_plans.specs.Values.{IsPricedSum, limit_price}
 use Rattle.priced_plans.specs.Valuing.{LacksTrip}
-use Rattle.priced_plans.proofs.RoundFacts.{rounded_above, rounded_below}
+use Rattle.priced_plans.proofs.RoundingFacts.{rounded_above, rounded_below}
 use Rattle.lagrange_bound.specs.Best.{HaveBounds}
 use Rattle.lagrange_bound.specs.Rounds.{AreLeastTrips, IsLeastTrip, IsMovedBy, IsRoundStep, IsRoundTable, IsTableBound, cost_weight, moved_price, step_of}
 use Rattle.lagrange_bound.proofs.Choices.{IsChoice}

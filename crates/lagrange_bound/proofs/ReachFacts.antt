@@ -13,7 +13,7 @@ use Rattle.flow_types.specs.Costs.{plan_cost}
 use Rattle.flow_types.specs.Valid.{IsScenario}
 use Rattle.time_windows.specs.Boxes.{Box, IsBoxOf}
 use Rattle.time_windows.specs.Plans.{IsBoundIn, IsPlanIn}
-use Rattle.priced_plans.proofs.RoundFacts.{bound-below}
+use Rattle.priced_plans.proofs.ValueFacts.{bound-below}
 use Rattle.flight_routes.specs.Prices.{PriceTable}
 use Rattle.lagrange_bound.specs.Best.{HasPlanAt, IsMostOfRounds}
 use Rattle.lagrange_bound.specs.Rounds.{cost_weight}

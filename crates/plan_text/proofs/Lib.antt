@@ -3,6 +3,5 @@ pub mod TripFacts
 pub mod ReadingFacts
 mod Worked
 pub mod ReadBack
-pub mod WrittenTrips
 pub mod TripsAgain
 pub mod PlansAgain

@@ -8,7 +8,6 @@ pub mod OnceFacts
 pub mod NodeFacts
 pub mod NearFacts
 pub mod SmallFacts
-pub mod RoundFacts
 pub mod RoundingFacts
 pub mod PartFacts
 pub mod WorkedPrices

@@ -15,7 +15,7 @@ use Rattle.flow_types.specs.declared.place.CapKind.TheVariants as cap
 use Rattle.flow_types.specs.declared.place.Place.{Place}
 use Rattle.flow_types.specs.declared.place.PlaceKind.{PlaceKind}
 use Rattle.flow_types.specs.declared.place.PlaceKind.TheVariants.{Airport, Sector}
-use Rattle.plan_text.proofs.WrittenTrips.{named_at}
+use Rattle.plan_text.proofs.ReadBack.{named_at}
 use Rattle.text_records.specs.Names.{position_of}
 use Rattle.scenario_reader.specs.Capacities.{cap_change_of, cap_kind_of, last_in, place_in, with_change}
 use Rattle.scenario_reader.specs.Change.{changed_at}

@@ -14,7 +14,7 @@ use Rattle.flow_types.specs.declared.flight.Connection.{Connection}
 use Rattle.flow_types.specs.declared.flight.Flight.{Flight}
 use Rattle.flow_types.specs.declared.parts.Parts.{Parts}
 use Rattle.flow_types.proofs.PairFacts.{pairs_before}
-use Rattle.plan_text.proofs.WrittenTrips.{named_at}
+use Rattle.plan_text.proofs.ReadBack.{named_at}
 use Rattle.text_records.specs.Names.{known_in, position_of}
 use Rattle.text_records.specs.Rows.{Fields}
 use Rattle.scenario_reader.specs.Connections.{are_connected, connection_of, first_in, is_same_place, meet, second_in}

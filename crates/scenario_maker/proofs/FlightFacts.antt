@@ -19,7 +19,7 @@ use Rattle.flow_types.specs.declared.flight.Flight.{Flight}
 use Rattle.flow_types.specs.declared.flight.Leg.{Leg}
 use Rattle.flow_types.specs.declared.parts.Parts.{Parts}
 use Rattle.flow_types.specs.declared.place.Place.{Place}
-use Rattle.plan_text.proofs.WrittenTrips.{name_back, named_at}
+use Rattle.plan_text.proofs.ReadBack.{name_back, named_at}
 use Rattle.text_records.specs.Names.{known_in, new_name, position_of}
 use Rattle.text_records.specs.Rows.{Fields}
 use Rattle.scenario_reader.specs.DraftParts.{DraftParts, destinations, flight_names, node_count, node_total, origins, place_names, table_names}

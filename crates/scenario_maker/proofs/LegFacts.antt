@@ -15,7 +15,7 @@ use Rattle.flow_types.specs.declared.flight.Leg.{Leg}
 use Rattle.flow_types.specs.declared.parts.Parts.{Parts}
 use Rattle.flow_types.specs.declared.place.Place.{Place}
 use Rattle.plan_text.proofs.TripsAgain.{place_there}
-use Rattle.plan_text.proofs.WrittenTrips.{name_back, named_at}
+use Rattle.plan_text.proofs.ReadBack.{name_back, named_at}
 use Rattle.text_records.specs.Names.{position_of}
 use Rattle.text_records.specs.Rows.{Fields}
 use Rattle.scenario_reader.specs.DraftParts.{DraftParts, flight_names, node_total, place_names}

@@ -8,7 +8,7 @@ use Rattle.flow_types.specs.Words.{is_name}
 use Rattle.text_records.specs.Fields.{number_in}
 use Rattle.text_records.specs.Names.{known_in, new_name, position_of}
 use Rattle.text_records.specs.Rows.{Fields}
-use Rattle.plan_text.proofs.WrittenTrips.{name_back, number_back}
+use Rattle.plan_text.proofs.ReadBack.{name_back, number_back}
 use Rattle.scenario_reader.specs.DraftParts.{DraftParts}
 use Rattle.scenario_reader.specs.Reading.{record_step, records_step}
 

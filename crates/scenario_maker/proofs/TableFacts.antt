@@ -12,7 +12,7 @@ use Rattle.flow_types.specs.Valid.{IsScenario, IsTable, IsValue}
 use Rattle.flow_types.specs.Words.{number_of}
 use Rattle.flow_types.specs.declared.flight.CostTable.{CostTable}
 use Rattle.flow_types.specs.declared.parts.Parts.{Parts}
-use Rattle.plan_text.proofs.WrittenTrips.{number_back}
+use Rattle.plan_text.proofs.ReadBack.{number_back}
 use Rattle.text_records.specs.Names.{position_of}
 use Rattle.scenario_reader.specs.DraftParts.{DraftParts, table_names}
 use Rattle.scenario_reader.specs.Reading.{record_step, table_step, with_table}
