@@ -23,7 +23,7 @@ use Rattle.cut_rows.specs.Order.{IsBefore, follows_last}
 use Rattle.cut_rows.proofs.NodeFacts.{head_within, heads_are, nodes_apart}
 use Rattle.certificate.specs.Cuts.{cut_numbers, family_word}
 use Rattle.certificate.specs.Lines.{cut_fields, fields_text, line_of}
-use Rattle.certificate.specs.Ranges.{AreNodesInRange, IsCutInRange, IsListInRange}
+use Rattle.certificate.specs.Ranges.{AreNodesInRange, IsCutInRange}
 use Rattle.certificate.specs.Texts.{pool_text}
 use Rattle.certificate.specs.Writable.{AreCutsWritable}
 use Rattle.flow_cli.proofs.OwnRows.{flight_to, node_to, period_to, three_numbers}

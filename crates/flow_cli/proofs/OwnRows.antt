@@ -23,7 +23,7 @@ use Rattle.bytime_model.specs.Order.{IsBefore}
 use Rattle.bytime_model.specs.Rows.{is_capacity, is_node, is_row, node_count}
 use Rattle.bytime_model.specs.Values.{has_inside}
 use Rattle.bytime_model.proofs.AllRowsFacts.{flight_within, goes_within, inside_within, node_within, nodes_few}
-use Rattle.bytime_model.proofs.KindLaws.{rows_ascend, rows_each, rows_few}
+use Rattle.bytime_model.proofs.KindLaws.{rows_each, rows_few}
 use Rattle.bytime_model.proofs.NameLists.{Each, any_first, any_map, any_second}
 use Rattle.bytime_model.proofs.OrderFacts.{before_on, not_before_itself}
 use Rattle.cut_rows.specs.declared.names.CutName.{CutName}
