@@ -1,9 +1,9 @@
 //! How large the numbers of a certificate may be, and how long its lines.
 
-/// The last position of a flight, a place, a connection or a cut.
+/// The greatest number that a line may give a flight, a place, a connection or a cut.
 pub const MOST_POSITION: u64 = 4_294_967_295;
 
-/// The last node of a flight, and the last period.
+/// The greatest number that a line may give a node, and a period.
 pub const MOST_NODE: u64 = 65_535;
 
 pub const MOST_PERIOD: u64 = 511;

@@ -45,7 +45,7 @@ records_step parts at trips (fields ∷ rows) = do
 abbrev pub none_read : List Flight → TripsRead
 none_read flights = replicate (length flights) None
 
--- the stops, none where no record trips a trip
+-- the stops, none where no record tells the flight's trip
 abbrev pub stops_or_none : Option (List Stop) → List Stop
 stops_or_none None = []
 stops_or_none (Some stops) = stops

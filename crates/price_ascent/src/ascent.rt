@@ -217,8 +217,8 @@ impl Ascent {
     }
 
     /// Makes the trips of the plan the least ones, as far as dearer capacities that it fills can,
-    /// in so many passes at the most, from the best prices so far; and keeps the best behind a pass,
-    /// though they may tell less than those before. Answers what they tell (`tell`).
+    /// in so many passes at the most, from the best prices so far; and keeps the best behind a
+    /// pass, though they may tell less than those before. Answers what they tell (`tell`).
     ///
     /// The room and the box are of the scenario, and the plan may be any list of trips. It takes no
     /// memory, and for each pass the time of up to five least trips for each flight.

@@ -106,8 +106,8 @@ fn lean_for(
     }
 }
 
-// Raises the prices of what is full until no trip of the flight is less than these stops, or nothing
-// can be raised; some times at the most. Whether a price rose.
+// Raises the prices of what is full until no trip of the flight is less than these stops, or
+// nothing can be raised; some times at the most. Whether a price rose.
 fn raise_others(
     work: &mut Work,
     loads: &Loads,

@@ -1,5 +1,5 @@
 //! A block of memory with so many places, each empty or holding a value. A place is written and
-//! read with no test of its index, in any order, and empty places are never written.
+//! read with no test of its index, in any order; what no value is put in is never touched.
 //!
 //! A caller puts values in places, and reads them there:
 //!

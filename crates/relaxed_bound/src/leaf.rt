@@ -148,7 +148,7 @@ fn run_relaxed(
 }
 
 // The point of these fractions, if they are one.
-fn point_in(presolved: Presolved, fractions: Option<Fractions>) -> Option<Point>
+fn point_of(presolved: Presolved, fractions: Option<Fractions>) -> Option<Point>
     ensures { result ≡ point_of presolved fractions }
 {
     match fractions {
@@ -227,7 +227,7 @@ pub fn relax(
                 end,
                 fractions,
             } = run_relaxed(alloc, &presolved, limits, cutoff)?;
-            let point = point_in(presolved, fractions);
+            let point = point_of(presolved, fractions);
             Ok(Relaxed { leaf, end, point })
         }
         Err(Refused::Wide) => Ok(Relaxed {

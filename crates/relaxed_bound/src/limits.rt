@@ -5,6 +5,7 @@
 pub struct Limits {
     /// How many pivots it makes.
     pub pivots: u64,
-    /// How many entries its tableau has. Each takes some times 20 bytes.
+    /// How many entries its tableau has. Each takes 118 bytes,
+    /// of which a run touches what its tableau needs.
     pub cells: u32,
 }

@@ -172,9 +172,8 @@ impl RowArena {
         self.shelf.compact();
     }
 
-    /// Clears a column in the target by means of the pivot, which has a positive number there. The
-    /// target becomes as often itself as the pivot has there, less as often the pivot as itself has
-    /// there, divided by the greatest common divisor of what comes of it; with no entries left it
+    /// Clears a column in the target by means of the pivot, which has a positive number p there,
+    /// where the target has t. The target becomes p times itself less t times the pivot, divided by the greatest common divisor of what comes of it; with no entries left it
     /// isn't divided. `Wide::Value` tells the first entry that is then further from 0 than
     /// `MOST_ENTRY`. Where there is none, `Wide::Cells` tells that the entries of all rows, the old
     /// target's among them, and those of the new one together pass the cells. After an error the
@@ -256,8 +255,8 @@ fn check_room(live: u64, more: u64, cells: u32) -> Result<(), Wide>
     }
 }
 
-// Writes the target with the column cleared, where none of its entries is too far from 0, and the
-// columns that only the pivot has. Says how many entries that are.
+// Writes the target with the column cleared to `desk.narrow`, where none of its entries is too far
+// from 0, and the columns that only the pivot has to `desk.filled`. Says how many entries it has.
 fn clear_in(
     desk: &mut Desk,
     shelf: &Shelf,

@@ -19,8 +19,8 @@ use crate::wide::Wide;
 // The product of two numbers as far from 0 as this isn't too far, and nearly all are nearer.
 const SMALL: i64 = (1 << 31) - 1;
 
-// Writes the target with the column cleared, where none of its entries is too far from 0, and the
-// columns that only the pivot has. Says how many entries that are.
+// Writes the target with the column cleared to `desk.narrow`, where none of its entries is too far
+// from 0, and the columns that only the pivot has to `desk.filled`. Says how many entries it has.
 pub fn clear_column(
     desk: &mut Desk,
     target: &[Entry],
@@ -42,7 +42,8 @@ pub fn clear_column(
     write_divided(desk, lowest(factors(target, pivot, column)), target, pivot)
 }
 
-// What the pivot has in the column, and what the target has.
+// How often the target is taken, which is what the pivot has in the column, and how often the pivot
+// is taken away, which is what the target has there; with no reach yet.
 fn factors(target: &[Entry], pivot: &[Entry], column: u32) -> Factors
     requires target { IsRow target.now }
     requires pivot { IsRow pivot.now }

@@ -92,7 +92,7 @@ fn has_reached(reach: Reach) -> bool
     below(reach) < wide_reach(reach)
 }
 
-// One less than what is to be reached, as often as the weight.
+// The cutoff less 1, times the weight.
 fn below(reach: Reach) -> i128
     requires { nat_abs reach.weight ≤ most_entry }
     ensures { result ≡ (reach.cutoff -ℤ pos 1) *ℤ reach.weight }

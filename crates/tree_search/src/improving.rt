@@ -91,8 +91,8 @@ pub fn improve_again(
 }
 
 /// Looks for a cheaper plan of the first box with the prices of the present one: after every so
-/// many boxes, up to a number of them, as long as the best plan costs more than the bound of the
-/// first box.
+/// many boxes, up to a number of them, as long as the best plan costs more than this bound, which
+/// prices told of the first box before it was seen.
 pub fn seek(
     start: Start<'_>,
     rooms: &mut Rooms,

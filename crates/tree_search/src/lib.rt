@@ -47,8 +47,8 @@
 //! of as many steps, and where it is split by prices up to ten climbs of ten steps; at the begin a
 //! climb of sixteen times as many steps as rounds, the search for a cheaper plan, bids, and up to
 //! six climbs of half as many steps that lean on the best plan; and after every sixteen boxes, up
-//! to 1,024, a third of the search for a plan once more. In the first box no more is done once a
-//! bound reaches what the best plan costs.
+//! to 1,024, a third of the search for a plan once more. Once prices tell in the first box what the
+//! best plan costs, no climb and no search for plans is made there; its run is made all the same.
 #![tactic(auto)]
 
 mod branching;

@@ -92,7 +92,7 @@ fn pool_open(
 {
     let none = Pool::empty(rooms.alloc);
     let relaxed = run_of(problem, rooms, &none, limits, cutoff)?;
-    let pool = exceeded(rooms.alloc, problem, rooms.leaves.table(), &relaxed.point)?;
+    let pool = cuts_by(rooms.alloc, problem, rooms.leaves.table(), &relaxed.point)?;
     let relaxed = if_none(&pool, relaxed);
     Ok(Pooled { pool, relaxed })
 }
@@ -112,7 +112,7 @@ fn if_none(pool: &Pool, relaxed: Relaxed) -> Option<Relaxed>
 }
 
 // The cuts that the point exceeds, if there is one.
-fn exceeded(
+fn cuts_by(
     alloc: Global,
     problem: Subproblem<'_>,
     table: &Table,

@@ -32,7 +32,7 @@ const FIRST_STEPS: u32 = 16;
 /// By which part of the value climbs lead.
 pub const LEAD_PART: u32 = 32;
 
-// By which part they lead where flights have bid.
+// By which part of the value climbs lead where flights have bid.
 const PART_AFTER_BIDS: u32 = 256;
 
 // In how many passes flights bid.
@@ -47,10 +47,10 @@ const MOST_LEANS: u32 = 6;
 // How much the first climb may look at, in all its steps.
 const MOST_LOOKS: u64 = 800_000_000;
 
-// How much longer a price that may rise takes than a period of a leg, and how much shorter one of a
-// sector.
+// How much longer a price that may rise takes than a period of a leg.
 const LOOKS_A_PRICE: u64 = 4;
 
+// How many periods of the day count as one look.
 const PERIODS_A_LOOK: u64 = 8;
 
 /// Where prices come from.
@@ -251,7 +251,7 @@ fn restore_if(s: &Scenario, rooms: &mut PriceRooms, wanted: bool)
 
 /// Where the search has gone on, and so many boxes wait where so many waited before: a box that was
 /// split leaves its prices to both its sides. The early one begins with them, and they are put by
-/// for the late one.
+/// for the late one. Else the last that were put by are taken again, for the late side.
 pub fn follow(
     s: &Scenario,
     rooms: &mut PriceRooms,
@@ -271,7 +271,7 @@ pub fn follow(
 }
 
 // How many steps the first climb may take: so many for each round, fewer on long days with wide
-// windows, but as many as there are rounds.
+// windows, but at least as many as there are rounds.
 fn first_steps(s: &Scenario, rising: usize, rounds: u32) -> u32 {
     let looks = looks_of(s).saturating_add(LOOKS_A_PRICE.saturating_mul(rising as u64));
     let most = u32::try_from(MOST_LOOKS / looks.max(1)).unwrap_or(u32::MAX);
@@ -293,8 +293,8 @@ fn looks_of(s: &Scenario) -> u64 {
 
 /// The greatest bound that rounds of prices tell; or, where the gap to the bound of the run is open
 /// and stays so, what the best prices of the climb before tell, if that is more; with no
-/// cutoff, also that no plan is in the box. What these prices tell may be known. Where rounds tell
-/// more, climbs go on from their prices. Where a plan in the box is known to cost so much, no more
+/// cutoff, also that no plan is in the box. `climbed` is what these prices tell, where a climb has
+/// told it. Where rounds tell more, climbs go on from their prices. Where a plan in the box is known to cost so much, no more
 /// rounds are played than it takes to reach that.
 pub fn price(
     problem: Subproblem<'_>,

@@ -19,7 +19,7 @@ use time_windows::{Boxes, Side, Subproblem, Tight};
 // How many branches are tried beside the one that is near.
 const CANDIDATES: usize = 4;
 
-// How many steps a climb has in a side of one.
+// How many steps a climb has in each side of a branch that is tried.
 const STEPS: u32 = 10;
 
 // What a side counts for that is closed.
@@ -28,7 +28,7 @@ const CLOSED: i128 = 10_000 * WEIGHT as i128;
 // How much more the side counts that gains less.
 const LESSER_SIDE: i128 = 5;
 
-// What gains are measured by: the value before the split, and the cost that closes a side.
+// What gains are measured by: the value that the last climb found, and the cost that closes a side.
 #[derive(Clone, Copy)]
 struct Measure {
     before: i128,
@@ -42,8 +42,8 @@ struct Tried {
     gain: i128,
 }
 
-/// The branch whose sides gain the most by a few steps of a climb from the best prices, the lesser
-/// gain before the greater: of the one that is near, if there is one, and those at which the last
+/// The branch whose sides gain the most by a few steps of a climb from the best prices, five times
+/// the lesser gain and once the greater: of the one that is near, if there is one, and those at which the last
 /// climb left most open. The fallback where there is none of these. The best prices stay; what
 /// else is told of the last climb goes.
 pub fn strongest(

@@ -141,7 +141,7 @@ fn split(
 
 // Sees the present box, writes down what is seen, and goes to the next one, if there is one. Only
 // at the first box is it known that the best plan is in it.
-fn go_on(
+fn see_and_move(
     s: &Scenario,
     setting: Setting<'_>,
     rooms: &mut Rooms,
@@ -286,7 +286,7 @@ fn step(
     ensures rooms { AreRoomsFor (parts_of s.now) rooms.new }
 {
     let before = walk.waiting();
-    if !go_on(s, setting, rooms, walk, draft, told)? {
+    if !see_and_move(s, setting, rooms, walk, draft, told)? {
         return Ok(false);
     }
     follow(s, &mut rooms.prices, before, walk.waiting())?;
@@ -434,7 +434,7 @@ fn prepare(
 
 // Searches from the tight box on, which is the path's first one, until no box waits. Answers the
 // pool that its leaves name.
-fn search_from(
+fn search_whole(
     start: Start<'_>,
     budget: Budget,
     rooms: &mut Rooms,
@@ -476,7 +476,8 @@ fn search_from(
     Ok(pool)
 }
 
-// Searches the tight box, of which nothing is written down yet.
+// Begins with the tight box, of which nothing is written down yet: copies it, offers its greedy
+// plan, and searches it.
 fn search_in(
     s: &Scenario,
     boxes: Boxes,
@@ -498,7 +499,7 @@ fn search_in(
     let plan = begin(whole, rooms, draft)?;
     let start = Start { whole, plan: &plan };
     let mut walk = Walk::new(rooms.alloc, boxes)?;
-    search_from(start, budget, rooms, &mut walk, draft)
+    search_whole(start, budget, rooms, &mut walk, draft)
 }
 
 // What is written down of a whole search, and the cuts that its leaves may name.
@@ -508,27 +509,7 @@ struct Searched {
     pool: Pool,
 }
 
-// Searches from the tight box on, and gives all that is written down.
-fn draft_of(
-    s: &Scenario,
-    boxes: Boxes,
-    budget: Budget,
-    rooms: &mut Rooms,
-) -> Result<Searched, OutOfMemory>
-    requires nodes { 0 < budget.nodes }
-    requires made { IsMadeFor (parts_of s.now) boxes }
-    requires tight { IsTight (parts_of s.now) (box_of boxes) }
-    requires rooms { AreRoomsFor (parts_of s.now) rooms.old }
-    ensures cuts { IfOk result (λ searched. IsPoolOf (parts_of s.now) searched.pool) }
-    ensures searched { IfOk result (λ searched. IsSearched (parts_of s.now) searched.pool budget
-        (box_of boxes) searched.draft) }
-{
-    let mut draft = no_draft(rooms.alloc);
-    let pool = search_in(s, boxes, budget, rooms, &mut draft)?;
-    Ok(Searched { draft, pool })
-}
-
-// Searches from the tight box on, in rooms that are made for it.
+// Searches the tight box in rooms that are made for it, and gives all that is written down.
 fn search_tight(
     alloc: Global,
     s: &Scenario,
@@ -543,7 +524,9 @@ fn search_tight(
         (box_of boxes) searched.draft) }
 {
     let mut rooms = rooms_for(alloc, s)?;
-    draft_of(s, boxes, budget, &mut rooms)
+    let mut draft = no_draft(alloc);
+    let pool = search_in(s, boxes, budget, &mut rooms, &mut draft)?;
+    Ok(Searched { draft, pool })
 }
 
 /// Searches the box, which is one of the scenario, for a plan that costs the least, and spends no
@@ -554,9 +537,10 @@ fn search_tight(
 /// bound, after Land and Doig 1960). Before its first node it makes a pool of cuts: those that the
 /// point of the tight box's relaxation exceeds, and every run from then on has their rows.
 ///
-/// It takes two copies of the box, what `PlanWork`, `LeafWork`, `Rounds`, `Ascent` and `Improver`
-/// take, for each node some 110 bytes and what its leaf takes, 24 bytes a row, and for one box at a
-/// time what its run takes. The box stays as it was.
+/// It takes two copies of the box, one more while a branch is chosen, a log of what changed on the
+/// way, what `PlanWork`, `LeafWork`, `Rounds`, `Ascent` and `Improver` take, for each node some 110
+/// bytes and what its leaf takes, 24 bytes a row, 16 for each price that is put by, some 50 for each
+/// of at most 10,000 cuts, and for one box at a time what its run takes. The box stays as it was.
 pub fn search(
     alloc: Global,
     s: &Scenario,

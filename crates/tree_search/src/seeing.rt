@@ -51,7 +51,7 @@ pub struct Standing {
 /// What was told of a box before it is seen.
 #[derive(Drop)]
 pub struct Told {
-    /// Whether the best plan is in the box.
+    /// Whether the best plan, if one is known, is in the box.
     pub known: bool,
     /// What the box's relaxation tells.
     pub relaxed: Option<Relaxed>,
@@ -59,8 +59,8 @@ pub struct Told {
     pub climbed: Option<Bound>,
 }
 
-/// What is seen of the box. Where no plan is in it the leaf is Empty, and where it has no choice
-/// the leaf is Unit. Else the leaf is that of the relaxation's run or of prices, whichever tells
+/// What is seen of the box. Where a node that must be entered is closed the leaf is Empty, and where
+/// there is no choice the leaf is Unit. Else the leaf is that of the relaxation's run or of prices, whichever tells
 /// more; or, where neither reaches the cutoff and there is room for two nodes more, the box is
 /// split. Where a plan in the box is known to cost the cutoff, a bound that reaches it is enough.
 pub fn see(
@@ -206,7 +206,8 @@ pub fn run_of(
     relax(rooms.alloc, relaxation, limits, cutoff)
 }
 
-// Whether a plan is known, and the bound reaches what it costs.
+// Whether the best plan, if one is known, is in the box, and the bound leaves nothing below the
+// cutoff.
 fn is_closed(known: bool, cutoff: Option<i64>, run: Bound) -> bool
     ensures known { IsTrue result → IsTrue known }
     ensures reached { IsTrue result → is_reached cutoff run ≡ true }

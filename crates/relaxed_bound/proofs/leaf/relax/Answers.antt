@@ -18,7 +18,7 @@ returns-in_ok-leaf-in-Ok-clause-point c =
     let relaxation = c.args.relaxation in
     point_is (parts_under relaxation) relaxation.pool.now (box_under relaxation) c.in-Ok.presolved
     c.in-Ok.ensures.presolved c.args.limits c.args.cutoff c.in_ok-leaf-in-Ok.field-0.fractions
-    c.point_in-point.result c.in_ok-leaf-in-Ok.ensures.fractions c.point_in-point.ensures
+    c.point_of-point.result c.in_ok-leaf-in-Ok.ensures.fractions c.point_of-point.ensures
     relaxation.problem.s.now.valid c.requires.pool relaxation.problem.made.inside
     (tight_under relaxation)
 
@@ -27,8 +27,8 @@ returns-in_ok-leaf-in-Ok-clause-told c =
     let relaxation = c.args.relaxation in
     point_told (parts_under relaxation) relaxation.pool.now (box_under relaxation)
     c.in-Ok.presolved c.in-Ok.ensures.presolved c.args.limits c.args.cutoff
-    c.in_ok-leaf-in-Ok.field-0.fractions c.point_in-point.result
-    c.in_ok-leaf-in-Ok.ensures.fractions c.point_in-point.ensures
+    c.in_ok-leaf-in-Ok.field-0.fractions c.point_of-point.result
+    c.in_ok-leaf-in-Ok.ensures.fractions c.point_of-point.ensures
 
 pub returns-in_ok-leaf-in-Ok-clause-licensed : goal.returns-in_ok-leaf-in-Ok-clause-licensed
 returns-in_ok-leaf-in-Ok-clause-licensed c =

@@ -5,8 +5,8 @@ use Rattle.tree_search.specs.Visits.{IsVisited}
 use Rattle.tree_search.proofs.BeginFacts.{begun_at}
 use Rattle.tree_search.proofs.searching.search_in.Goals as goal
 
-pub search_from-requires-clause-searching : goal.search_from-requires-clause-searching
-search_from-requires-clause-searching c = λ pool.
+pub search_whole-requires-clause-searching : goal.search_whole-requires-clause-searching
+search_whole-requires-clause-searching c = λ pool.
     let blank = c.requires.blank in
     begun_at (parts_of c.args.s.now) pool c.args.budget c.args.boxes c.args.draft.now
     c.begin.new.draft c.args.s.now.valid c.requires.nodes c.requires.made c.requires.tight

@@ -9,11 +9,11 @@ use Rattle.tree_search.proofs.searching.step.Goals as goal
 
 pub returns-clause-stepped : goal.returns-clause-stepped
 returns-clause-stepped c =
-    gone_on (parts_of c.args.s.now) c.args.setting.pool.now c.args.setting.budget c.go_on.new.walk
+    gone_on (parts_of c.args.s.now) c.args.setting.pool.now c.args.setting.budget c.see_and_move.new.walk
     c.args.draft.now
-    c.go_on.new.draft c.visit.new.draft (top_box c.args.walk.now) c.args.s.now.valid
+    c.see_and_move.new.draft c.visit.new.draft (top_box c.args.walk.now) c.args.s.now.valid
     (subst (IsLeft (parts_of c.args.s.now) c.args.setting.pool.now c.args.setting.budget
     c.args.walk.now c.args.draft.now
-    c.go_on.new.walk c.go_on.new.draft) c.if-not-branch.false c.in_ok-go_on.ensures.left)
-    (subst (λ (h : Held). IsVisited (parts_of c.args.s.now) (box_of h) c.go_on.new.draft
+    c.see_and_move.new.walk c.see_and_move.new.draft) c.if-not-branch.false c.in_ok-see_and_move.ensures.left)
+    (subst (λ (h : Held). IsVisited (parts_of c.args.s.now) (box_of h) c.see_and_move.new.draft
     c.visit.new.draft) c.boxes.ensures c.in_ok-visit.ensures.visited)

@@ -4,7 +4,7 @@ use Rattle.cut_separation.specs.Points.{IsPointOf}
 use Rattle.relaxed_bound.specs.Point.{IsPointIn}
 use Rattle.time_windows.specs.Subproblems.{box_in, parts_in}
 use Rattle.tree_search.proofs.PoolFacts.{free_is}
-use Rattle.tree_search.proofs.pooling.exceeded.Goals as goal
+use Rattle.tree_search.proofs.pooling.cuts_by.Goals as goal
 
 pub separate-requires-clause-ready : goal.separate-requires-clause-ready
 separate-requires-clause-ready c =

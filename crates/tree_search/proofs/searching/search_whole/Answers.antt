@@ -7,8 +7,8 @@ use Rattle.tree_search.specs.Searching.{IsSearched, IsStepped}
 use Rattle.time_windows.specs.Subproblems.{parts_in}
 use Rattle.tree_search.specs.Visits.{IsImproved}
 use Rattle.tree_search.proofs.ImproveFacts.{improved_on}
-use Rattle.tree_search.proofs.searching.search_from.Goals as goal
-use Rattle.tree_search.proofs.searching.search_from.Goals.{then-branch+in_ok-go_through, else-branch}
+use Rattle.tree_search.proofs.searching.search_whole.Goals as goal
+use Rattle.tree_search.proofs.searching.search_whole.Goals.{then-branch+in_ok-go_through, else-branch}
 
 pub step-requires-clause-searching : goal.step-requires-clause-searching
 step-requires-clause-searching c =

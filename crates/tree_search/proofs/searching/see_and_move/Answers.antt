@@ -5,7 +5,7 @@ use Rattle.lagrange_bound.specs.Best.{HasPlanAt}
 use Rattle.tree_search.specs.Seen.{IsSeen}
 use Rattle.tree_search.proofs.KnownFacts.{known_first}
 use Rattle.tree_search.proofs.SearchFacts.{left_leaf, split_on}
-use Rattle.tree_search.proofs.searching.go_on.Goals as goal
+use Rattle.tree_search.proofs.searching.see_and_move.Goals as goal
 
 pub returns-in_ok-next-in-Leaf-clause-left : goal.returns-in_ok-next-in-Leaf-clause-left
 returns-in_ok-next-in-Leaf-clause-left c =
