@@ -34,6 +34,7 @@ fn enough_or_bad(field: usize, least: usize, nodes: &[u16]) -> Result<(), LineFa
     }
 }
 
+// A cut of heads: its flight, node and period, and one head or more.
 #[tactic(auto, unfolding(crate::specs::Cuts::heads_from))]
 fn heads_from(alloc: Global, fields: &mut LineFields<'_>) -> Result<CutName, LineError>
     ensures { Gives (λ cut. (cut, fields.new)) result (heads_from fields.old) }
@@ -51,6 +52,7 @@ fn heads_from(alloc: Global, fields: &mut LineFields<'_>) -> Result<CutName, Lin
     })
 }
 
+// A cut of nodes that are apart: its flight and period, and two nodes or more.
 #[tactic(auto, unfolding(crate::specs::Cuts::apart_from))]
 fn apart_from(alloc: Global, fields: &mut LineFields<'_>) -> Result<CutName, LineError>
     ensures { Gives (λ cut. (cut, fields.new)) result (apart_from fields.old) }
@@ -66,6 +68,7 @@ fn apart_from(alloc: Global, fields: &mut LineFields<'_>) -> Result<CutName, Lin
     })
 }
 
+// A cut of having departed: its flight, node and period.
 #[tactic(auto, unfolding(crate::specs::Cuts::departed_from))]
 fn departed_from(fields: &mut LineFields<'_>) -> Result<CutName, LineFault>
     ensures { Finds (λ cut. (cut, fields.new)) result (departed_from fields.old) }

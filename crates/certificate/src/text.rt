@@ -97,7 +97,8 @@ fn put_nodes<O: Out>(out: &mut O, nodes: &[u16]) -> Result<(), O::Error>
     out.put(b"\n")
 }
 
-// Adds the begin of the line of a cut: the word of its family, and the flight.
+// Begins the line of a cut: its kind, the word of its family (`v1` of heads, `v2` of nodes apart,
+// `v3` of having departed), and the flight.
 fn put_cut_begin<O: Out>(out: &mut O, word: &[u8], flight: u32) -> Result<(), O::Error>
     ensures { Puts (O.holds out.old) (O.holds out.new) result
         (codes "cut" ++ (field_text word.now ++ field_text (decimal flight))) }
@@ -207,7 +208,7 @@ fn put_last<O: Out>(out: &mut O, number: u64) -> Result<(), O::Error>
     out.put(b"\n")
 }
 
-// Adds the begin of the line of a row.
+// Begins the line of a row: its kind, and the word of the rows that it is one of.
 fn put_row_word<O: Out>(out: &mut O, word: &[u8]) -> Result<(), O::Error>
     ensures { Puts (O.holds out.old) (O.holds out.new) result
         (codes "y" ++ field_text word.now) }

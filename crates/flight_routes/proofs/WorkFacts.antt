@@ -451,10 +451,10 @@ module _ {first closed_one closed_both fits guide other : RateLists}
 -- span of its windows, which a table has too.
 module _ {parts : Parts} {box : Box} {number : ℕ} {span : Window} {news : List Access}
     (taken : IsTaken parts box number span news) where
-  pub read_windows : (at : Window) → at ≡ span → (len : ℕ) (items read : List Access)
-      → read ≡ take len (news ++ drop (length news) items) → len ≡ most_nodes
-      → (read ≡ news) × AreWindows at (row_of read)
-  read_windows at same len items read is long =
+  pub read_windows : {at : Window} {len : ℕ} {read : List Access} → at ≡ span
+      → (items : List Access) → read ≡ take len (news ++ drop (length news) items)
+      → len ≡ most_nodes → (read ≡ news) × AreWindows at (row_of read)
+  read_windows {at} {len} {read} same items is long =
       let whole : read ≡ news =
       is ∙ ap (λ n. take n (news ++ drop (length news) items)) (long ∙ sym taken.long)
       ∙ take-append_seam news (drop (length news) items) in (
@@ -463,13 +463,13 @@ module _ {parts : Parts} {box : Box} {number : ℕ} {span : Window} {news : List
             (subst (λ xs. AreWindows span (row_of xs)) (sym whole) taken.windows),
       )
 
-  pub is_read : (at : Window) → at ≡ span → (len : ℕ) (items read : List Access)
-      → read ≡ take len (news ++ drop (length news) items) → len ≡ most_nodes → IsScenario parts
-      → IsBoxOf parts box → number < length parts.flights → (flight : Flight)
+  pub is_read : {at : Window} {len : ℕ} {read : List Access} {flight : Flight} → at ≡ span
+      → (items : List Access) → read ≡ take len (news ++ drop (length news) items)
+      → len ≡ most_nodes → IsScenario parts → IsBoxOf parts box → number < length parts.flights
       → flight ≡ get_or parts.flights number flight
       → IsRead parts box number flight at (row_of read)
-  is_read at same len items read is long valid of within flight here =
-      let back = read_windows at same len items read is long in
+  is_read {at} {len} {read} {flight} same items is long valid of within here =
+      let back = read_windows same items is long in
       record {
         own = record {
           valid = valid;

@@ -23,7 +23,9 @@ use flow_types::{OutOfMemory, Scenario};
 use std::alloc::Global;
 
 /// The answer where the certificate of the second name is to be checked by the day of the first,
-/// which is read first, and its claim shown.
+/// which is read first, and its claim shown: a refused certificate is answered with its first fault,
+/// and so is a day that can't be read. It takes memory for the day, for what is checked, and for the
+/// text.
 pub fn check_named<F: Files>(
     alloc: Global,
     files: &mut F,

@@ -20,7 +20,7 @@ use std::{env, io};
 /// Runs the program on what the environment answers about its words, and gives what the process is
 /// to end with: the number of `run`'s status for the words behind the program's name. Words of
 /// which one isn't UTF-8 are those of no command. No name but that of a certificate that is stored
-/// changes. It takes memory for the words, besides that of `run`.
+/// comes to hold anything else. It takes memory for the words, besides that of `run`.
 pub fn exit_code<F: Files, S: Sink>(
     alloc: Global,
     args: io::Result<env::Args>,

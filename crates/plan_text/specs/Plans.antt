@@ -23,7 +23,8 @@ trip_step parts trips fields = do
   found ← trip_of parts trips fields
   Ok (with_trip trips found)
 
--- what a record of this kind does to what was read before it
+-- what a record of this kind does to what was read before it; what a report says besides its trips
+-- is passed over
 abbrev pub step_of : Parts → TripsRead → Fields → Option Kind → Result TripsRead FieldFault
 step_of parts trips fields None = Err (fault_in 1 UnknownKind)
 step_of parts trips fields (Some kind.Trip) = trip_step parts trips fields

@@ -7,7 +7,8 @@ use std::alloc::Global;
 use text_records::{put, put_field, put_number};
 
 /// Adds the lines of the connections at the front that can stand behind so many flights, and gives
-/// those that still wait. Nothing is said of the text after `OutOfMemory`.
+/// those that still wait. It takes memory for the lines. Nothing is said of the text after
+/// `OutOfMemory`.
 pub fn put_standing<'a>(
     alloc: Global,
     out: &mut Vec<u8>,

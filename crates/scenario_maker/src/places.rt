@@ -6,7 +6,7 @@ use flow_types::{Day, OutOfMemory, Place, PlaceKind};
 use std::alloc::Global;
 use text_records::{put, put_field, put_number};
 
-/// Adds the line of the day. Nothing is said of the text after `OutOfMemory`.
+/// Adds the line of the day, which takes memory. Nothing is said of the text after `OutOfMemory`.
 pub fn put_day(alloc: Global, out: &mut Vec<u8>, day: Day) -> Result<(), OutOfMemory>
     ensures { OnOk result (out.new.items ≡ out.old.items ++ row_text (day_row day)) }
 {
@@ -49,8 +49,8 @@ fn digit(number: u16) -> u8
     b'0' + (number % 10) as u8
 }
 
-/// Adds the line of each place, with its capacities of period 0. Nothing is said of the text after
-/// `OutOfMemory`.
+/// Adds the line of each place, with its capacities of period 0, which takes memory. Nothing is said
+/// of the text after `OutOfMemory`.
 pub fn put_places(alloc: Global, out: &mut Vec<u8>, places: &[Place]) -> Result<(), OutOfMemory>
     ensures { OnOk result
         (out.new.items ≡ out.old.items ++ rows_text (map place_row places.now)) }
@@ -91,8 +91,8 @@ fn first_of(caps: &[u32]) -> u64
     }
 }
 
-/// Adds a line for each period whose capacity differs from that of period 0. Nothing is said of the
-/// text after `OutOfMemory`.
+/// Adds a line for each period whose capacity differs from that of period 0, which takes memory.
+/// Nothing is said of the text after `OutOfMemory`.
 pub fn put_changes(alloc: Global, out: &mut Vec<u8>, places: &[Place]) -> Result<(), OutOfMemory>
     ensures { OnOk result (out.new.items ≡ out.old.items ++ rows_text (change_rows places.now)) }
 {

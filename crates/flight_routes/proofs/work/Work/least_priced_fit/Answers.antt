@@ -15,8 +15,7 @@ use Rattle.flight_routes.proofs.work.Work.least_priced_fit.Goals.{After-exchange
 
 pub set_price_rates-requires-clause-windows : goal.set_price_rates-requires-clause-windows
 set_price_rates-requires-clause-windows c =
-    (read_windows c.take_row-span.ensures c.begin.new.self.span c.begin.ensures.span
-    c.self.inside.accesses.len c.self.inside.accesses.items c.deref-row.result.now
+    (read_windows c.take_row-span.ensures c.begin.ensures.span c.self.inside.accesses.items
     c.deref-row.ensures.value c.self.invariant.2).1
 
 pub set_price_rates-requires-clause-day : goal.set_price_rates-requires-clause-day
@@ -26,8 +25,7 @@ set_price_rates-requires-clause-day c =
 
 pub set_fit_rates-requires-clause-windows : goal.set_fit_rates-requires-clause-windows
 set_fit_rates-requires-clause-windows c =
-    (read_windows c.take_row-span.ensures c.begin-2.new.self.span c.begin-2.ensures.span
-    c.self.inside.accesses.len c.self.inside.accesses.items c.deref-row.result.now
+    (read_windows c.take_row-span.ensures c.begin-2.ensures.span c.self.inside.accesses.items
     c.deref-row.ensures.value c.self.invariant.2).1
 
 pub set_fit_rates-requires-clause-day : goal.set_fit_rates-requires-clause-day
@@ -37,29 +35,23 @@ set_fit_rates-requires-clause-day c =
 
 pub close_end_in-requires-clause-windows : goal.close_end_in-requires-clause-windows
 close_end_in-requires-clause-windows c =
-    (read_windows c.take_row-span.ensures c.set_price_rates.new.table.span
-    (c.set_price_rates.ensures.span
-    ∙ c.begin.ensures.span)
-    c.self.inside.accesses.len c.self.inside.accesses.items c.deref-row.result.now
-    c.deref-row.ensures.value c.self.invariant.2).1
+    (read_windows c.take_row-span.ensures (c.set_price_rates.ensures.span ∙ c.begin.ensures.span)
+    c.self.inside.accesses.items c.deref-row.ensures.value c.self.invariant.2).1
 
 pub close_end_in-requires-2-clause-windows : goal.close_end_in-requires-2-clause-windows
 close_end_in-requires-2-clause-windows c =
-    (read_windows c.take_row-span.ensures c.close_end_in.new.table.span
-    (c.close_end_in.ensures.only.span
-    ∙ c.set_price_rates.ensures.span ∙ c.begin.ensures.span)
-    c.self.inside.accesses.len c.self.inside.accesses.items c.deref-row.result.now
-    c.deref-row.ensures.value c.self.invariant.2).1
+    (read_windows c.take_row-span.ensures
+    (c.close_end_in.ensures.only.span ∙ c.set_price_rates.ensures.span ∙ c.begin.ensures.span)
+    c.self.inside.accesses.items c.deref-row.ensures.value c.self.invariant.2).1
 
 -- what the box says of the flight's nodes, as it was read
 read_row : (c : goal.After-exchange_clear)
     → IsRead (parts_in c.args.problem) (box_in c.args.problem) c.args.flight
     c.index-flights-flight.result c.take_row-span.result (row_of c.deref-row.result.now)
 read_row c =
-    is_read c.take_row-span.ensures c.take_row-span.result refl
-    c.self.inside.accesses.len c.self.inside.accesses.items c.deref-row.result.now
+    is_read c.take_row-span.ensures refl c.self.inside.accesses.items
     c.deref-row.ensures.value c.self.invariant.2 c.args.problem.s.now.valid
-    c.args.problem.made.inside c.requires.flight c.index-flights-flight.result
+    c.args.problem.made.inside c.requires.flight
     (rw c.flights.ensures at c.index-flights-flight.is)
 
 -- the rates under prices
